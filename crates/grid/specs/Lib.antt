@@ -1,0 +1,5 @@
+pub mod Grid
+pub mod State
+pub mod Step
+pub mod Good
+pub mod Outcome

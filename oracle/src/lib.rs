@@ -1,0 +1,25 @@
+// The whole of document 01 once more, by another hand: what the delivered code is compared with.
+
+pub mod damage;
+pub mod grid;
+pub mod hunt;
+pub mod lattice;
+pub mod random;
+pub mod readings;
+pub mod record;
+pub mod run;
+pub mod scenes;
+pub mod sets;
+pub mod settings;
+pub mod state;
+pub mod step;
+pub mod text;
+
+pub use grid::Refusal;
+pub use readings::{cell_point, depth, place};
+pub use record::{read, write};
+pub use run::run;
+pub use sets::{Set, SetMut, Store};
+pub use settings::Settings;
+pub use state::check;
+pub use step::step;

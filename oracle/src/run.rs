@@ -1,0 +1,46 @@
+// The run: steps until the number asked is made or one is refused.
+
+use crate::grid::Refusal;
+use crate::sets::SetMut;
+use crate::step::{next_state, tested};
+
+pub const MOST_STEPS: u32 = 1000;
+
+/// How many steps were accepted, and what stopped the run before its end.
+#[derive(Clone, Copy, Debug, PartialEq, Eq)]
+pub struct Run {
+    pub count: u32,
+    pub refusal: Option<Refusal>,
+}
+
+pub fn run(
+    sides: [u32; 3],
+    p: i32,
+    gravity: [i32; 3],
+    steps: u32,
+    mut first: SetMut,
+    mut second: SetMut,
+    marks: &mut [u8],
+) -> Run {
+    if steps > MOST_STEPS {
+        return Run { count: 0, refusal: Some(Refusal { number: 9, place: 0 }) };
+    }
+    let (grid, mut state) = match tested(sides, p, gravity, first.as_set(), second.as_set(), marks) {
+        Ok(accepted) => accepted,
+        Err(refusal) => return Run { count: 0, refusal: Some(refusal) },
+    };
+    let mut outcome = Run { count: 0, refusal: None };
+    while outcome.count < steps && outcome.refusal.is_none() {
+        match next_state(&grid, &state, p, gravity) {
+            Ok(next) => {
+                state = next;
+                outcome.count += 1;
+            }
+            Err(refusal) => outcome.refusal = Some(refusal),
+        }
+    }
+    first.put(&state);
+    second.put(&state);
+    marks.fill(0);
+    outcome
+}

@@ -1,0 +1,1 @@
+pub fn wide ( x : i32 ) -> i64 ;
