@@ -1,0 +1,4 @@
+pub mod Paired
+pub mod Shares
+pub mod Exchange
+pub mod Balanced
