@@ -77,6 +77,7 @@ room n x h e =
     low : (x : ℕ) → (x ≡ 0 → ⊥) → 1 ≤ x
     low zero u = absurd (u refl)
     low (suc y) u = omega arith
+
     high : (n x : ℕ) → x < n → (suc x ≡ n → ⊥) → x + 1 < n
     high n x h v = lt-of-not-le (λ (g : n ≤ x + 1). v (omega arith))
 
@@ -105,8 +106,10 @@ module _ (L : Lattice) (p : Paired L) (nx ny nz : ℕ) where
       where
         U : ℕ
         U = cellAt nx ny (up (L .e i .x)) (up (L .e i .y)) (up (L .e i .z))
+
         D : ℕ
         D = cellAt nx ny (down (L .e i .x)) (down (L .e i .y)) (down (L .e i .z))
+
         three : (f : ℕ → ℕ → ℕ → ℕ) {a b c a′ b′ c′ : ℕ} → a ≡ a′ → b ≡ b′ → c ≡ c′ → f a b c ≡ f a′ b′ c′
         three f u v w j = f (u j) (v j) (w j)
 
@@ -119,6 +122,7 @@ module _ (nx ny nz c : ℕ) (h : c < nx * (ny * nz)) where
       go : (m : ℕ) → c < m * (ny * nz) → 0 < m
       go zero k = absurd (omega (arith, zero-mul (ny * nz)))
       go (suc m) k = omega arith
+
   pos-y : 0 < ny
   pos-y = go ny h
     where
@@ -128,8 +132,10 @@ module _ (nx ny nz c : ℕ) (h : c < nx * (ny * nz)) where
 
   low-x : c % nx < nx
   low-x = mod-lt c pos-x
+
   low-y : c / nx % ny < ny
   low-y = mod-lt (c / nx) pos-y
+
   low-z : c / nx / ny < nz
   low-z =
       div-lt-iff-lt-mul pos-y .1 (div-lt-iff-lt-mul pos-x .1 (subst (λ (t : ℕ). c < t) (mul-comm nx (ny * nz) ∙ ap (λ (t : ℕ). t * nx) (mul-comm ny nz)) h))
@@ -145,8 +151,8 @@ pub box-laid : (L : Lattice) → Paired L → (nx ny nz : ℕ) → Laid L (box L
 unfolding box
 box-laid L p nx ny nz = record {
   cell = λ c i h o d. subst (λ (t : ℕ). toward L nx ny t i < nx * (ny * nz)) (is-cellAt nx ny nz c h) (go c i h o d .0);
-  back = λ c i h o d. subst (λ (t : ℕ). toward L nx ny (toward L nx ny t i) (L .opp i) ≡ t) (is-cellAt nx ny nz c h) (go c i h o d .1)
-  }
+  back = λ c i h o d. subst (λ (t : ℕ). toward L nx ny (toward L nx ny t i) (L .opp i) ≡ t) (is-cellAt nx ny nz c h) (go c i h o d .1);
+}
   where
     go : (c i : ℕ) → c < nx * (ny * nz) → (atEnd nx (c % nx) || atEnd ny (c / nx % ny) || atEnd nz (c / (nx * ny))) ≡ false → Dir (L .q) i
         → (toward L nx ny (cellAt nx ny (c % nx) (c / nx % ny) (c / nx / ny)) i < nx * (ny * nz))
@@ -171,11 +177,12 @@ unfolding flume
 flume-laid L p flat nx nz = record {
   cell = λ c i h o d. subst (λ (m : ℕ). toward L nx 1 c i < m) (ap (λ (m : ℕ). nx * m) (one-mul nz))
       (subst (λ (t : ℕ). toward L nx 1 t i < nx * (1 * nz)) (is-cellAt nx 1 nz c (wide c h)) (go c i (wide c h) o d .0));
-  back = λ c i h o d. subst (λ (t : ℕ). toward L nx 1 (toward L nx 1 t i) (L .opp i) ≡ t) (is-cellAt nx 1 nz c (wide c h)) (go c i (wide c h) o d .1)
-  }
+  back = λ c i h o d. subst (λ (t : ℕ). toward L nx 1 (toward L nx 1 t i) (L .opp i) ≡ t) (is-cellAt nx 1 nz c (wide c h)) (go c i (wide c h) o d .1);
+}
   where
     wide : (c : ℕ) → c < nx * nz → c < nx * (1 * nz)
     wide c h = subst (λ (m : ℕ). c < nx * m) (sym (one-mul nz)) h
+
     go : (c i : ℕ) → c < nx * (1 * nz) → (atEnd nx (c % nx) || atEnd nz (c / nx)) ≡ false → Dir (L .q) i
         → (toward L nx 1 (cellAt nx 1 (c % nx) (c / nx % 1) (c / nx / 1)) i < nx * (1 * nz))
         × (toward L nx 1 (toward L nx 1 (cellAt nx 1 (c % nx) (c / nx % 1) (c / nx / 1)) i) (L .opp i) ≡ cellAt nx 1 (c % nx) (c / nx % 1) (c / nx / 1))

@@ -14,7 +14,7 @@ use Rattle.grid.specs.Step.{filled, emptied, besideFilled, besideEmptied
 use Rattle.grid.specs.Demands.{Walled, Closed}
 use Rattle.grid.proofs.Laid.{Laid, inner}
 
-pub Claim : Type 0
+abbrev pub Claim : Type 0
 Claim =
     (S : Scene) → Paired (S .lat) → Laid (S .lat) (S .grid) → Walled (S .grid) (S .old .flag) → Closed (S .lat .q) (S .grid) (S .old .flag)
     → Closed (S .lat .q) (S .grid) (newFlag S)
@@ -78,11 +78,13 @@ module _ (S : Scene) where
     where
       d : Dir (S .lat .q) i
       d = record { some = some; most = most }
+
       -- c is filled, so the neighbour is beside a filled cell
       seen : S .old .flag c ≡ 1 → filled S c ≡ true → besideFilled S (S .grid .near c i) ≡ true
       seen f1 fi =
           beside-filled (S .grid .near c i) (S .lat .opp i) (p .dir i d)
           (subst (λ (k : ℕ). filled S k ≡ true) (sym (l .back c i h (inner (S .grid) (S .old .flag) w c h (λ f3. absurd (omega arith))) d)) fi)
+
       go : ((S .old .flag c ≡ 2) × (besideEmptied S c ≡ false)) ⊎ ((S .old .flag c ≡ 1) × (filled S c ≡ true))
           → ((S .old .flag (S .grid .near c i) ≡ 0) × (besideFilled S (S .grid .near c i) ≡ false)) ⊎ (emptied S (S .grid .near c i) ≡ true) → ⊥
       go (inl a) (inl b) = old c i h some most (a .0) (b .0)
@@ -91,7 +93,6 @@ module _ (S : Scene) where
       go (inr a) (inr e) = false≢true (sym (emptied-lone (S .grid .near c i) e) ∙ seen (a .0) (a .1))
 
 pub closed-holds : Claim
-unfolding Claim
 closed-holds S p l w old = closed-layer S p l w old
 
 -- ---- the new flags are flags, and a wall stays a wall

@@ -4,3 +4,8 @@ pub mod Box
 pub mod Closed
 pub mod Pairs
 pub mod Total
+pub mod Same
+pub mod Accepted
+pub mod Reached
+pub mod Listed
+pub mod Demand

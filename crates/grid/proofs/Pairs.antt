@@ -62,7 +62,7 @@ module _ (L : Lattice) (G : Grid) (p : Paired L) (l : Laid L G) (F H : ℕ → �
       sum-table (G .cells) (G .cells) (λ c. H c i) (λ d. F d (L .opp i)) (λ c d. only (G .near c i) (H c i) d)
       (λ c hc. row H h i t c hc (G .outer c) refl)
       (λ d hd. sum-cong (G .cells) (λ c. only (G .near c i) (H c i) d) (only (G .near d (L .opp i)) (F d (L .opp i)))
-          (λ c hc. cell i t c d hc hd (ℕ-discrete d (G .near c i)) (ℕ-discrete c (G .near d (L .opp i))) (G .outer c) (G .outer d) refl refl)
+      (λ c hc. cell i t c d hc hd (ℕ-discrete d (G .near c i)) (ℕ-discrete c (G .near d (L .opp i))) (G .outer c) (G .outer d) refl refl)
       ∙ row F f (L .opp i) (p .dir i t) d hd (G .outer d) refl)
 
   pub both-ways : sum (G .cells) (λ c. dirs (L .q) (H c)) ≡ sum (G .cells) (λ c. dirs (L .q) (F c))

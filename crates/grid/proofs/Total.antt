@@ -17,7 +17,7 @@ use Rattle.lattice.specs.Cell.{over, under, exchange, isPositive, share}
 use Rattle.lattice.proofs.Paired.{Paired, dirs-opp}
 use Rattle.lattice.proofs.Shares.{shares-total, share-none, positive-sum}
 use Rattle.lattice.proofs.Exchange.{exchange-back}
-use Rattle.grid.specs.State.{Scene, byFlag}
+use Rattle.grid.specs.State.{State, Scene, byFlag}
 use Rattle.grid.specs.Step.{oldDensity, rebuilt, rebuild, arrives, streamed, difference, traded, tradedMass, newDensity}
 use Rattle.grid.specs.Step.{filled, emptied, besideFilled, besideEmptied, newFlag, baseMass, target, leanWeight, shareWeight, anyTarget, excess, gift, toCarry, received, newMass, newCarry}
 use Rattle.grid.specs.Demands.{Walled, Closed, strayed}
@@ -26,15 +26,15 @@ use Rattle.grid.proofs.Closed.{wall-stays}
 use Rattle.grid.proofs.Pairs.{Inside, both-ways}
 
 -- a fluid cell's mass is its density; wall and empty cells have none
-pub Massed : Scene → Type 0
-Massed S = (c : ℕ) → c < S .grid .cells → S .old .mass c ≡ byFlag (S .old .flag c) (pos 0) (S .old .mass c) (oldDensity S c) (pos 0)
+abbrev pub Massed : Lattice → ℕ → State → Type 0
+Massed L n s = (c : ℕ) → c < n → s .mass c ≡ byFlag (s .flag c) (pos 0) (s .mass c) (density L (s .part c)) (pos 0)
 
-pub Claim : Type 0
+abbrev pub Claim : Type 0
 Claim =
-    (S : Scene) → Paired (S .lat) → Laid (S .lat) (S .grid) → Walled (S .grid) (S .old .flag) → Closed (S .lat .q) (S .grid) (S .old .flag) → Massed S
+    (S : Scene) → Paired (S .lat) → Laid (S .lat) (S .grid) → Walled (S .grid) (S .old .flag) → Closed (S .lat .q) (S .grid) (S .old .flag) → Massed (S .lat) (S .grid .cells) (S .old)
     → sum (S .grid .cells) (newMass S) +ℤ newCarry S ≡ sum (S .grid .cells) (S .old .mass) +ℤ S .old .carry
 
-pub CarryClaim : Type 0
+abbrev pub CarryClaim : Type 0
 CarryClaim = (S : Scene) → newCarry S ≡ S .old .carry +ℤ strayed S
 
 -- ---- by cases on flags and tests alone
@@ -81,8 +81,10 @@ wall-flag f a b c d e = rw e refl
 module _ (S : Scene) where
   abbrev n : ℕ
   n = S .grid .cells
+
   abbrev q : ℕ
   q = S .lat .q
+
   abbrev flag : ℕ → ℕ
   flag c = S .old .flag c
 
@@ -142,7 +144,7 @@ module _ (S : Scene) where
   all-given c =
       ap (λ (t : ℤ). t +ℤ toCarry S c) (sym (cond-dirs q ((filled S c || emptied S c) && anyTarget S c) (share q (excess S c) (shareWeight S c))))
       ∙ given (filled S c) (emptied S c) (anyTarget S c) (excess S c) (dirs q (share q (excess S c) (shareWeight S c)))
-          (λ h. shares-total q (excess S c) (shareWeight S c) (some-weight c h))
+      (λ h. shares-total q (excess S c) (shareWeight S c) (some-weight c h))
       ∙ only-converted (filled S c) (emptied S c) (tradedMass S c -ℤ newDensity S c) (tradedMass S c)
 
   base-carried : (c : ℕ) → baseMass S c +ℤ excess S c ≡ carried c
@@ -162,8 +164,8 @@ module _ (S : Scene) (p : Paired (S .lat)) (l : Laid (S .lat) (S .grid)) (w : Wa
   unfolding target
   gift-within = record {
     off = λ c i h d o. gift-still S c i (w c h o);
-    far = λ c i h d o. far c i h d o (S .grid .outer c) refl
-    }
+    far = λ c i h d o. far c i h d o (S .grid .outer c) refl;
+  }
     where
       far : (c i : ℕ) → c < S .grid .cells → Dir (S .lat .q) i → S .grid .outer (S .grid .near c i) ≡ true → (b : Bool) → S .grid .outer c ≡ b → gift S c i ≡ pos 0
       far c i h d o true e = gift-still S c i (w c h e)
@@ -173,11 +175,12 @@ module _ (S : Scene) (p : Paired (S .lat)) (l : Laid (S .lat) (S .grid)) (w : Wa
   unfolding gets
   gets-within = record {
     off = λ c i h d o. still c i h o;
-    far = λ c i h d o. far c i h d o (S .grid .outer c) refl
-    }
+    far = λ c i h d o. far c i h d o (S .grid .outer c) refl;
+  }
     where
       still : (c i : ℕ) → c < S .grid .cells → S .grid .outer c ≡ true → gets c i ≡ pos 0
       still c i h o = cond-none (eqb (newFlag S c) 1) _ (ap (λ (x : ℕ). eqb x 1) (wall-stays S c (w c h o)))
+
       far : (c i : ℕ) → c < S .grid .cells → Dir (S .lat .q) i → S .grid .outer (S .grid .near c i) ≡ true → (b : Bool) → S .grid .outer c ≡ b → gets c i ≡ pos 0
       far c i h d o true e = still c i h e
       far c i h d o false e = cond-zero (eqb (newFlag S c) 1) _ (gift-still S (S .grid .near c i) (S .lat .opp i) (far-wall c i h d e o))
@@ -267,11 +270,12 @@ module _ (S : Scene) (p : Paired (S .lat)) (l : Laid (S .lat) (S .grid)) (w : Wa
   unfolding flow pair-flow
   flow-within = record {
     off = λ c i h d o. off c i (w c h o);
-    far = λ c i h d o. far c i h d o (S .grid .outer c) refl
-    }
+    far = λ c i h d o. far c i h d o (S .grid .outer c) refl;
+  }
     where
       off : (c i : ℕ) → S .old .flag c ≡ 3 → flow S c i ≡ pos 0
       off c i e = wall-flag (S .old .flag c) _ _ _ (pos 0) e
+
       far : (c i : ℕ) → c < S .grid .cells → Dir (S .lat .q) i → S .grid .outer (S .grid .near c i) ≡ true → (b : Bool) → S .grid .outer c ≡ b → flow S c i ≡ pos 0
       far c i h d o true e = off c i (w c h e)
       far c i h d o false e =
@@ -281,8 +285,8 @@ module _ (S : Scene) (p : Paired (S .lat)) (l : Laid (S .lat) (S .grid)) (w : Wa
   neg-within : Inside (S .lat) (S .grid) (λ c i. negℤ (flow S c i))
   neg-within = record {
     off = λ c i h d o. ap negℤ (flow-within .off c i h d o);
-    far = λ c i h d o. ap negℤ (flow-within .far c i h d o)
-    }
+    far = λ c i h d o. ap negℤ (flow-within .far c i h d o);
+  }
 
   turned : (c i : ℕ) → c < S .grid .cells → Dir (S .lat .q) i → S .grid .outer c ≡ false → difference S (S .grid .near c i) (S .lat .opp i) ≡ negℤ (difference S c i)
   unfolding difference
@@ -299,7 +303,7 @@ module _ (S : Scene) (p : Paired (S .lat)) (l : Laid (S .lat) (S .grid)) (w : Wa
       ∙ exchange-back (S .old .fill c) (S .old .fill (S .grid .near c i)) (difference S c i))
       (turned c i h d e)
       ∙ ap (λ (x : ℕ). pair-flow (S .old .flag (S .grid .near c i)) (S .old .flag x) (exchange (S .old .fill (S .grid .near c i) + S .old .fill x) (difference S (S .grid .near c i) (S .lat .opp i)))
-          (difference S (S .grid .near c i) (S .lat .opp i))) (sym (l .back c i h e d))
+      (difference S (S .grid .near c i) (S .lat .opp i))) (sym (l .back c i h e d))
 
   pub no-flow : sum (S .grid .cells) (λ c. dirs (S .lat .q) (flow S c)) ≡ pos 0
   no-flow =
@@ -320,6 +324,7 @@ module _ (S : Scene) (p : Paired (S .lat)) (l : Laid (S .lat) (S .grid)) (w : Wa
     where
       one : (i : ℕ) → Dir (S .lat .q) i → arrives S c i (S .lat .opp i) ≡ S .old .part c i +ℤ byFlag (S .old .flag (S .grid .near c i)) (pos 0) (difference S c i) (difference S c i) (pos 0)
       one i d = arrives-one S c i (λ z. cl c i h (d .some) (d .most) e z) (fluid-kept S c i e (λ z. cl c i h (d .some) (d .most) e z))
+
       arrived : dirs (S .lat .q) (λ k. arrives S c (S .lat .opp k) k) ≡ dirs (S .lat .q) (λ i. S .old .part c i +ℤ byFlag (S .old .flag (S .grid .near c i)) (pos 0) (difference S c i) (difference S c i) (pos 0))
       arrived =
           sum-cong (S .lat .q) (λ a. arrives S c (S .lat .opp (suc a)) (suc a)) (λ a. arrives S c (S .lat .opp (suc a)) (S .lat .opp (S .lat .opp (suc a))))
@@ -337,12 +342,15 @@ module _ (S : Scene) (p : Paired (S .lat)) (l : Laid (S .lat) (S .grid)) (w : Wa
     where
       bring : (f : ℕ) → S .old .flag c ≡ f → carried S c ≡ byFlag f (pos 0) (tradedMass S c) (newDensity S c) (pos 0)
       bring f e = ap (λ (k : ℕ). byFlag k (pos 0) (tradedMass S c) (newDensity S c) (pos 0)) e
+
       had : (f : ℕ) → S .old .flag c ≡ f → S .old .mass c ≡ byFlag f (pos 0) (S .old .mass c) (oldDensity S c) (pos 0)
       had f e = m c h ∙ ap (λ (k : ℕ). byFlag k (pos 0) (S .old .mass c) (oldDensity S c) (pos 0)) e
+
       ran : (f : ℕ) → S .old .flag c ≡ f → (i : ℕ)
           → flow S c i ≡ pair-flow f (S .old .flag (S .grid .near c i)) (exchange (S .old .fill c + S .old .fill (S .grid .near c i)) (difference S c i)) (difference S c i)
       ran f e i =
           ap (λ (k : ℕ). pair-flow k (S .old .flag (S .grid .near c i)) (exchange (S .old .fill c + S .old .fill (S .grid .near c i)) (difference S c i)) (difference S c i)) e
+
       go : (f : ℕ) → S .old .flag c ≡ f → carried S c ≡ S .old .mass c +ℤ dirs (S .lat .q) (flow S c)
       go zero e = bring zero e ∙ sym (ap₂ (λ (x y : ℤ). x +ℤ y) (had zero e) (sum-zero (S .lat .q) (λ a. flow S c (suc a)) (λ a k. ran zero e (suc a))))
       go (suc zero) e =
@@ -350,38 +358,39 @@ module _ (S : Scene) (p : Paired (S .lat)) (l : Laid (S .lat) (S .grid)) (w : Wa
       go (suc (suc zero)) e =
           bring 2 e ∙ fluid-density cl c h e
           ∙ ap₂ (λ (x y : ℤ). x +ℤ y) (sym (had 2 e))
-              (sym (sum-cong (S .lat .q) (λ a. flow S c (suc a))
-                  (λ a. byFlag (S .old .flag (S .grid .near c (suc a))) (pos 0) (difference S c (suc a)) (difference S c (suc a)) (pos 0)) (λ a k. ran 2 e (suc a))))
+          (sym (sum-cong (S .lat .q) (λ a. flow S c (suc a))
+          (λ a. byFlag (S .old .flag (S .grid .near c (suc a))) (pos 0) (difference S c (suc a)) (difference S c (suc a)) (pos 0)) (λ a k. ran 2 e (suc a))))
       go (suc (suc (suc r))) e =
           bring (suc (suc (suc r))) e
           ∙ sym (ap₂ (λ (x y : ℤ). x +ℤ y) (had (suc (suc (suc r))) e) (sum-zero (S .lat .q) (λ a. flow S c (suc a)) (λ a k. ran (suc (suc (suc r))) e (suc a))))
 
-  exact-total : Closed (S .lat .q) (S .grid) (S .old .flag) → Massed S
+  exact-total : Closed (S .lat .q) (S .grid) (S .old .flag) → Massed (S .lat) (S .grid .cells) (S .old)
       → sum (S .grid .cells) (newMass S) +ℤ newCarry S ≡ sum (S .grid .cells) (S .old .mass) +ℤ S .old .carry
-  unfolding newMass newCarry Massed
+  unfolding newMass newCarry oldDensity
   exact-total cl m =
       ap (λ (t : ℤ). t +ℤ (k +ℤ sum n (toCarry S)))
-          (sum-add n (baseMass S) (λ c. cond (eqb (newFlag S c) 1) (received S c) (pos 0)) ∙ ap (λ (t : ℤ). sum n (baseMass S) +ℤ t) (received-given S p l w))
+      (sum-add n (baseMass S) (λ c. cond (eqb (newFlag S c) 1) (received S c) (pos 0)) ∙ ap (λ (t : ℤ). sum n (baseMass S) +ℤ t) (received-given S p l w))
       ∙ gather (sum n (baseMass S)) (sum n (λ c. dirs (S .lat .q) (gift S c))) k (sum n (toCarry S))
       ∙ ap (λ (t : ℤ). t +ℤ k)
-          (ap (λ (t : ℤ). sum n (baseMass S) +ℤ t) (sym (sum-add n (λ c. dirs (S .lat .q) (gift S c)) (toCarry S)))
-          ∙ sym (sum-add n (baseMass S) (λ c. dirs (S .lat .q) (gift S c) +ℤ toCarry S c))
-          ∙ sum-cong n (λ c. baseMass S c +ℤ (dirs (S .lat .q) (gift S c) +ℤ toCarry S c)) (λ c. S .old .mass c +ℤ dirs (S .lat .q) (flow S c))
-              (λ c h. ap (λ (t : ℤ). baseMass S c +ℤ t) (all-given S c) ∙ base-carried S c ∙ carried-flow cl m c h)
-          ∙ sum-add n (S .old .mass) (λ c. dirs (S .lat .q) (flow S c))
-          ∙ ap (λ (t : ℤ). sum n (S .old .mass) +ℤ t) no-flow ∙ +ℤ-idr (sum n (S .old .mass)))
+      (ap (λ (t : ℤ). sum n (baseMass S) +ℤ t) (sym (sum-add n (λ c. dirs (S .lat .q) (gift S c)) (toCarry S)))
+      ∙ sym (sum-add n (baseMass S) (λ c. dirs (S .lat .q) (gift S c) +ℤ toCarry S c))
+      ∙ sum-cong n (λ c. baseMass S c +ℤ (dirs (S .lat .q) (gift S c) +ℤ toCarry S c)) (λ c. S .old .mass c +ℤ dirs (S .lat .q) (flow S c))
+      (λ c h. ap (λ (t : ℤ). baseMass S c +ℤ t) (all-given S c) ∙ base-carried S c ∙ carried-flow cl m c h)
+      ∙ sum-add n (S .old .mass) (λ c. dirs (S .lat .q) (flow S c))
+      ∙ ap (λ (t : ℤ). sum n (S .old .mass) +ℤ t) no-flow ∙ +ℤ-idr (sum n (S .old .mass)))
     where
       n : ℕ
       n = S .grid .cells
+
       k : ℤ
       k = S .old .carry
+
       gather : (a b k t : ℤ) → (a +ℤ b) +ℤ (k +ℤ t) ≡ (a +ℤ (b +ℤ t)) +ℤ k
       gather a b k t = ring-by (a ∷ b ∷ k ∷ t ∷ []) (search quotes depth 20) (search quotes depth 20) tt
 
 pub total-holds : Claim
-unfolding Claim
 total-holds S p l w cl m = exact-total S p l w cl m
 
 pub carry-holds : CarryClaim
-unfolding CarryClaim newCarry toCarry strayed anyTarget target
+unfolding newCarry toCarry strayed anyTarget target
 carry-holds S = refl

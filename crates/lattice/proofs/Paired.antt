@@ -48,8 +48,8 @@ turned-true : (a b : ℤ) → turnedTest a b ≡ true → Turned a b
 unfolding turnedTest
 turned-true a b e = record {
   small = leb-true (natAbs a) 1 (and-left (leb (natAbs a) 1) (sameZ b (negℤ a)) e);
-  turned = sameZ-true b (negℤ a) (and-right (leb (natAbs a) 1) (sameZ b (negℤ a)) e)
-  }
+  turned = sameZ-true b (negℤ a) (and-right (leb (natAbs a) 1) (sameZ b (negℤ a)) e);
+}
 
 unfoldable dirTest : Lattice → ℕ → Bool
 dirTest L i = ltb 0 (L .opp i) && leb (L .opp i) (L .q)
@@ -78,20 +78,22 @@ unfolding test dirTest axisTest
 paired L t = record {
   dir = λ i d. record {
     some = ltb-true 0 (L .opp i) (and-left (ltb 0 (L .opp i)) (leb (L .opp i) (L .q)) (at i d .0));
-    most = leb-true (L .opp i) (L .q) (and-right (ltb 0 (L .opp i)) (leb (L .opp i) (L .q)) (at i d .0))
-    };
+    most = leb-true (L .opp i) (L .q) (and-right (ltb 0 (L .opp i)) (leb (L .opp i) (L .q)) (at i d .0));
+  };
   twice = λ i d. eqb-true (L .opp (L .opp i)) i (at i d .1);
   ex = λ i d. turned-true (L .e i .x) (L .e (L .opp i) .x) (axes i d .0);
   ey = λ i d. turned-true (L .e i .y) (L .e (L .opp i) .y) (axes i d .1);
   ez = λ i d. turned-true (L .e i .z) (L .e (L .opp i) .z) (axes i d .2);
-  same = λ i d. eqb-true (L .weight (L .opp i)) (L .weight i) (at i d .3)
-  }
+  same = λ i d. eqb-true (L .weight (L .opp i)) (L .weight i) (at i d .3);
+}
   where
     holds : (i : ℕ) → Dir (L .q) i → test L i ≡ true
     holds zero d = absurd (lt-irrefl zero (d .some))
     holds (suc a) d = all-at (L .q) (λ b. test L (suc b)) t a (d .most)
+
     at : (i : ℕ) → Dir (L .q) i → (dirTest L i ≡ true) × (eqb (L .opp (L .opp i)) i ≡ true) × (axisTest L i ≡ true) × (eqb (L .weight (L .opp i)) (L .weight i) ≡ true)
     at i d = four (dirTest L i) (eqb (L .opp (L .opp i)) i) (axisTest L i) (eqb (L .weight (L .opp i)) (L .weight i)) (holds i d)
+
     axes : (i : ℕ) → Dir (L .q) i → (turnedTest (L .e i .x) (L .e (L .opp i) .x) ≡ true) × (turnedTest (L .e i .y) (L .e (L .opp i) .y) ≡ true) × (turnedTest (L .e i .z) (L .e (L .opp i) .z) ≡ true)
     axes i d =
         three (turnedTest (L .e i .x) (L .e (L .opp i) .x)) (turnedTest (L .e i .y) (L .e (L .opp i) .y)) (turnedTest (L .e i .z) (L .e (L .opp i) .z)) (at i d .2)
@@ -115,10 +117,13 @@ dirs-paired q ν dir two h =
   where
     σ : ℕ → ℕ
     σ a = pred (ν (suc a))
+
     up : (a : ℕ) → a < q → suc (σ a) ≡ ν (suc a)
     up a k = suc-pred-eq-of-pos (dir (suc a) (as-dir k) .some)
+
     low : (a : ℕ) → a < q → σ a < q
     low a k = subst (λ (m : ℕ). m ≤ q) (sym (up a k)) (dir (suc a) (as-dir k) .most)
+
     twice : (a : ℕ) → a < q → σ (σ a) ≡ a
     twice a k = suc-inj (up (σ a) (low a k) ∙ ap ν (up a k) ∙ two (suc a) (as-dir k))
 

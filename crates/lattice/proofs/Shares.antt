@@ -20,12 +20,13 @@ unfolding share remainder lowestDir only
 shares-total q x w h =
     sum-add q (λ a. cutShare q x w (suc a)) (λ a. cond (eqb (suc a) (suc low)) left (pos 0))
     ∙ ap (λ (t : ℤ). dirs q (cutShare q x w) +ℤ t)
-        (sum-cong q (λ a. cond (eqb (suc a) (suc low)) left (pos 0)) (only low left) (λ a k. ap (λ (b : Bool). cond b left (pos 0)) (eqb·suc-suc a low))
-        ∙ sum-only q low left (first-found q (λ a. isPositive (w (suc a))) h))
+    (sum-cong q (λ a. cond (eqb (suc a) (suc low)) left (pos 0)) (only low left) (λ a k. ap (λ (b : Bool). cond b left (pos 0)) (eqb·suc-suc a low))
+    ∙ sum-only q low left (first-found q (λ a. isPositive (w (suc a))) h))
     ∙ +ℤ-comm (dirs q (cutShare q x w)) left ∙ -ℤ-+ℤ-cancel x (dirs q (cutShare q x w))
   where
     low : ℕ
     low = first q (λ a. isPositive (w (suc a)))
+
     left : ℤ
     left = remainder q x w
 
