@@ -8,4 +8,6 @@ pub mod Same
 pub mod Accepted
 pub mod Reached
 pub mod Listed
-pub mod Demand
+pub mod Conserved
+pub mod Bgk
+pub mod Accurate

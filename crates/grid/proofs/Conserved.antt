@@ -60,7 +60,7 @@ tells-checked : (s : Sides) (a : Lent) → Checked s a → checkAnswer s a ≡ D
 unfolding checkAnswer
 tells-checked s a h = rw (h .sides, h .lengths) (h .good)
 
-step-tells : (s : Sides) (g : Settings) (a second : Lent) (marks : List ℕ) → stepAnswer s g a second marks ≡ Done
+pub step-tells : (s : Sides) (g : Settings) (a second : Lent) (marks : List ℕ) → stepAnswer s g a second marks ≡ Done
     → gridAnswer d3q19 (gridOf s) (stateOf 18 a) (sceneOf s g a .g) (sceneOf s g a .relax) ≡ Done
 unfolding stepAnswer entryAnswer gridAnswer sceneOf
 step-tells s g a second marks e =
@@ -68,7 +68,7 @@ step-tells s g a second marks e =
     let y = passed (lengthsGood (cellsOf s) a && lengthsGood (cellsOf s) second && eqb (length marks) (cellsOf s)) 2 0 _ (x .1) in
     passed (settingsGood g) 3 0 _ (y .1) .1
 
-second-next : (s : Sides) (g : Settings) (a second : Lent) (marks : List ℕ) → stepAnswer s g a second marks ≡ Done
+pub second-next : (s : Sides) (g : Settings) (a second : Lent) (marks : List ℕ) → stepAnswer s g a second marks ≡ Done
     → stepSecond s g a second marks ≡ lentOf 18 (cellsOf s) (next (sceneOf s g a))
 unfolding stepSecond nextOf
 second-next s g a second marks e = ap (λ (x : Answer). byAnswer x (nextOf s g a) a second) e
@@ -157,9 +157,9 @@ step-number s g b second marks good n low high e = one (refuse-cases (sidesGood 
     one (inl h) = omega arith
     one (inr h) = two (sym h ∙ e) (refuse-cases (lengthsGood (cellsOf s) b && lengthsGood (cellsOf s) second && eqb (length marks) (cellsOf s)) 2 0 after-two)
 
-pub demand-holds : Claim
+pub conserved-holds : Claim
 unfolding waterOf gridOf box cellsOf d3q19
-demand-holds s a b r e =
+conserved-holds s a b r e =
     let c = checked-tells s a e in
     let k = reached-holds d3q19 (gridOf s) paired19 (grid-laid s) (stateOf 18 a) (stateOf 18 b) (reaches s a r) (c .good) in
     record {
