@@ -25,8 +25,8 @@ single ps = record {
   parts = sets (replicate 513 (pos 0)) 247 ps;
   masses = set (replicate 27 (pos 0)) 13 (pos 294912);
   fills = set (replicate 27 0) 13 32768;
-  carry = pos 0 ∷ []
-  }
+  carry = pos 0 ∷ [];
+}
 
 -- at rest: 196,608, 32,768, 16,384
 abbrev pub rest : List ℤ
@@ -54,3 +54,7 @@ caseT = single rest
 
 abbrev pub marks : List ℕ
 marks = replicate 27 7
+
+-- case T with another flag at its centre
+abbrev pub flagged : ℕ → Lent
+flagged f = record { flags = set (replicate 27 3) 13 f; parts = caseT .parts; masses = caseT .masses; fills = caseT .fills; carry = caseT .carry }

@@ -57,9 +57,9 @@ figures =
     ∷ one (pos (numberOf (stepAnswer sides (record { p = pos 1024; gx = pos 35; gy = pos 0; gz = negsuc 1047 }) caseT caseT marks))) (pos 3)
     -- case T, through the whole outcome of a step
     ∷ record {
-        worked = pos (numberOf (stepAnswer sides falling caseT caseT marks)) ∷ pos (placeOf (stepAnswer sides falling caseT caseT marks)) ∷ [];
-        said = pos 0 ∷ pos 0 ∷ []
-      }
+      worked = pos (numberOf (stepAnswer sides falling caseT caseT marks)) ∷ pos (placeOf (stepAnswer sides falling caseT caseT marks)) ∷ [];
+      said = pos 0 ∷ pos 0 ∷ [];
+    }
     ∷ record { worked = flat (stepSecond sides falling caseT caseT marks); said = flat (single fallen) }
     ∷ []
 

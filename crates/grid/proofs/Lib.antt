@@ -11,3 +11,5 @@ pub mod Listed
 pub mod Conserved
 pub mod Bgk
 pub mod Accurate
+pub mod Unique
+pub mod Counted

@@ -4,3 +4,4 @@ pub mod Step
 pub mod Good
 pub mod Outcome
 pub mod Demands
+pub mod Promise
