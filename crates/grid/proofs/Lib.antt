@@ -1,1 +1,3 @@
 pub mod GoodSides
+pub mod Offsets
+pub mod Coordinates

@@ -3,3 +3,4 @@ pub mod State
 pub mod Step
 pub mod Good
 pub mod Outcome
+pub mod Passes

@@ -1,5 +1,6 @@
 // Layer 2, the grid: states, check, step and run. Knows the promises of lattice.
 pub mod extent;
+pub mod neighbours;
 
 // The sides of a grid, in cells.
 pub struct Sides {
