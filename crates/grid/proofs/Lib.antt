@@ -1,3 +1,4 @@
 pub mod GoodSides
 pub mod Offsets
 pub mod Coordinates
+pub mod Copies
