@@ -5,40 +5,44 @@ use mathlib.Core.Bool.{Bool, true, false, _||_}
 use Prim.Native.Nat.{ℕ, suc, _+_, _*_, _/_, _%_, _≤_, _<_}
 use native.Mathlib.Nat.{mod-lt, mod-eq-of-lt, div-eq-of-lt, add-mul-div-left, add-mul-mod-self-left, mod-add-div, div-div-eq-div-mul, mul-le-mul-left}
 use native.Mathlib.Omega.{arith}
-use lib.Dec.{eqb}
-use borrow.Author.Tests.{eqb-false}
+use lib.Dec.{eqb, ltb}
+use borrow.Author.Tests.{eqb-false, ltb-true, ltb-false}
 use Rattle.whole.specs.Bools.{or-false}
 use Rattle.grid.specs.declared.Sides.{Sides}
+use Rattle.grid.specs.declared.layer.Place.{Place}
 use Rattle.grid.specs.Grid.{cellAt, atEnd, gridOf, box, cellsOf, sidesGood}
-use Rattle.grid.specs.Passes.{Inner, Stands, outerAt, lowOf}
+use Rattle.grid.specs.Passes.{Inner, Stands, Of, placeAfter, outerAt, lowOf}
 use Rattle.grid.proofs.GoodSides.{GoodSides, good-sides}
 
-module _ {s : Sides} {c x y z : ℕ} (h : Stands s c x y z) where
-  rest : c / s .nx ≡ y + s .ny * z
+module _ {s : Sides} {c : ℕ} {p : Place} (h : Stands s c p) where
+  rest : c / s .nx ≡ p .y + s .ny * p .z
   rest =
-      ap (λ (m : ℕ). m / s .nx) (h .is) ∙ add-mul-div-left x (y + s .ny * z) (omega (arith, h .x-low))
-      ∙ ap (λ (m : ℕ). m + (y + s .ny * z)) (div-eq-of-lt (h .x-low))
+      ap (λ (m : ℕ). m / s .nx) (h .is) ∙ add-mul-div-left (p .x) (p .y + s .ny * p .z) (omega (arith, h .x-low))
+      ∙ ap (λ (m : ℕ). m + (p .y + s .ny * p .z)) (div-eq-of-lt (h .x-low))
       ∙ omega arith
 
-  pub x-of : c % s .nx ≡ x
-  x-of = ap (λ (m : ℕ). m % s .nx) (h .is) ∙ add-mul-mod-self-left x (s .nx) (y + s .ny * z) ∙ mod-eq-of-lt (h .x-low)
+  pub x-of : c % s .nx ≡ p .x
+  x-of = ap (λ (m : ℕ). m % s .nx) (h .is) ∙ add-mul-mod-self-left (p .x) (s .nx) (p .y + s .ny * p .z) ∙ mod-eq-of-lt (h .x-low)
 
-  pub y-of : c / s .nx % s .ny ≡ y
-  y-of = ap (λ (m : ℕ). m % s .ny) rest ∙ add-mul-mod-self-left y (s .ny) z ∙ mod-eq-of-lt (h .y-low)
+  pub y-of : c / s .nx % s .ny ≡ p .y
+  y-of = ap (λ (m : ℕ). m % s .ny) rest ∙ add-mul-mod-self-left (p .y) (s .ny) (p .z) ∙ mod-eq-of-lt (h .y-low)
 
-  pub z-of : c / (s .nx * s .ny) ≡ z
+  pub z-of : c / (s .nx * s .ny) ≡ p .z
   z-of =
       sym (div-div-eq-div-mul c (s .nx) (s .ny)) ∙ ap (λ (m : ℕ). m / s .ny) rest
-      ∙ add-mul-div-left y z (omega (arith, h .y-low))
-      ∙ ap (λ (m : ℕ). m + z) (div-eq-of-lt (h .y-low))
+      ∙ add-mul-div-left (p .y) (p .z) (omega (arith, h .y-low))
+      ∙ ap (λ (m : ℕ). m + p .z) (div-eq-of-lt (h .y-low))
       ∙ omega arith
 
-  pub outer-at : gridOf s .outer c ≡ outerAt s x y z
+  pub outer-at : gridOf s .outer c ≡ outerAt s p
   unfolding gridOf box outerAt
   outer-at = rw (x-of, y-of, z-of) refl
 
 -- every cell stands somewhere
-pub stands : (s : Sides) (c : ℕ) → sidesGood s ≡ true → Stands s c (c % s .nx) (c / s .nx % s .ny) (c / s .nx / s .ny)
+abbrev placeOf : Sides → ℕ → Place
+placeOf s c = record { x = c % s .nx; y = c / s .nx % s .ny; z = c / s .nx / s .ny }
+
+pub stands : (s : Sides) (c : ℕ) → sidesGood s ≡ true → Stands s c (placeOf s c)
 stands s c e =
     let g = good-sides s e in
     record {
@@ -62,21 +66,24 @@ between n x e h =
     two x n l f = omega arith
 
 -- the last plane is at nz − 1
-last-plane : (s : Sides) (c x y z : ℕ) → Stands s c x y z → c < cellsOf s → z < s .nz
+last-plane : (s : Sides) (c : ℕ) (p : Place) → Stands s c p → c < cellsOf s → p .z < s .nz
 unfolding cellsOf
-last-plane s c x y z h k = low z (s .nz) (λ g. omega (arith, h .is, mul-le-mul-left (s .nx * s .ny) g))
+last-plane s c p h k = low (p .z) (s .nz) (λ g. omega (arith, h .is, mul-le-mul-left (s .nx * s .ny) g))
   where
     low : (a b : ℕ) → (b ≤ a → ⊥) → a < b
     low a b f = omega arith
 
-pub inner-at : (s : Sides) (c x y z : ℕ) → Stands s c x y z → c < cellsOf s → outerAt s x y z ≡ false → Inner s c
+pub place-of : (s : Sides) (c : ℕ) (p : Place) → Stands s c p → c < cellsOf s → Of s p
+place-of s c p h k = record { x-low = h .x-low; y-low = h .y-low; z-low = last-plane s c p h k }
+
+inner-at : (s : Sides) (c : ℕ) (p : Place) → Stands s c p → c < cellsOf s → outerAt s p ≡ false → Inner s c
 unfolding outerAt lowOf cellsOf
-inner-at s c x y z h k e =
-    let p = or-false (atEnd (s .nx) x || atEnd (s .ny) y) (atEnd (s .nz) z) e in
-    let q = or-false (atEnd (s .nx) x) (atEnd (s .ny) y) (p .0) in
-    let hx = between (s .nx) x (q .0) (h .x-low) in
-    let hy = between (s .ny) y (q .1) (h .y-low) in
-    let hz = between (s .nz) z (p .1) (last-plane s c x y z h k) in
+inner-at s c p h k e =
+    let a = or-false (atEnd (s .nx) (p .x) || atEnd (s .ny) (p .y)) (atEnd (s .nz) (p .z)) e in
+    let b = or-false (atEnd (s .nx) (p .x)) (atEnd (s .ny) (p .y)) (a .0) in
+    let hx = between (s .nx) (p .x) (b .0) (h .x-low) in
+    let hy = between (s .ny) (p .y) (b .1) (h .y-low) in
+    let hz = between (s .nz) (p .z) (a .1) (last-plane s c p h k) in
     record {
       low = omega (arith, h .is, hx .0, mul-le-mul-left (s .nx) (hy .0), mul-le-mul-left (s .nx * s .ny) (hz .0));
       high = omega (arith, h .is, hx .1, mul-le-mul-left (s .nx) (hy .1), mul-le-mul-left (s .nx * s .ny) (hz .1));
@@ -86,4 +93,23 @@ inner-at s c x y z h k e =
 pub inner-of : (s : Sides) (c : ℕ) → sidesGood s ≡ true → c < cellsOf s → gridOf s .outer c ≡ false → Inner s c
 inner-of s c g k e =
     let h = stands s c g in
-    inner-at s c (c % s .nx) (c / s .nx % s .ny) (c / s .nx / s .ny) h k (sym (outer-at h) ∙ e)
+    inner-at s c (placeOf s c) h k (sym (outer-at h) ∙ e)
+
+-- the walk: the first cell stands at 0, 0, 0, and after each cell comes the next
+pub stands-first : (s : Sides) → sidesGood s ≡ true → Stands s 0 (record { x = 0; y = 0; z = 0 })
+stands-first s e = let g = good-sides s e in record { is = omega arith; x-low = omega (arith, g .x .low); y-low = omega (arith, g .y .low) }
+
+pub stands-after : (s : Sides) (c : ℕ) (p : Place) → Stands s c p → Stands s (c + 1) (placeAfter s p)
+unfolding placeAfter
+stands-after s c p h = along (ltb (p .x + 1) (s .nx)) refl (ltb (p .y + 1) (s .ny)) refl
+  where
+    along : (a : Bool) → ltb (p .x + 1) (s .nx) ≡ a → (b : Bool) → ltb (p .y + 1) (s .ny) ≡ b → Stands s (c + 1) (placeAfter s p)
+    along true ea b eb = rw ea (record { is = omega (arith, h .is); x-low = ltb-true (p .x + 1) (s .nx) ea; y-low = h .y-low })
+    along false ea true eb =
+        let e : p .x + 1 ≡ s .nx = omega (arith, h .x-low, ltb-false (p .x + 1) (s .nx) ea) in
+        rw (ea, eb) (record { is = omega (arith, h .is); x-low = omega (arith, h .x-low); y-low = ltb-true (p .y + 1) (s .ny) eb })
+    along false ea false eb =
+        let e : p .x + 1 ≡ s .nx = omega (arith, h .x-low, ltb-false (p .x + 1) (s .nx) ea) in
+        let f : p .y + 1 ≡ s .ny = omega (arith, h .y-low, ltb-false (p .y + 1) (s .ny) eb) in
+        let g : s .nx * (p .y + 1) ≡ s .nx * s .ny = ap (λ (m : ℕ). s .nx * m) f in
+        rw (ea, eb) (record { is = omega (arith, h .is); x-low = omega (arith, h .x-low); y-low = omega (arith, h .y-low) })

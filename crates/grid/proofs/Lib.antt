@@ -2,3 +2,4 @@ pub mod GoodSides
 pub mod Offsets
 pub mod Coordinates
 pub mod Copies
+pub mod Lists

@@ -2,9 +2,11 @@
 -- coordinates of a walk. Assumes nothing.
 use Prim.Native.Nat.{ℕ, suc, _+_, _*_, _<_, _≤_}
 use mathlib.Core.Path.{_≡_}
-use mathlib.Core.Bool.{Bool, _||_}
+use mathlib.Core.Bool.{Bool, _||_, cond}
+use lib.Dec.{ltb}
 use Rattle.lattice.specs.Lattice.{d3q19}
 use Rattle.grid.specs.declared.Sides.{Sides}
+use Rattle.grid.specs.declared.layer.Place.{Place}
 use Rattle.grid.specs.Grid.{cellAt, atEnd, toward, cellsOf}
 
 -- the lowest cell that is not in the outer layer
@@ -20,17 +22,29 @@ pub record Inner (s : Sides) (c : ℕ) : Type 0 where
   pub low : lowOf s ≤ c
   pub high : c + lowOf s < cellsOf s
 
--- cell c stands at x, y, z
-pub record Stands (s : Sides) (c x y z : ℕ) : Type 0 where
-  pub is : c ≡ cellAt (s .nx) (s .ny) x y z
-  pub x-low : x < s .nx
-  pub y-low : y < s .ny
+-- cell c stands at p
+pub record Stands (s : Sides) (c : ℕ) (p : Place) : Type 0 where
+  pub is : c ≡ cellAt (s .nx) (s .ny) (p .x) (p .y) (p .z)
+  pub x-low : p .x < s .nx
+  pub y-low : p .y < s .ny
+
+-- p is a place of the grid
+pub record Of (s : Sides) (p : Place) : Type 0 where
+  pub x-low : p .x < s .nx
+  pub y-low : p .y < s .ny
+  pub z-low : p .z < s .nz
+
+-- where the next cell stands
+unfoldable pub placeAfter : Sides → Place → Place
+placeAfter s p =
+    cond (ltb (p .x + 1) (s .nx)) (record { x = p .x + 1; y = p .y; z = p .z })
+    (cond (ltb (p .y + 1) (s .ny)) (record { x = 0; y = p .y + 1; z = p .z }) (record { x = 0; y = 0; z = p .z + 1 }))
 
 -- whether a cell that stands there is in the outer layer
-unfoldable pub outerAt : Sides → ℕ → ℕ → ℕ → Bool
-outerAt s x y z = atEnd (s .nx) x || atEnd (s .ny) y || atEnd (s .nz) z
+unfoldable pub outerAt : Sides → Place → Bool
+outerAt s p = atEnd (s .nx) (p .x) || atEnd (s .ny) (p .y) || atEnd (s .nz) (p .z)
 
 -- names every definition of this file: whoever unfolds this computes with all of them
 unfoldable pub open-passes : Unit {0}
-unfolding lowOf offsetOf outerAt
+unfolding lowOf offsetOf placeAfter outerAt
 open-passes = tt
