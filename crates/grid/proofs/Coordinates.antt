@@ -10,9 +10,9 @@ use borrow.Author.Tests.{eqb-false, ltb-true, ltb-false}
 use Rattle.whole.specs.Bools.{or-false}
 use Rattle.grid.specs.declared.Sides.{Sides}
 use Rattle.grid.specs.declared.layer.Place.{Place}
-use Rattle.grid.specs.Grid.{cellAt, atEnd, gridOf, box, cellsOf, sidesGood}
+use Rattle.grid.specs.Grid.{atEnd, gridOf, box, cellsOf, sidesGood}
 use Rattle.grid.specs.Passes.{Inner, Stands, Of, placeAfter, outerAt, lowOf}
-use Rattle.grid.proofs.GoodSides.{GoodSides, good-sides}
+use Rattle.grid.proofs.GoodSides.{good-sides}
 
 module _ {s : Sides} {c : ℕ} {p : Place} (h : Stands s c p) where
   rest : c / s .nx ≡ p .y + s .ny * p .z

@@ -1,7 +1,7 @@
 -- A loop that copies one list into another of its length, element by element. One law for every type of element. Assumes nothing.
 use mathlib.Core.Path.{_≡_, sym, _∙_, subst}
 use mathlib.Core.List.{List}
-use Prim.Native.Nat.{ℕ, _+_, _≤_, _<_}
+use Prim.Native.Nat.{ℕ, _≤_}
 use lib.ListN.{length, getD}
 use Rattle.whole.specs.Tab.{Upto, upto-all, tab-self}
 

@@ -2,15 +2,17 @@
 -- The components of the directions are at most 1 either way: one computed test. Assumes nothing.
 use mathlib.Core.Path.{_≡_, refl, ap₂}
 use mathlib.Core.List.{List, [], _∷_}
-use mathlib.Core.Bool.{Bool, true, false, _&&_}
+use mathlib.Core.Bool.{Bool, true, _&&_}
 use Prim.Native.Nat.{ℕ, _+_, _-_, _*_, _≤_, _<_}
 use native.Mathlib.Nat.{mul-le-mul-left}
 use native.Mathlib.Omega.{arith}
 use lib.Dec.{leb}
+use lib.ListN.{getD}
 use borrow.Author.Tests.{leb-true}
 use Rattle.whole.specs.Bools.{and-left, and-right}
 use Rattle.whole.specs.Parts.{up, down}
 use Rattle.whole.specs.Fold.{tab, open-fold}
+use Rattle.whole.specs.Tab.{getD-tab}
 use Rattle.whole.specs.Search.{all-at}
 use Rattle.lattice.specs.Lattice.{V3, d3q19, open-lattice}
 use Rattle.grid.specs.declared.Sides.{Sides}
@@ -97,3 +99,8 @@ module _ (s : Sides) (i : ℕ) (h : i < 19) where
   pub offset-most : offsetOf s i ≤ lowOf s + lowOf s
   unfolding offsetOf toward
   offset-most = omega (arith, ahead-low, back-low)
+
+-- an array of these offsets leads to the neighbours
+pub neighbour : (s : Sides) (off : List ℕ) (low c i : ℕ) → off ≡ tab 19 (offsetOf s) → low ≡ lowOf s → i < 19 → lowOf s ≤ c
+    → c - low + getD off i 0 ≡ gridOf s .near c i
+neighbour s off low c i e l h g = rw (e, l, getD-tab 19 (offsetOf s) 0 i h) (near-offset s i h c g)
