@@ -13,3 +13,9 @@ pub mod Bgk
 pub mod Accurate
 pub mod Unique
 pub mod Counted
+pub mod Offsets
+pub mod Coordinates
+pub mod Copies
+pub mod Lists
+pub mod Walls
+pub mod Beside

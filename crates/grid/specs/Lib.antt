@@ -5,3 +5,4 @@ pub mod Good
 pub mod Outcome
 pub mod Demands
 pub mod Promise
+pub mod Passes
