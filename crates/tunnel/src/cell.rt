@@ -1,4 +1,4 @@
-// Cell point: the centre and the fill of one cell.
+// Cells: their numbers, and the cell point, centre and fill of one.
 use crate::CellPoint;
 use crate::exact::centre;
 use crate::exact::share;
@@ -8,8 +8,17 @@ use grid::extent::good_sides;
 ghost use mathlib.Core.Path.{_≡_};
 ghost use mathlib.Core.Bool.{true};
 ghost use Prim.Native.Nat.{_≤_, _<_};
-ghost use Rattle.grid.specs.Grid.{sidesGood, cellsOf};
+ghost use Rattle.grid.specs.Grid.{sidesGood, cellsOf, cellAt};
+ghost use Rattle.tunnel.specs.Asks.{Inside};
 ghost use Rattle.tunnel.specs.Point.{refused, centreOf, pointOf, PointIs};
+
+// The number of cell (x, y, z).
+pub(crate) fn number(s: Sides, x: usize, y: usize, z: usize) -> usize
+    requires { ⌜ Inside s x y z ⌝ }
+    ensures { λ r. ⌜ r ≡ cellAt (s .nx) (s .ny) x y z ⌝ }
+{
+    x + s.nx * (y + s.ny * z)
+}
 
 fn refusal(number: u8, place: usize) -> CellPoint
     ensures { λ r. ⌜ PointIs r (refused number place) ⌝ }
