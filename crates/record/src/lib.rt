@@ -1,4 +1,6 @@
 // Layer 2, the grid record: its reader and its writer. Knows the promises of grid.
+mod number;
+
 use grid::Answer;
 use grid::Sides;
 use lattice::Settings;
