@@ -1,0 +1,75 @@
+-- The grid record: seven sections in fixed order, each after its count of numbers. Assumes nothing.
+use Prim.Native.Nat.{ℕ, zero, suc, _+_, _*_}
+use mathlib.Core.Bool.{Bool, true, false, _&&_}
+use mathlib.Core.List.{List, [], _∷_, _++_}
+use lib.IntN.{ℤ, pos}
+use lib.Dec.{eqb}
+use Rattle.whole.specs.Fold.{count}
+use Rattle.lattice.specs.Cell.{edgeGood, coordinateGood}
+use Rattle.lattice.specs.declared.Settings.{Settings}
+use Rattle.grid.specs.declared.Sides.{Sides}
+use Rattle.grid.specs.Grid.{cellsOf}
+use Rattle.grid.specs.State.{Lent, State, stateOf, byFlag, liquid}
+use Rattle.grid.specs.Outcome.{settingsGood}
+use Rattle.record.specs.declared.Site.{Site}
+use Rattle.record.specs.Bytes.{u32Of, i32Of, i64Of, join, gathered}
+
+-- p, gravity, cell edge and origin coordinates in their ranges: what refusal 3 asks of a record
+unfoldable pub siteGood : Settings → Site → Bool
+siteGood g t = settingsGood g && edgeGood (t .edge) && coordinateGood (t .x) && coordinateGood (t .y) && coordinateGood (t .z)
+
+-- how many of the first n cells are interface, and how many liquid; I and L are those of all N
+unfoldable pub interfaces : ℕ → (ℕ → ℕ) → ℕ
+interfaces n flag = count n (λ c. eqb (flag c) 1)
+
+unfoldable pub liquids : ℕ → (ℕ → ℕ) → ℕ
+liquids n flag = count n (λ c. liquid (flag c))
+
+-- the byte where each section begins, that of its count: 0, 16, 40, 68, 80, 84 + N, 88 + N + 4I; and the record's length
+abbrev pub massesFrom : ℕ → ℕ
+massesFrom n = 84 + n
+
+abbrev pub partsFrom : ℕ → ℕ → ℕ
+partsFrom n i = 88 + n + 4 * i
+
+abbrev pub lengthOf : ℕ → ℕ → ℕ → ℕ
+lengthOf n i l = 92 + n + 4 * i + 76 * l
+
+-- a section: its count of numbers, then the numbers
+abbrev pub section : ℕ → List (List ℕ) → List ℕ
+section n numbers = u32Of n ++ join numbers
+
+-- interface masses by cell number
+unfoldable pub massBytes : ℕ → State → List ℕ
+massBytes n s = gathered n (λ c. byFlag (s .flag c) [] (i32Of (s .mass c)) [] [])
+
+-- parts of liquid cells by cell number, 19 each
+unfoldable pub cellBytes : State → ℕ → List ℕ
+cellBytes s c = gathered 19 (λ k. i32Of (s .part c k))
+
+unfoldable pub partBytes : ℕ → State → List ℕ
+partBytes n s = gathered n (λ c. byFlag (s .flag c) [] (cellBytes s c) (cellBytes s c) [])
+
+-- the record of a grid: 3 sides (u32); 5 settings p, gx, gy, gz, edge (i32); 3 origin (i64); 1 carry (i64); N flags (u8); masses; parts
+unfoldable pub recordOf : Sides → Settings → Site → Lent → List ℕ
+recordOf s g t a =
+    let n = cellsOf s in
+    let h = stateOf 18 a in
+    join (
+    section 3 (u32Of (s .nx) ∷ u32Of (s .ny) ∷ u32Of (s .nz) ∷ [])
+    ∷ section 5 (i32Of (g .p) ∷ i32Of (g .gx) ∷ i32Of (g .gy) ∷ i32Of (g .gz) ∷ i32Of (t .edge) ∷ [])
+    ∷ section 3 (i64Of (t .x) ∷ i64Of (t .y) ∷ i64Of (t .z) ∷ [])
+    ∷ section 1 (i64Of (h .carry) ∷ [])
+    ∷ section n (a .flags ∷ [])
+    ∷ section (interfaces n (h .flag)) (massBytes n h ∷ [])
+    ∷ section (19 * liquids n (h .flag)) (partBytes n h ∷ [])
+    ∷ [])
+
+-- its length, 92 + N + 4I + 76L
+unfoldable pub recordLength : Sides → Lent → ℕ
+recordLength s a = lengthOf (cellsOf s) (interfaces (cellsOf s) (stateOf 18 a .flag)) (liquids (cellsOf s) (stateOf 18 a .flag))
+
+-- names every definition of this file: whoever unfolds this computes with all of them
+unfoldable pub open-layout : Unit {0}
+unfolding siteGood interfaces liquids massBytes cellBytes partBytes recordOf recordLength
+open-layout = tt

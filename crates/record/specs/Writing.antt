@@ -1,0 +1,41 @@
+-- What the writer answers, and what the room then holds, for every input. Assumes nothing.
+use Prim.Native.Nat.{ℕ, zero, suc}
+use mathlib.Core.Bool.{Bool, true, false, cond}
+use mathlib.Core.List.{List, [], _∷_, _++_}
+use lib.Dec.{leb}
+use lib.ListN.{length, drop}
+use Rattle.lattice.specs.Lattice.{d3q19}
+use Rattle.lattice.specs.declared.Settings.{Settings}
+use Rattle.grid.specs.declared.Sides.{Sides}
+use Rattle.grid.specs.declared.Answer.{Answer}
+use Rattle.grid.specs.declared.Answer.the-variants.{Done, Refused}
+use Rattle.grid.specs.Grid.{cellsOf, sidesGood, gridOf}
+use Rattle.grid.specs.State.{Lent, stateOf}
+use Rattle.grid.specs.Outcome.{accepted, orRefuse, goodAnswer, lengthsGood}
+use Rattle.record.specs.declared.Site.{Site}
+use Rattle.record.specs.declared.Written.{Written}
+use Rattle.record.specs.Layout.{siteGood, recordOf, recordLength}
+
+-- tests 1 to 6, and 12 last, its place the bytes needed
+unfoldable pub writeAnswer : Sides → Settings → Site → Lent → List ℕ → Answer
+writeAnswer s g t a room =
+    orRefuse (sidesGood s) 1 0
+    (orRefuse (lengthsGood (cellsOf s) a) 2 0
+    (orRefuse (siteGood g t) 3 0
+    (goodAnswer d3q19 (gridOf s) (stateOf 18 a)
+    (orRefuse (leb (recordLength s a) (length room)) 12 (recordLength s a) Done))))
+
+-- with the record's length, 0 beside a refusal
+unfoldable pub written : Sides → Settings → Site → Lent → List ℕ → Written
+written s g t a room =
+    let answer = writeAnswer s g t a room in
+    record { answer = answer; bytes = cond (accepted answer) (recordLength s a) 0 }
+
+-- the record, with room past it untouched; a refusal writes nothing
+unfoldable pub writtenRoom : Sides → Settings → Site → Lent → List ℕ → List ℕ
+writtenRoom s g t a room = cond (accepted (writeAnswer s g t a room)) (recordOf s g t a ++ drop (recordLength s a) room) room
+
+-- names every definition of this file: whoever unfolds this computes with all of them
+unfoldable pub open-writing : Unit {0}
+unfolding writeAnswer written writtenRoom
+open-writing = tt

@@ -1,0 +1,28 @@
+// Layer 2, the grid record: its reader and its writer. Knows the promises of grid.
+mod number;
+
+use grid::Answer;
+use grid::Sides;
+use lattice::Settings;
+
+// Where a grid stands: the edge of a cell and the origin, in millimetres.
+pub struct Site {
+    pub edge: i64,
+    pub x: i64,
+    pub y: i64,
+    pub z: i64,
+}
+
+// What the reader answers beside the flags; beside a refusal all its numbers are 0.
+pub struct Head {
+    pub answer: Answer,
+    pub sides: Sides,
+    pub settings: Settings,
+    pub site: Site,
+}
+
+// What the writer answers, with the length of the record; 0 beside a refusal.
+pub struct Written {
+    pub answer: Answer,
+    pub bytes: usize,
+}
