@@ -16,7 +16,7 @@ use Rattle.lattice.specs.Lattice.{Lattice, density}
 use Rattle.lattice.specs.Cell.{over, under, exchange, isPositive, share}
 use Rattle.lattice.proofs.Paired.{Paired, dirs-opp}
 use Rattle.lattice.proofs.Shares.{shares-total, share-none, positive-sum}
-use Rattle.lattice.proofs.Exchange.{exchange-back}
+use Rattle.lattice.proofs.ExchangeBack.{exchange-back}
 use Rattle.grid.specs.State.{State, Scene, byFlag}
 use Rattle.grid.specs.Step.{oldDensity, rebuilt, rebuild, arrives, streamed, difference, traded, tradedMass, newDensity}
 use Rattle.grid.specs.Step.{filled, emptied, besideFilled, besideEmptied, newFlag, baseMass, target, leanWeight, shareWeight, anyTarget, excess, gift, toCarry, received, newMass, newCarry}

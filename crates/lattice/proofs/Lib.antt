@@ -1,6 +1,6 @@
 pub mod Paired
 pub mod Shares
-pub mod Exchange
+pub mod ExchangeBack
 pub mod Balanced
 pub mod Fills
 pub mod Ranges
