@@ -19,3 +19,4 @@ pub mod Copies
 pub mod Lists
 pub mod Walls
 pub mod Beside
+pub mod Prepared

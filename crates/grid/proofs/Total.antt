@@ -20,6 +20,7 @@ use Rattle.lattice.proofs.ExchangeBack.{exchange-back}
 use Rattle.grid.specs.State.{State, Scene, byFlag}
 use Rattle.grid.specs.Step.{oldDensity, rebuilt, rebuild, arrives, streamed, difference, traded, tradedMass, newDensity}
 use Rattle.grid.specs.Step.{filled, emptied, besideFilled, besideEmptied, newFlag, baseMass, target, leanWeight, shareWeight, anyTarget, excess, gift, toCarry, received, newMass, newCarry}
+use Rattle.grid.specs.Between.{movedMass}
 use Rattle.grid.specs.Demands.{Walled, Closed, strayed}
 use Rattle.grid.proofs.Laid.{Laid}
 use Rattle.grid.proofs.Closed.{wall-stays}
@@ -88,10 +89,6 @@ module _ (S : Scene) where
   abbrev flag : ℕ → ℕ
   flag c = S .old .flag c
 
-  -- mass after streaming and exchange, before conversion
-  pub carried : ℕ → ℤ
-  carried c = byFlag (flag c) (pos 0) (tradedMass S c) (newDensity S c) (pos 0)
-
   -- ---- a wall converts nothing
 
   wall-filled : (c : ℕ) → flag c ≡ 3 → filled S c ≡ false
@@ -147,9 +144,9 @@ module _ (S : Scene) where
       (λ h. shares-total q (excess S c) (shareWeight S c) (some-weight c h))
       ∙ only-converted (filled S c) (emptied S c) (tradedMass S c -ℤ newDensity S c) (tradedMass S c)
 
-  base-carried : (c : ℕ) → baseMass S c +ℤ excess S c ≡ carried c
-  unfolding baseMass excess filled emptied carried
-  base-carried c =
+  base-moved : (c : ℕ) → baseMass S c +ℤ excess S c ≡ movedMass S c
+  unfolding baseMass excess filled emptied movedMass
+  base-moved c =
       base-excess (flag c) (over (tradedMass S c) (newDensity S c)) (under (tradedMass S c) (newDensity S c) && not (besideFilled S c)) (tradedMass S c) (newDensity S c)
 
 module _ (S : Scene) (p : Paired (S .lat)) (l : Laid (S .lat) (S .grid)) (w : Walled (S .grid) (S .old .flag)) where
@@ -334,13 +331,13 @@ module _ (S : Scene) (p : Paired (S .lat)) (l : Laid (S .lat) (S .grid)) (w : Wa
           (λ a k. one (suc a) (as-dir k))
 
   -- the mass before conversion is the old mass and what flowed in
-  pub carried-flow : Closed (S .lat .q) (S .grid) (S .old .flag)
+  pub moved-flow : Closed (S .lat .q) (S .grid) (S .old .flag)
       → ((c : ℕ) → c < S .grid .cells → S .old .mass c ≡ byFlag (S .old .flag c) (pos 0) (S .old .mass c) (oldDensity S c) (pos 0))
-      → (c : ℕ) → c < S .grid .cells → carried S c ≡ S .old .mass c +ℤ dirs (S .lat .q) (flow S c)
-  unfolding carried flow pair-flow tradedMass traded
-  carried-flow cl m c h = go (S .old .flag c) refl
+      → (c : ℕ) → c < S .grid .cells → movedMass S c ≡ S .old .mass c +ℤ dirs (S .lat .q) (flow S c)
+  unfolding movedMass flow pair-flow tradedMass traded
+  moved-flow cl m c h = go (S .old .flag c) refl
     where
-      bring : (f : ℕ) → S .old .flag c ≡ f → carried S c ≡ byFlag f (pos 0) (tradedMass S c) (newDensity S c) (pos 0)
+      bring : (f : ℕ) → S .old .flag c ≡ f → movedMass S c ≡ byFlag f (pos 0) (tradedMass S c) (newDensity S c) (pos 0)
       bring f e = ap (λ (k : ℕ). byFlag k (pos 0) (tradedMass S c) (newDensity S c) (pos 0)) e
 
       had : (f : ℕ) → S .old .flag c ≡ f → S .old .mass c ≡ byFlag f (pos 0) (S .old .mass c) (oldDensity S c) (pos 0)
@@ -351,7 +348,7 @@ module _ (S : Scene) (p : Paired (S .lat)) (l : Laid (S .lat) (S .grid)) (w : Wa
       ran f e i =
           ap (λ (k : ℕ). pair-flow k (S .old .flag (S .grid .near c i)) (exchange (S .old .fill c + S .old .fill (S .grid .near c i)) (difference S c i)) (difference S c i)) e
 
-      go : (f : ℕ) → S .old .flag c ≡ f → carried S c ≡ S .old .mass c +ℤ dirs (S .lat .q) (flow S c)
+      go : (f : ℕ) → S .old .flag c ≡ f → movedMass S c ≡ S .old .mass c +ℤ dirs (S .lat .q) (flow S c)
       go zero e = bring zero e ∙ sym (ap₂ (λ (x y : ℤ). x +ℤ y) (had zero e) (sum-zero (S .lat .q) (λ a. flow S c (suc a)) (λ a k. ran zero e (suc a))))
       go (suc zero) e =
           bring 1 e ∙ ap (λ (t : ℤ). S .old .mass c +ℤ t) (sym (sum-cong (S .lat .q) (λ a. flow S c (suc a)) (λ a. traded S c (suc a)) (λ a k. ran 1 e (suc a))))
@@ -375,7 +372,7 @@ module _ (S : Scene) (p : Paired (S .lat)) (l : Laid (S .lat) (S .grid)) (w : Wa
       (ap (λ (t : ℤ). sum n (baseMass S) +ℤ t) (sym (sum-add n (λ c. dirs (S .lat .q) (gift S c)) (toCarry S)))
       ∙ sym (sum-add n (baseMass S) (λ c. dirs (S .lat .q) (gift S c) +ℤ toCarry S c))
       ∙ sum-cong n (λ c. baseMass S c +ℤ (dirs (S .lat .q) (gift S c) +ℤ toCarry S c)) (λ c. S .old .mass c +ℤ dirs (S .lat .q) (flow S c))
-      (λ c h. ap (λ (t : ℤ). baseMass S c +ℤ t) (all-given S c) ∙ base-carried S c ∙ carried-flow cl m c h)
+      (λ c h. ap (λ (t : ℤ). baseMass S c +ℤ t) (all-given S c) ∙ base-moved S c ∙ moved-flow cl m c h)
       ∙ sum-add n (S .old .mass) (λ c. dirs (S .lat .q) (flow S c))
       ∙ ap (λ (t : ℤ). sum n (S .old .mass) +ℤ t) no-flow ∙ +ℤ-idr (sum n (S .old .mass)))
     where

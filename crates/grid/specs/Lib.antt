@@ -6,3 +6,4 @@ pub mod Outcome
 pub mod Demands
 pub mod Promise
 pub mod Passes
+pub mod Between
