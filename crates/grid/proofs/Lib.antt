@@ -20,3 +20,4 @@ pub mod Lists
 pub mod Walls
 pub mod Beside
 pub mod Prepared
+pub mod Blocks
