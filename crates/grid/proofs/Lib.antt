@@ -21,3 +21,7 @@ pub mod Walls
 pub mod Beside
 pub mod Prepared
 pub mod Blocks
+pub mod Stores
+pub mod Spans
+pub mod Arrivals
+pub mod Mirrored

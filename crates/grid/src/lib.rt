@@ -5,6 +5,7 @@ pub mod extent;
 pub mod fluid;
 pub mod layer;
 pub mod neighbours;
+pub mod streaming;
 
 // The sides of a grid, in cells.
 pub struct Sides {
