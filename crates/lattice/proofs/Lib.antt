@@ -1,3 +1,4 @@
+pub mod Collision
 pub mod Fills
 pub mod Momentum
 pub mod Pairs
