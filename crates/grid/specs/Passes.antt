@@ -25,6 +25,10 @@ offsetOf s i = toward d3q19 (s .nx) (s .ny) (lowOf s) i
 unfoldable pub besideAt : List ℕ → List ℕ → ℕ → ℕ → Bool
 besideAt bytes off k m = anyDir 18 (λ i. eqb (getD bytes (k + getD off i 0) 0) m)
 
+-- every offset leads to a byte
+pub record Reach (bytes off : List ℕ) (k : ℕ) : Type 0 where
+  pub all : (i : ℕ) → i < 19 → k + getD off i 0 < length bytes
+
 -- a cell whose neighbours are all cells
 pub record Inner (s : Sides) (c : ℕ) : Type 0 where
   pub low : lowOf s ≤ c
