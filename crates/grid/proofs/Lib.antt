@@ -5,3 +5,5 @@ pub mod Copies
 pub mod Lists
 pub mod Walls
 pub mod Beside
+pub mod Ranges
+pub mod Marking

@@ -3,6 +3,7 @@ pub mod copying;
 pub mod extent;
 pub mod fluid;
 pub mod layer;
+pub mod marks;
 pub mod neighbours;
 
 // The sides of a grid, in cells.
