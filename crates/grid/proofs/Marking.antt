@@ -1,12 +1,12 @@
 -- The passes over marks: the range that their loops go over is the cells with neighbours, and what they find by offsets is what the grid's neighbours
 -- have. Assumes nothing.
 use mathlib.Core.Path.{_≡_, refl, sym, ap, ap₂, _∙_}
-use mathlib.Core.Bool.{Bool, true, false, _&&_, cond}
+use mathlib.Core.Bool.{Bool, true, false, _&&_, cond, false≢true}
 use mathlib.Core.List.{List}
 use Prim.Native.Nat.{ℕ, suc, _+_, _-_, _*_, _≤_, _<_}
 use native.Mathlib.Nat.{mul-le-mul-left}
 use native.Mathlib.Omega.{arith}
-use native.Mathlib.Decide.{decLt}
+use native.Mathlib.Decide.{decLt, ℕ-discrete}
 use lib.Dec.{leb, ltb, eqb}
 use lib.ListN.{length, getD}
 use borrow.Author.Tests.{leb-true, ltb-true, eqb-true, le-leb, lt-ltb, eq-eqb, ne-eqb}
@@ -14,8 +14,11 @@ use Rattle.whole.specs.Bools.{and-left, and-right, and-true, cond-yes, cond-no}
 use Rattle.whole.specs.Fold.{tab}
 use Rattle.grid.specs.declared.Sides.{Sides}
 use Rattle.grid.specs.Grid.{sidesGood, cellsOf}
-use Rattle.grid.specs.Passes.{Inner, lowOf, inside, besideAt, besideIn, openMark, openedMark, settledMark, Emptying}
+use Rattle.grid.specs.Passes.{Inner, lowOf, inside, besideAt, besideIn, openMark, openedMark, settledMark, Emptying, turnedFlag, Marked, Flagged, flagOf}
+use Rattle.grid.specs.Step.{flagAfter}
 use Rattle.grid.proofs.GoodSides.{good-sides}
+use Rattle.grid.proofs.Walls.{inner}
+use Rattle.grid.proofs.Lists.{getD-there}
 use Rattle.grid.proofs.Beside.{Offsets, beside-is, any-cong}
 use Rattle.grid.proofs.Ranges.{ltb-same, ranged, Ranged, ranged-all}
 
@@ -120,3 +123,46 @@ module _ {s : Sides} {off : List ℕ} {low : ℕ} (o : Offsets s off low) (marks
 
   pub settled : (out : List ℕ) (c : ℕ) → Ranged 0 (settledAt marks off low) marks 0 (length marks) out c → length marks ≤ c → out ≡ tab (cellsOf s) (settledMark s marks)
   settled out c r h = ranged-all 0 (settledAt marks off low) marks 0 (length marks) out c (cellsOf s) (settledMark s marks) r h (w .count) settled-is
+
+-- a cell outside that range is wall
+outside : {s : Sides} {flags : List ℕ} → Flagged s flags → (c : ℕ) → c < length flags → inside s c ≡ false → getD flags c 0 ≡ 3
+outside {s} {flags} w c h e = by (ℕ-discrete (getD flags c 0) 3)
+  where
+    by : Dec (getD flags c 0 ≡ 3) → getD flags c 0 ≡ 3
+    by (yes p) = p
+    by (no f) = absurd (false≢true (sym e ∙ inner-inside s c (inner w c h f)))
+
+-- pass 3, by offsets
+abbrev pub turnedAt : List ℕ → List ℕ → List ℕ → ℕ → ℕ → ℕ
+turnedAt flags marks off low c =
+    flagAfter (getD flags c 0) (besideAt marks off (c - low) 1) (eqb (getD marks c 0) 1) (eqb (getD marks c 0) 2) (besideAt marks off (c - low) 2)
+
+module _ {s : Sides} {off : List ℕ} {low : ℕ} (o : Offsets s off low) (flags marks : List ℕ) (w : Marked s flags marks) where
+  abbrev n : ℕ
+  n = length flags
+
+  turned-is : (c : ℕ) → c < cellsOf s → ranged 0 (turnedAt flags marks off low) flags low (n - low) c ≡ turnedFlag s flags marks c
+  unfolding turnedFlag
+  turned-is c h = by (inside s c) refl
+    where
+      there : c < length flags
+      there = omega (arith, w .flagged .count)
+
+      wall : (f : ℕ) (a b d e : Bool) → f ≡ 3 → f ≡ flagAfter f a b d e
+      wall f a b d e p = rw p refl
+
+      by : (t : Bool) → inside s c ≡ t
+          → ranged 0 (turnedAt flags marks off low) flags low (n - low) c
+          ≡ flagAfter (flagOf flags c) (besideIn s marks 1 c) (eqb (getD marks c 0) 1) (eqb (getD marks c 0) 2) (besideIn s marks 2 c)
+      by true e =
+          let g = inside-inner s c e in
+          cond-yes (turnedAt flags marks off low c) (getD flags c 0) (range-is s low n c (o .lowest) (w .flagged .count) ∙ e)
+          ∙ rw (beside-same o marks 1 c (w .count) g, beside-same o marks 2 c (w .count) g, getD-there flags c 0 3 there) refl
+      by false e =
+          cond-no (turnedAt flags marks off low c) (getD flags c 0) (range-is s low n c (o .lowest) (w .flagged .count) ∙ e)
+          ∙ getD-there flags c 0 3 there
+          ∙ wall (flagOf flags c) (besideIn s marks 1 c) (eqb (getD marks c 0) 1) (eqb (getD marks c 0) 2) (besideIn s marks 2 c)
+          (getD-there flags c 3 0 there ∙ outside (w .flagged) c there e)
+
+  pub turned : (out : List ℕ) (c : ℕ) → Ranged 0 (turnedAt flags marks off low) flags low (n - low) out c → n - low ≤ c → out ≡ tab (cellsOf s) (turnedFlag s flags marks)
+  turned out c r h = ranged-all 0 (turnedAt flags marks off low) flags low (n - low) out c (cellsOf s) (turnedFlag s flags marks) r h (w .flagged .count) turned-is
