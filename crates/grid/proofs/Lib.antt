@@ -23,3 +23,5 @@ pub mod Prepared
 pub mod Moved
 pub mod Quiet
 pub mod Fair
+pub mod Ranges
+pub mod Marking
