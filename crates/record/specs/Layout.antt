@@ -4,12 +4,13 @@ use mathlib.Core.Bool.{Bool, true, false, _&&_}
 use mathlib.Core.List.{List, [], _∷_, _++_}
 use lib.IntN.{ℤ, pos}
 use lib.Dec.{eqb}
+use lib.ListN.{getD}
 use Rattle.whole.specs.Fold.{count}
 use Rattle.lattice.specs.Cell.{edgeGood, coordinateGood}
 use Rattle.lattice.specs.declared.Settings.{Settings}
 use Rattle.grid.specs.declared.Sides.{Sides}
 use Rattle.grid.specs.Grid.{cellsOf}
-use Rattle.grid.specs.State.{Lent, State, stateOf, byFlag, liquid}
+use Rattle.grid.specs.State.{Lent, stateOf, byFlag, liquid}
 use Rattle.grid.specs.Outcome.{settingsGood}
 use Rattle.record.specs.declared.Site.{Site}
 use Rattle.record.specs.Bytes.{u32Of, i32Of, i64Of, join, gathered}
@@ -17,6 +18,10 @@ use Rattle.record.specs.Bytes.{u32Of, i32Of, i64Of, join, gathered}
 -- p, gravity, cell edge and origin coordinates in their ranges: what refusal 3 asks of a record
 unfoldable pub siteGood : Settings → Site → Bool
 siteGood g t = settingsGood g && edgeGood (t .edge) && coordinateGood (t .x) && coordinateGood (t .y) && coordinateGood (t .z)
+
+-- the flag of a cell, among N flags
+abbrev pub flagOf : List ℕ → ℕ → ℕ
+flagOf flags c = getD flags c 3
 
 -- how many of the first n cells are interface, and how many liquid; I and L are those of all N
 unfoldable pub interfaces : ℕ → (ℕ → ℕ) → ℕ
@@ -40,15 +45,15 @@ abbrev pub section : ℕ → List (List ℕ) → List ℕ
 section n numbers = u32Of n ++ join numbers
 
 -- interface masses by cell number
-unfoldable pub massBytes : ℕ → State → List ℕ
-massBytes n s = gathered n (λ c. byFlag (s .flag c) [] (i32Of (s .mass c)) [] [])
+unfoldable pub massBytes : ℕ → (ℕ → ℕ) → (ℕ → ℤ) → List ℕ
+massBytes n flag mass = gathered n (λ c. byFlag (flag c) [] (i32Of (mass c)) [] [])
 
 -- parts of liquid cells by cell number, 19 each
-unfoldable pub cellBytes : State → ℕ → List ℕ
-cellBytes s c = gathered 19 (λ k. i32Of (s .part c k))
+unfoldable pub cellBytes : (ℕ → ℤ) → List ℕ
+cellBytes part = gathered 19 (λ k. i32Of (part k))
 
-unfoldable pub partBytes : ℕ → State → List ℕ
-partBytes n s = gathered n (λ c. byFlag (s .flag c) [] (cellBytes s c) (cellBytes s c) [])
+unfoldable pub partBytes : ℕ → (ℕ → ℕ) → (ℕ → ℕ → ℤ) → List ℕ
+partBytes n flag part = gathered n (λ c. byFlag (flag c) [] (cellBytes (part c)) (cellBytes (part c)) [])
 
 -- the record of a grid: 3 sides (u32); 5 settings p, gx, gy, gz, edge (i32); 3 origin (i64); 1 carry (i64); N flags (u8); masses; parts
 unfoldable pub recordOf : Sides → Settings → Site → Lent → List ℕ
@@ -61,8 +66,8 @@ recordOf s g t a =
     ∷ section 3 (i64Of (t .x) ∷ i64Of (t .y) ∷ i64Of (t .z) ∷ [])
     ∷ section 1 (i64Of (h .carry) ∷ [])
     ∷ section n (a .flags ∷ [])
-    ∷ section (interfaces n (h .flag)) (massBytes n h ∷ [])
-    ∷ section (19 * liquids n (h .flag)) (partBytes n h ∷ [])
+    ∷ section (interfaces n (h .flag)) (massBytes n (h .flag) (h .mass) ∷ [])
+    ∷ section (19 * liquids n (h .flag)) (partBytes n (h .flag) (h .part) ∷ [])
     ∷ [])
 
 -- its length, 92 + N + 4I + 76L

@@ -1,5 +1,7 @@
 // Layer 2, the grid record: its reader and its writer. Knows the promises of grid.
+mod count;
 mod number;
+mod put;
 
 use grid::Answer;
 use grid::Sides;
