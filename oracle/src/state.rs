@@ -112,10 +112,7 @@ impl State {
             mass: i128::from(set.masses[c]),
             fill: i128::from(set.fills[c]),
         };
-        State {
-            cells: (0..set.flags.len()).map(cell).collect(),
-            carry: i128::from(set.carry[0]),
-        }
+        State { cells: (0..set.flags.len()).map(cell).collect(), carry: i128::from(set.carry[0]) }
     }
 
     pub fn work_out_fills(&mut self) {

@@ -6,9 +6,7 @@ use crate::lattice::{
 };
 use crate::sets::{Set, SetMut};
 use crate::settings::test_flow;
-use crate::state::{
-    density_allowed, good_state, speed_allowed, Cell, State, EMPTY, FLUID, INTERFACE, WALL,
-};
+use crate::state::{density_allowed, good_state, speed_allowed, Cell, State, EMPTY, FLUID, INTERFACE, WALL};
 
 /// Stage 3's density and momentum of a cell: ρ' and j' with gravity.
 #[derive(Clone, Copy, Debug, PartialEq, Eq)]
@@ -178,9 +176,8 @@ pub fn draft(grid: &Grid, old: &State, p: i32, gravity: [i32; 3]) -> Result<Draf
             fates[c] = Fate::Filled;
         }
     }
-    let beside = |fates: &[Fate], c: usize, fate: Fate| {
-        grid.neighbours(c).any(|neighbour| fates[neighbour] == fate)
-    };
+    let beside =
+        |fates: &[Fate], c: usize, fate: Fate| grid.neighbours(c).any(|neighbour| fates[neighbour] == fate);
     for c in cells.clone() {
         if was(c) == INTERFACE && runs_dry(mass[c], rho(c)) && !beside(&fates, c, Fate::Filled) {
             fates[c] = Fate::Emptied;
@@ -209,8 +206,7 @@ pub fn draft(grid: &Grid, old: &State, p: i32, gravity: [i32; 3]) -> Result<Draf
         let n = normal(grid, old, c);
         let targets: Vec<usize> =
             (1..19).filter(|&k| next.cells[grid.near(c, k)].flag == INTERFACE).collect();
-        let weights: Vec<i128> =
-            targets.iter().map(|&k| (sign * dot(&n, &DIRECTIONS[k])).max(0)).collect();
+        let weights: Vec<i128> = targets.iter().map(|&k| (sign * dot(&n, &DIRECTIONS[k])).max(0)).collect();
         for (k, share) in targets.iter().zip(shares(excess, &weights)) {
             next.cells[grid.near(c, *k)].mass += share;
         }

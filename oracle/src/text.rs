@@ -70,8 +70,7 @@ pub fn gridrun(bytes: &[u8], steps: u32) -> Vec<u8> {
         second.lend_mut(),
         &mut marks,
     );
-    let mut output =
-        format!("run {} {}\n", outcome.count, number_and_place(outcome.refusal)).into_bytes();
+    let mut output = format!("run {} {}\n", outcome.count, number_and_place(outcome.refusal)).into_bytes();
     if outcome.refusal.is_none_or(|refusal| matches!(refusal.number, 7 | 8)) {
         // Enough for n cells that are all interface.
         let mut room = vec![0; 92 + 81 * n];
@@ -98,8 +97,9 @@ pub fn gridread(bytes: &[u8], queries: &[Query]) -> String {
     };
     let sides = reading.sides;
     let answer = |query: &Query| match *query {
-        Query::Place(point) => place(sides, reading.settings.edge, reading.origin, point)
-            .map(|cell| format!("cell {cell}")),
+        Query::Place(point) => {
+            place(sides, reading.settings.edge, reading.origin, point).map(|cell| format!("cell {cell}"))
+        }
         Query::Point(cell) => cell_point(sides, &store.fills, cell).map(|point| {
             let [x, y, z] = point.halves;
             format!("point {x}/2 {y}/2 {z}/2 {}/65536", point.fill)

@@ -3,3 +3,7 @@ pub mod State
 pub mod Step
 pub mod Good
 pub mod Outcome
+pub mod Demands
+pub mod Promise
+pub mod Passes
+pub mod Between

@@ -1,5 +1,9 @@
 // Layer 2, the grid: states, check, step and run. Knows the promises of lattice.
+pub mod copying;
 pub mod extent;
+pub mod fluid;
+pub mod layer;
+pub mod neighbours;
 
 // The sides of a grid, in cells.
 pub struct Sides {

@@ -1,0 +1,15 @@
+-- The table of worked figures holds: every figure marked with a star is what the definitions give. Assumes nothing.
+use lib.Dec.{T}
+use Rattle.whole.specs.Fold.{open-fold}
+use Rattle.lattice.specs.Lattice.{open-lattice}
+use Rattle.lattice.specs.Cell.{open-cell}
+use Rattle.grid.specs.Grid.{open-grid}
+use Rattle.grid.specs.State.{open-state}
+use Rattle.grid.specs.Step.{open-step}
+use Rattle.grid.specs.Good.{open-good}
+use Rattle.grid.specs.Outcome.{open-outcome}
+use Rattle.figures.specs.Table.{figures, hold}
+
+pub stars : T (hold figures)
+unfolding open-fold open-lattice open-cell open-grid open-state open-step open-good open-outcome
+stars = tt

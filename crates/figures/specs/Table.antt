@@ -1,0 +1,75 @@
+-- Every figure that document 01 marks with a star, in one table: what the definitions give, and what the document says. Assumes nothing.
+use mathlib.Core.Bool.{Bool, true, false, _&&_, cond}
+use mathlib.Core.List.{List, [], _∷_, _++_, map}
+use Prim.Native.Nat.{ℕ}
+use lib.IntN.{ℤ, pos, negsuc}
+use lib.ListN.{getD}
+use Rattle.lattice.specs.Cell.{fillOf, exchange, over, under, share, gravityGood}
+use Rattle.grid.specs.State.{Lent}
+use Rattle.grid.specs.Good.{eqZ}
+use Rattle.grid.specs.Outcome.{numberOf, placeOf, stepAnswer, stepSecond, stepMarks}
+use Rattle.figures.specs.Cases.{sides, settings, falling, single, rest, fallen, caseT, marks}
+
+-- a figure: what the definitions give, and what the document says
+pub record Figure : Type 0 where
+  pub worked : List ℤ
+  pub said : List ℤ
+
+abbrev one : ℤ → ℤ → Figure
+one a b = record { worked = a ∷ []; said = b ∷ [] }
+
+abbrev bit : Bool → ℤ
+bit b = cond b (pos 1) (pos 0)
+
+-- a set as one list
+abbrev pub flat : Lent → List ℤ
+flat a = map pos (a .flags) ++ a .parts ++ a .masses ++ map pos (a .fills) ++ a .carry
+
+-- weights 1, 1, 2 of directions 1, 2, 3
+abbrev weights : ℕ → ℤ
+weights k = getD (pos 0 ∷ pos 1 ∷ pos 1 ∷ pos 2 ∷ []) k (pos 0)
+
+abbrev ONE : ℤ
+ONE = pos 589824
+
+-- the table
+abbrev pub figures : List Figure
+figures =
+    -- exchange: fills add to 98,304, d = −3 gives −2, d = 3 gives 2
+    one (exchange 98304 (negsuc 2)) (negsuc 1)
+    ∷ one (exchange 98304 (pos 3)) (pos 2)
+    -- ρ = 589,824: m 590,413 not filled, 590,414 filled; −589 not emptied, −590 emptied
+    ∷ one (bit (over (pos 590413) ONE)) (pos 0)
+    ∷ one (bit (over (pos 590414) ONE)) (pos 1)
+    ∷ one (bit (under (negsuc 588) ONE)) (pos 0)
+    ∷ one (bit (under (negsuc 589) ONE)) (pos 1)
+    -- fill at that ρ: m 294,912 gives 32,768; 589,823 gives 65,535; −1 gives 0; 600,000 gives 65,536
+    ∷ one (pos (fillOf (pos 294912) ONE)) (pos 32768)
+    ∷ one (pos (fillOf (pos 589823) ONE)) (pos 65535)
+    ∷ one (pos (fillOf (negsuc 0) ONE)) (pos 0)
+    ∷ one (pos (fillOf (pos 600000) ONE)) (pos 65536)
+    -- excess 10, weights 1, 1, 2: 3, 2, 5; excess −10: −3, −2, −5
+    ∷ record { worked = share 3 (pos 10) weights 1 ∷ share 3 (pos 10) weights 2 ∷ share 3 (pos 10) weights 3 ∷ []; said = pos 3 ∷ pos 2 ∷ pos 5 ∷ [] }
+    ∷ record { worked = share 3 (negsuc 9) weights 1 ∷ share 3 (negsuc 9) weights 2 ∷ share 3 (negsuc 9) weights 3 ∷ []; said = negsuc 2 ∷ negsuc 1 ∷ negsuc 4 ∷ [] }
+    -- gravity (34,0,−1048) accepted, (35,0,−1048) refused, 3
+    ∷ one (bit (gravityGood (pos 34) (pos 0) (negsuc 1047))) (pos 1)
+    ∷ one (bit (gravityGood (pos 35) (pos 0) (negsuc 1047))) (pos 0)
+    ∷ one (pos (numberOf (stepAnswer sides (record { p = pos 1024; gx = pos 35; gy = pos 0; gz = negsuc 1047 }) caseT caseT marks))) (pos 3)
+    -- case T, through the whole outcome of a step
+    ∷ record {
+      worked = pos (numberOf (stepAnswer sides falling caseT caseT marks)) ∷ pos (placeOf (stepAnswer sides falling caseT caseT marks)) ∷ [];
+      said = pos 0 ∷ pos 0 ∷ [];
+    }
+    ∷ record { worked = flat (stepSecond sides falling caseT caseT marks); said = flat (single fallen) }
+    ∷ []
+
+-- two lists of numbers are the same
+abbrev pub sameZ : List ℤ → List ℤ → Bool
+sameZ [] [] = true
+sameZ [] (b ∷ ys) = false
+sameZ (a ∷ xs) [] = false
+sameZ (a ∷ xs) (b ∷ ys) = eqZ a b && sameZ xs ys
+
+abbrev pub hold : List Figure → Bool
+hold [] = true
+hold (f ∷ fs) = sameZ (f .worked) (f .said) && hold fs

@@ -1,0 +1,91 @@
+-- Counted: the run's count is the largest number of leading accepted steps, the state reached is that of so many steps, and where the count falls short of
+-- the steps asked, the step that stopped it is refused with the answer given. Assumes nothing.
+use mathlib.Core.Path.{_≡_, refl, sym, ap, _∙_, subst}
+use mathlib.Core.Bool.{Bool, true, false, false≢true}
+use mathlib.Core.List.{List}
+use Prim.Native.Nat.{ℕ, zero, suc, _+_, _≤_, _<_}
+use native.Mathlib.Nat.{le-of-suc-le-suc}
+use native.Mathlib.Omega.{arith}
+use Rattle.lattice.specs.declared.Settings.{Settings}
+use Rattle.grid.specs.declared.Sides.{Sides}
+use Rattle.grid.specs.declared.Answer.{Answer}
+use Rattle.grid.specs.declared.Answer.the-variants.{Done}
+use Rattle.grid.specs.State.{Lent}
+use Rattle.grid.specs.Outcome.{accepted, stepAnswer, nextOf, Ran, ran}
+
+module _ (s : Sides) (g : Settings) (marks : List ℕ) where
+  -- the set after k steps
+  unfoldable pub after : ℕ → Lent → Lent
+  after zero a = a
+  after (suc k) a = after k (nextOf s g a)
+
+  -- the first k steps are accepted
+  abbrev pub Leading : ℕ → Lent → Type 0
+  Leading k a = (j : ℕ) → j < k → accepted (stepAnswer s g (after j a) (after j a) marks) ≡ true
+
+  -- what is claimed of a run of some steps
+  pub record Counted (steps : ℕ) (a : Lent) (r : Ran) : Type 0 where
+    pub at-most : r .count ≤ steps
+    pub leading : Leading (r .count) a
+    pub largest : (k : ℕ) → k ≤ steps → Leading k a → k ≤ r .count
+    pub reached-is : r .reached ≡ after (r .count) a
+    pub all-made : r .count ≡ steps → r .stop ≡ Done
+    pub stopped : r .count < steps → (r .stop ≡ stepAnswer s g (r .reached) (r .reached) marks) × (accepted (r .stop) ≡ false)
+
+abbrev pub Claim : Type 0
+Claim = (s : Sides) (g : Settings) (marks : List ℕ) (steps : ℕ) (a : Lent) → Counted s g marks steps a (ran s g marks steps a)
+
+module _ (s : Sides) (g : Settings) (marks : List ℕ) where
+  first-made : (k : ℕ) (a : Lent) → accepted (stepAnswer s g a a marks) ≡ true → Leading s g marks k (nextOf s g a) → Leading s g marks (suc k) a
+  unfolding after
+  first-made k a e l zero h = e
+  first-made k a e l (suc j) h = l j (le-of-suc-le-suc h)
+
+  first-off : (k : ℕ) (a : Lent) → Leading s g marks (suc k) a → Leading s g marks k (nextOf s g a)
+  unfolding after
+  first-off k a l j h = l (suc j) (omega arith)
+
+  more : (steps : ℕ) (a : Lent) (b : Bool) → accepted (stepAnswer s g a a marks) ≡ b → Counted s g marks steps (nextOf s g a) (ran s g marks steps (nextOf s g a))
+      → Counted s g marks (suc steps) a (ran s g marks (suc steps) a)
+  unfolding ran after
+  more steps a true e c =
+      let r = ran s g marks steps (nextOf s g a) in
+      rw (e, ran)
+      (record {
+        at-most = omega (arith, c .at-most);
+        leading = first-made (r .count) a e (c .leading);
+        largest = λ k h l. largest k h l;
+        reached-is = c .reached-is;
+        all-made = λ q. c .all-made (omega arith);
+        stopped = λ q. c .stopped (omega arith);
+      })
+    where
+      largest : (k : ℕ) → k ≤ suc steps → Leading s g marks k a → k ≤ suc (ran s g marks steps (nextOf s g a) .count)
+      largest zero h l = omega arith
+      largest (suc k) h l = let m = c .largest k (le-of-suc-le-suc h) (first-off k a l) in omega arith
+  more steps a false e c =
+      rw (e, ran)
+      (record {
+        at-most = omega arith;
+        leading = λ j h. absurd (omega arith);
+        largest = λ k h l. none k l;
+        reached-is = refl;
+        all-made = λ q. absurd (omega arith);
+        stopped = λ q. (refl, e);
+      })
+    where
+      none : (k : ℕ) → Leading s g marks k a → k ≤ 0
+      none zero l = omega arith
+      none (suc k) l = absurd (false≢true (sym e ∙ l 0 (omega arith)))
+
+pub counted-holds : Claim
+unfolding ran after
+counted-holds s g marks zero a = record {
+  at-most = omega arith;
+  leading = λ j h. absurd (omega arith);
+  largest = λ k h l. h;
+  reached-is = refl;
+  all-made = λ q. refl;
+  stopped = λ q. absurd (omega arith);
+}
+counted-holds s g marks (suc steps) a = more s g marks steps a (accepted (stepAnswer s g a a marks)) refl (counted-holds s g marks steps (nextOf s g a))

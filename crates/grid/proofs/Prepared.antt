@@ -1,0 +1,115 @@
+-- What the passes may take for granted: from tests 1 to 6, that the set is sized and sound, and what each liquid cell then has. Assumes nothing.
+use mathlib.Core.Path.{_≡_, refl, sym, ap, _∙_, subst}
+use mathlib.Core.Bool.{Bool, true, false, _&&_, false≢true}
+use Prim.Native.Nat.{ℕ, zero, suc, _+_, _*_, _≤_, _<_}
+use native.Mathlib.Nat.{lt-suc-self}
+use native.Mathlib.Omega.{arith}
+use lib.IntN.{ℤ, pos, natAbs}
+use lib.Dec.{eqb, leb}
+use lib.ListN.{length}
+use borrow.Author.Tests.{leb-true, eqb-true}
+use Rattle.whole.specs.Bools.{and-left, and-right}
+use Rattle.whole.specs.Fold.{all}
+use Rattle.whole.specs.Machine.{Within}
+use Rattle.whole.specs.Search.{all-at}
+use Rattle.lattice.specs.Lattice.{V3, dot, d3q19, density, momentum}
+use Rattle.lattice.specs.Cell.{partGood, massGood, carryGood, dense, slow}
+use Rattle.lattice.specs.declared.Settings.{Settings}
+use Rattle.grid.specs.declared.Sides.{Sides}
+use Rattle.grid.specs.declared.Answer.{Answer}
+use Rattle.grid.specs.declared.Answer.the-variants.{Done}
+use Rattle.grid.specs.Grid.{cellsOf, sidesGood, gridOf, box}
+use Rattle.grid.specs.State.{Lent, State, Scene, byFlag, liquid, stateOf}
+use Rattle.grid.specs.Step.{oldDensity, oldMomentum, fillFor}
+use Rattle.grid.specs.Good.{eqZ, dryGood, bodyGood, interfaceGood, fluidGood, fillGood, cellGood, badRule}
+use Rattle.grid.specs.Outcome.{lengthsGood, settingsGood, goodAnswer, sceneOf}
+use Rattle.grid.specs.Between.{Sized, Ready}
+use Rattle.grid.proofs.Accepted.{Sound, sound, none-found, cell-good, eqZ-true}
+
+pub sized : (n : ℕ) (a : Lent) → lengthsGood n a ≡ true → Sized n a
+unfolding lengthsGood
+sized n a e =
+    let b = and-left (eqb (length (a .flags)) n && eqb (length (a .parts)) (19 * n) && eqb (length (a .masses)) n && eqb (length (a .fills)) n) (eqb (length (a .carry)) 1) e in
+    let c = and-left (eqb (length (a .flags)) n && eqb (length (a .parts)) (19 * n) && eqb (length (a .masses)) n) (eqb (length (a .fills)) n) b in
+    let d = and-left (eqb (length (a .flags)) n && eqb (length (a .parts)) (19 * n)) (eqb (length (a .masses)) n) c in
+    record {
+      flags = eqb-true _ _ (and-left (eqb (length (a .flags)) n) (eqb (length (a .parts)) (19 * n)) d);
+      parts = eqb-true _ _ (and-right (eqb (length (a .flags)) n) (eqb (length (a .parts)) (19 * n)) d);
+      masses = eqb-true _ _ (and-right (eqb (length (a .flags)) n && eqb (length (a .parts)) (19 * n)) (eqb (length (a .masses)) n) c);
+      fills = eqb-true _ _ (and-right (eqb (length (a .flags)) n && eqb (length (a .parts)) (19 * n) && eqb (length (a .masses)) n) (eqb (length (a .fills)) n) b);
+      carry = eqb-true _ _ (and-right (eqb (length (a .flags)) n && eqb (length (a .parts)) (19 * n) && eqb (length (a .masses)) n && eqb (length (a .fills)) n) (eqb (length (a .carry)) 1) e);
+    }
+
+-- what a liquid cell has
+pub record Body (f : ℕ → ℤ) : Type 0 where
+  pub parts : (k : ℕ) → k ≤ 18 → Within (f k) 1179648
+  pub is-dense : dense (density d3q19 f) ≡ true
+  pub is-slow : slow (density d3q19 f) (dot (momentum d3q19 f) (momentum d3q19 f)) ≡ true
+
+pub body : (f : ℕ → ℤ) → bodyGood d3q19 f ≡ true → Body f
+unfolding bodyGood d3q19
+body f e =
+    let l = and-left (all 19 (λ k. partGood (f k)) && dense (density d3q19 f)) (slow (density d3q19 f) (dot (momentum d3q19 f) (momentum d3q19 f))) e in
+    record {
+      parts = λ k h. record { abs = leb-true (natAbs (f k)) 1179648 (all-at 19 (λ k. partGood (f k)) (and-left (all 19 (λ k. partGood (f k))) (dense (density d3q19 f)) l) k (omega arith)) };
+      is-dense = and-right (all 19 (λ k. partGood (f k))) (dense (density d3q19 f)) l;
+      is-slow = and-right (all 19 (λ k. partGood (f k)) && dense (density d3q19 f)) (slow (density d3q19 f) (dot (momentum d3q19 f) (momentum d3q19 f))) e;
+    }
+
+liquid-body : (f : ℕ) (dry b m e : Bool) → liquid f ≡ true → byFlag f dry (b && m) (b && e) dry ≡ true → b ≡ true
+liquid-body zero dry b m e l h = absurd (false≢true l)
+liquid-body (suc zero) dry b m e l h = and-left b m h
+liquid-body (suc (suc zero)) dry b m e l h = and-left b e h
+liquid-body (suc (suc (suc n))) dry b m e l h = absurd (false≢true l)
+
+interface-mass : (f : ℕ) (dry b m e : Bool) → f ≡ 1 → byFlag f dry (b && m) (b && e) dry ≡ true → m ≡ true
+interface-mass f dry b m e l h = and-right b m (subst (λ (k : ℕ). byFlag k dry (b && m) (b && e) dry ≡ true) l h)
+
+module _ (s : Sides) (g : Settings) (a : Lent) (r : Ready s g a) where
+  pub ready-sound : Sound d3q19 (gridOf s) (stateOf 18 a)
+  ready-sound = sound d3q19 (gridOf s) (stateOf 18 a) Done (r .good) .0
+
+  rules : suc (cellsOf s) ≤ badRule d3q19 (cellsOf s) (stateOf 18 a)
+  unfolding goodAnswer gridOf box cellsOf
+  rules =
+      let x = none-found (gridOf s .cells) 4 _ _ (r .good) in
+      let y = none-found (gridOf s .cells) 5 _ _ (x .1) in
+      none-found (suc (gridOf s .cells)) 6 _ _ (y .1) .0
+
+  -- every cell keeps test 6's rules
+  pub ready-cell : (c : ℕ) → c < cellsOf s → cellGood d3q19 (stateOf 18 a) c ≡ true
+  unfolding gridOf box cellsOf
+  ready-cell c h = cell-good d3q19 (gridOf s) (stateOf 18 a) rules c h
+
+  kinds : (c : ℕ) → c < cellsOf s
+      → byFlag (stateOf 18 a .flag c) (dryGood d3q19 (stateOf 18 a) c) (interfaceGood d3q19 (stateOf 18 a) c) (fluidGood d3q19 (stateOf 18 a) c) (dryGood d3q19 (stateOf 18 a) c) ≡ true
+  unfolding cellGood
+  kinds c h =
+      and-left (byFlag (stateOf 18 a .flag c) (dryGood d3q19 (stateOf 18 a) c) (interfaceGood d3q19 (stateOf 18 a) c) (fluidGood d3q19 (stateOf 18 a) c) (dryGood d3q19 (stateOf 18 a) c))
+      (fillGood d3q19 (stateOf 18 a) c) (ready-cell c h)
+
+  -- a liquid cell's parts, density and speed are in their ranges
+  pub ready-body : (c : ℕ) → c < cellsOf s → liquid (stateOf 18 a .flag c) ≡ true → Body (stateOf 18 a .part c)
+  unfolding interfaceGood fluidGood
+  ready-body c h l =
+      body (stateOf 18 a .part c)
+      (liquid-body (stateOf 18 a .flag c) (dryGood d3q19 (stateOf 18 a) c) (bodyGood d3q19 (stateOf 18 a .part c)) (massGood (stateOf 18 a .mass c))
+      (eqZ (stateOf 18 a .mass c) (density d3q19 (stateOf 18 a .part c))) l (kinds c h))
+
+  -- an interface cell's mass too
+  pub ready-mass : (c : ℕ) → c < cellsOf s → stateOf 18 a .flag c ≡ 1 → Within (stateOf 18 a .mass c) 2359296
+  unfolding interfaceGood fluidGood
+  ready-mass c h l =
+      record {
+        abs = leb-true (natAbs (stateOf 18 a .mass c)) 2359296
+            (interface-mass (stateOf 18 a .flag c) (dryGood d3q19 (stateOf 18 a) c) (bodyGood d3q19 (stateOf 18 a .part c)) (massGood (stateOf 18 a .mass c))
+            (eqZ (stateOf 18 a .mass c) (density d3q19 (stateOf 18 a .part c))) l (kinds c h));
+      }
+
+  -- every fill is as document 01 has it
+  pub ready-fill : (c : ℕ) → c < cellsOf s → stateOf 18 a .fill c ≡ fillFor (stateOf 18 a .flag c) (stateOf 18 a .mass c) (density d3q19 (stateOf 18 a .part c))
+  unfolding cellGood fillGood
+  ready-fill c h =
+      eqb-true (stateOf 18 a .fill c) (fillFor (stateOf 18 a .flag c) (stateOf 18 a .mass c) (density d3q19 (stateOf 18 a .part c)))
+      (and-right (byFlag (stateOf 18 a .flag c) (dryGood d3q19 (stateOf 18 a) c) (interfaceGood d3q19 (stateOf 18 a) c) (fluidGood d3q19 (stateOf 18 a) c) (dryGood d3q19 (stateOf 18 a) c))
+      (fillGood d3q19 (stateOf 18 a) c) (ready-cell c h))

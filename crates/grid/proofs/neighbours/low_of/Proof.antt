@@ -1,0 +1,20 @@
+-- `grid::neighbours::low_of` is the cell at (1, 1, 1). Assumes nothing.
+use borrow.Author.Needs.{needs}
+use Rattle.grid.specs.Passes.{lowOf}
+use Rattle.grid.proofs.neighbours.low_of.Statement.{statement}
+use Rattle.grid.proofs.neighbours.low_of.Tie as tie
+use Rattle.grid.proofs.neighbours.low_of.Reads as reads
+use Rattle.grid.proofs.neighbours.low_of.Lts as lts
+use Rattle.grid.proofs.neighbours.cell_at.Reads as cell-at-reads
+
+-- src/neighbours.rt:23:5
+cell-at-requires : tie.Need-cell-at-requires
+cell-at-requires c κs = search needs
+
+-- src/neighbours.rt:19:1
+returns : tie.Need-returns
+unfolding lowOf
+returns c = c .cell-at .ensures
+
+pub low-of-spec : {M : Type 1} → statement M
+low-of-spec = tie.close (tie.spec cell-at-requires returns)

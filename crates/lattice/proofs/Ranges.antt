@@ -1,0 +1,41 @@
+-- Ranges: a number within ±n by two tests, and gravity out of range by one component alone. Assumes nothing.
+use mathlib.Core.Path.{_≡_, refl, sym, _∙_, ap}
+use mathlib.Core.Bool.{Bool, true, false, not, _&&_}
+use Prim.Native.Nat.{ℕ, suc, _+_, _*_, _<_, _≤_}
+use native.Mathlib.Nat.{mul-le-mul}
+use native.Mathlib.Omega.{arith}
+use lib.Dec.{leb, leb·suc-suc}
+use lib.IntN.{ℤ, pos, negsuc, natAbs, _+ℤ_, _*ℤ_}
+use lib.Signed.{leZ}
+use mir.Syntax.{w64}
+use mir.Val.{SFits, toZ, ofZ}
+use mir.Facts.{toZ-ofZ}
+use borrow.Author.Tests.{leb-true, leb-false, lt-leb, not-true, not-false}
+use Rattle.whole.specs.Machine.{Within}
+use Rattle.whole.specs.Ring.{square-pos}
+use Rattle.lattice.specs.Cell.{gravityGood}
+
+and-one : (t : Bool) → (t && true) ≡ t
+and-one true = refl
+and-one false = refl
+
+pub between : (n : ℕ) (z : ℤ) → (leZ z (pos (suc n)) && leZ (negsuc n) z) ≡ leb (natAbs z) (suc n)
+between n (pos k) = and-one (leb k (suc n))
+between n (negsuc k) = sym (leb·suc-suc k n)
+
+-- 1049² is above 1,099,511, and no square takes away from a sum
+sum-of-squares : (x y z : ℤ) → x *ℤ x +ℤ y *ℤ y +ℤ z *ℤ z ≡ pos (natAbs x * natAbs x + natAbs y * natAbs y + natAbs z * natAbs z)
+sum-of-squares x y z = rw (square-pos x, square-pos y, square-pos z)
+
+pub strong : (x y z : ℤ) → 1099511 < natAbs x * natAbs x + natAbs y * natAbs y + natAbs z * natAbs z → gravityGood x y z ≡ false
+unfolding gravityGood
+strong x y z h = ap (λ (s : ℤ). leZ s (pos 1099511)) (sum-of-squares x y z) ∙ lt-leb _ _ h
+
+-- what the answer of `small` tells of its argument, as the machine holds it
+pub large : (z : ℤ) (r : Bool) → SFits w64 z → r ≡ leb (natAbs (toZ w64 (ofZ w64 z))) 1048 → not r ≡ true → 1099511 < natAbs z * natAbs z
+large z r f e t =
+    let h : 1049 ≤ natAbs z = leb-false (natAbs z) 1048 (sym (rw (toZ-ofZ f) at e) ∙ not-true r t) in
+    omega (arith, mul-le-mul h h)
+
+pub little : (z : ℤ) (r : Bool) → SFits w64 z → r ≡ leb (natAbs (toZ w64 (ofZ w64 z))) 1048 → not r ≡ false → Within z 1048
+little z r f e t = record { abs = leb-true (natAbs z) 1048 (sym (rw (toZ-ofZ f) at e) ∙ not-false r t) }

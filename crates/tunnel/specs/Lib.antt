@@ -1,0 +1,5 @@
+pub mod Refusal
+pub mod Exact
+pub mod Place
+pub mod Point
+pub mod Asks

@@ -1,0 +1,19 @@
+// Exact f32: a whole number below 2^24, cast and divided by a power of two.
+ghost use Prim.Native.Nat.{_+_, _*_, _<_};
+ghost use Rattle.tunnel.specs.Exact.{Exactly};
+
+// (2x + 1)/2, the centre of cell x of an axis.
+pub(crate) fn centre(x: usize) -> f32
+    requires { ⌜ x < 128 ⌝ }
+    ensures { λ r. ⌜ Exactly r (2 * x + 1) 2 ⌝ }
+{
+    (2 * x + 1) as f32 / 2.0
+}
+
+// n/65,536: a fill, or a sum of fills, in cells.
+pub(crate) fn share(n: u32) -> f32
+    requires { ⌜ n < 16777216 ⌝ }
+    ensures { λ r. ⌜ Exactly r n 65536 ⌝ }
+{
+    n as f32 / 65536.0
+}

@@ -1,0 +1,111 @@
+// The command line: each program reads standard input or takes seeds, and prints.
+
+use std::io::{Read, Write};
+use std::path::Path;
+use std::process::ExitCode;
+use std::time::Instant;
+
+use oracle::damage::bad;
+use oracle::hunt::{hunt, EVENTS};
+use oracle::scenes::good;
+use oracle::text::{gridread, gridrun, gridstep, Query, GRIDSTEP_BYTES};
+
+const USAGE: &str = "usage: oracle gridstep | gridrun K | gridread [place X Y Z | point C | depth X Y]... \
+| make good|bad SEED | batch good|bad FROM TO DIR (TO itself left out) | hunt SEEDS STEPS";
+
+/// The record of a kind and a seed.
+type Maker = fn(u64) -> Vec<u8>;
+
+fn maker(kind: &str) -> Option<Maker> {
+    match kind {
+        "good" => Some(|seed| good(seed).record()),
+        "bad" => Some(|seed| bad(seed).bytes),
+        _ => None,
+    }
+}
+
+fn queries(mut arguments: &[&str]) -> Option<Vec<Query>> {
+    let mut queries = Vec::new();
+    while !arguments.is_empty() {
+        let (query, rest) = match arguments {
+            ["place", x, y, z, rest @ ..] => {
+                (Query::Place([x.parse().ok()?, y.parse().ok()?, z.parse().ok()?]), rest)
+            }
+            ["point", cell, rest @ ..] => (Query::Point(cell.parse().ok()?), rest),
+            ["depth", x, y, rest @ ..] => (Query::Depth(x.parse().ok()?, y.parse().ok()?), rest),
+            _ => return None,
+        };
+        queries.push(query);
+        arguments = rest;
+    }
+    Some(queries)
+}
+
+fn input(most: u64) -> std::io::Result<Vec<u8>> {
+    let mut bytes = Vec::new();
+    std::io::stdin().take(most).read_to_end(&mut bytes)?;
+    Ok(bytes)
+}
+
+fn print(bytes: &[u8]) -> std::io::Result<ExitCode> {
+    std::io::stdout().write_all(bytes)?;
+    Ok(ExitCode::SUCCESS)
+}
+
+fn hunted(seeds: u64, steps: u32) -> ExitCode {
+    let start = Instant::now();
+    match hunt(seeds, steps) {
+        Ok(tally) => {
+            for event in EVENTS {
+                println!("{:>10}  {event}", tally.count(event));
+            }
+            println!("{:>10.1}  seconds", start.elapsed().as_secs_f64());
+            println!("hunt: {seeds} seeds, {} steps, nothing found", tally.count("steps accepted"));
+            ExitCode::SUCCESS
+        }
+        Err(finding) => {
+            println!("hunt: {finding}");
+            ExitCode::FAILURE
+        }
+    }
+}
+
+/// Does what the arguments ask; none where they ask for nothing.
+fn obey(arguments: &[&str]) -> Option<std::io::Result<ExitCode>> {
+    Some(match arguments {
+        // One byte more than gridstep takes, so that it sees the excess.
+        ["gridstep"] => input(GRIDSTEP_BYTES as u64 + 1).and_then(|bytes| print(gridstep(&bytes).as_bytes())),
+        ["gridrun", steps] => {
+            let steps = steps.parse().ok()?;
+            input(u64::MAX).and_then(|bytes| print(&gridrun(&bytes, steps)))
+        }
+        ["gridread", rest @ ..] => {
+            let queries = queries(rest)?;
+            input(u64::MAX).and_then(|bytes| print(gridread(&bytes, &queries).as_bytes()))
+        }
+        ["make", kind, seed] => print(&maker(kind)?(seed.parse().ok()?)),
+        ["batch", kind, from, to, folder] => {
+            let (make, from, to): (_, u64, u64) = (maker(kind)?, from.parse().ok()?, to.parse().ok()?);
+            let file = |seed: u64| Path::new(folder).join(format!("{seed}.rec"));
+            (from..to).try_for_each(|seed| std::fs::write(file(seed), make(seed))).map(|()| ExitCode::SUCCESS)
+        }
+        ["hunt", seeds, steps] => Ok(hunted(seeds.parse().ok()?, steps.parse().ok()?)),
+        _ => return None,
+    })
+}
+
+fn main() -> ExitCode {
+    let arguments: Vec<String> = std::env::args().skip(1).collect();
+    let arguments: Vec<&str> = arguments.iter().map(String::as_str).collect();
+    match obey(&arguments) {
+        Some(Ok(code)) => code,
+        Some(Err(error)) => {
+            eprintln!("oracle: {error}");
+            ExitCode::FAILURE
+        }
+        None => {
+            eprintln!("{USAGE}");
+            ExitCode::from(2)
+        }
+    }
+}

@@ -1,2 +1,0 @@
-pub mod Lattice
-pub mod Cell

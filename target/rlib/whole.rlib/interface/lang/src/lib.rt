@@ -1,1 +1,0 @@
-pub fn wide ( x : i32 ) -> i64 ;
