@@ -6,7 +6,7 @@ use mathlib.Core.Bool.{Bool, true, false, cond}
 use mathlib.Core.List.{List, [], _∷_, _++_}
 use mathlib.Core.Logic.{_⊎_, inl, inr}
 use Prim.Native.Nat.{ℕ, zero, suc, _+_, _*_, _≤_, _<_}
-use native.Mathlib.Nat.{le-step, lt-suc-self, le-refl, eq-or-lt-of-le, le-of-suc-le-suc, le-of-eq, le-of-lt, not-suc-le-zero}
+use native.Mathlib.Nat.{le-step, lt-suc-self, le-refl, eq-or-lt-of-le, le-of-suc-le-suc, le-of-eq, le-of-lt}
 use native.Mathlib.Numerals.{add-one}
 use native.Mathlib.Omega.{arith}
 use lib.IntN.{ℤ}
@@ -18,8 +18,10 @@ use mir.Syntax.{w32}
 use mir.Val.{ofZ}
 use Rattle.whole.specs.Fold.{count}
 use Rattle.grid.specs.State.{byFlag, liquid}
+use Rattle.grid.specs.Passes.{flagOf}
+use Rattle.grid.proofs.Lists.{getD-there}
 use Rattle.record.specs.Bytes.{gathered, bytesOf, i32Of}
-use Rattle.record.specs.Layout.{flagOf, interfaces, liquids, massBytes, cellBytes, partBytes}
+use Rattle.record.specs.Layout.{interfaces, liquids, massBytes, cellBytes, partBytes}
 use Rattle.record.proofs.Numbers.{length-bytesOf, sets-then}
 
 -- ---- counts
@@ -48,18 +50,12 @@ count-most (suc n) f = go (f n) (count-most n f)
     go true h = omega arith
     go false h = omega arith
 
--- an element that is there, whatever would stand for one that is not
-pub getD-any : {A : Type 0} (l : List A) (i : ℕ) (d e : A) → i < length l → getD l i d ≡ getD l i e
-getD-any [] i d e h = absurd (not-suc-le-zero h)
-getD-any (x ∷ l) zero d e h = refl
-getD-any (x ∷ l) (suc i) d e h = getD-any l i d e (le-of-suc-le-suc h)
-
 -- one cell more, as a loop over the flags counts it
 count-more : (flags : List ℕ) (g : ℕ → Bool) (c : ℕ) → c < length flags
     → count c (λ a. g (flagOf flags a)) + cond (g (getD flags c 0)) 1 0 ≡ count (c + 1) (λ a. g (flagOf flags a))
 unfolding count
 count-more flags g c h =
-    ap (λ (f : ℕ). count c (λ a. g (flagOf flags a)) + cond (g f) 1 0) (getD-any flags c 0 3 h)
+    ap (λ (f : ℕ). count c (λ a. g (flagOf flags a)) + cond (g f) 1 0) (getD-there flags c 0 3 h)
     ∙ ap (λ (k : ℕ). count k (λ a. g (flagOf flags a))) (sym (add-one c))
 
 pub interfaces-more : (flags : List ℕ) (c : ℕ) → c < length flags
@@ -142,7 +138,7 @@ unfolding massBytes
 mass-turn l room flags mass from at c h e r =
     gather-turn l room from at c (λ a. byFlag (flagOf flags a) [] (i32Of (mass a)) [] []) (byFlag (getD flags c 0) [] (i32Of (mass c)) [] []) r
     (omega (arith, length-masses c (flagOf flags) mass))
-    (ap (λ (f : ℕ). byFlag f [] (i32Of (mass c)) [] []) (getD-any flags c 0 3 h))
+    (ap (λ (f : ℕ). byFlag f [] (i32Of (mass c)) [] []) (getD-there flags c 0 3 h))
 
 pub cell-turn : (l room : List ℕ) (part : ℕ → ℤ) (at k : ℕ) → room ≡ sets l at (gathered k (λ j. i32Of (part j)))
     → sets room (at + 4 * k) (i32Of (part k)) ≡ sets l at (gathered (k + 1) (λ j. i32Of (part j)))
@@ -157,7 +153,7 @@ part-turn l room flags part from at c h e r =
     gather-turn l room from at c (λ a. byFlag (flagOf flags a) [] (cellBytes (part a)) (cellBytes (part a)) [])
     (byFlag (getD flags c 0) [] (cellBytes (part c)) (cellBytes (part c)) []) r
     (omega (arith, length-parts c (flagOf flags) part))
-    (ap (λ (f : ℕ). byFlag f [] (cellBytes (part c)) (cellBytes (part c)) []) (getD-any flags c 0 3 h))
+    (ap (λ (f : ℕ). byFlag f [] (cellBytes (part c)) (cellBytes (part c)) []) (getD-there flags c 0 3 h))
 
 -- the same where the numbers are bytes
 pub copy-turn : (l bs : List ℕ) (at c : ℕ) → c < length bs → set (sets l at (take c bs)) (at + c) (getD bs c 0) ≡ sets l at (take (c + 1) bs)

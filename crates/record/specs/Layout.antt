@@ -4,7 +4,6 @@ use mathlib.Core.Bool.{Bool, true, false, _&&_}
 use mathlib.Core.List.{List, [], _∷_, _++_}
 use lib.IntN.{ℤ, pos}
 use lib.Dec.{eqb}
-use lib.ListN.{getD}
 use Rattle.whole.specs.Fold.{count}
 use Rattle.whole.specs.Machine.{Within}
 use Rattle.lattice.specs.Cell.{edgeGood, coordinateGood}
@@ -13,16 +12,13 @@ use Rattle.grid.specs.declared.Sides.{Sides}
 use Rattle.grid.specs.Grid.{cellsOf}
 use Rattle.grid.specs.State.{Lent, stateOf, byFlag, liquid}
 use Rattle.grid.specs.Outcome.{settingsGood}
+use Rattle.grid.specs.Passes.{flagOf}
 use Rattle.record.specs.declared.Site.{Site}
 use Rattle.record.specs.Bytes.{u32Of, i32Of, i64Of, join, gathered}
 
 -- p, gravity, cell edge and origin coordinates in their ranges: what refusal 3 asks of a record
 unfoldable pub siteGood : Settings → Site → Bool
 siteGood g t = settingsGood g && edgeGood (t .edge) && coordinateGood (t .x) && coordinateGood (t .y) && coordinateGood (t .z)
-
--- the flag of a cell, among N flags
-abbrev pub flagOf : List ℕ → ℕ → ℕ
-flagOf flags c = getD flags c 3
 
 -- how many of the first n cells are interface, and how many liquid; I and L are those of all N
 unfoldable pub interfaces : ℕ → (ℕ → ℕ) → ℕ

@@ -15,10 +15,11 @@ use Rattle.grid.specs.State.{State, Lent, lentOf, byFlag}
 use Rattle.grid.specs.Step.{fillFor}
 use Rattle.grid.specs.Good.{badFlag, badFluid, badRule}
 use Rattle.grid.specs.Outcome.{accepted, orRefuse, ifNone}
+use Rattle.grid.specs.Passes.{flagOf}
 use Rattle.record.specs.declared.Site.{Site}
 use Rattle.record.specs.declared.Head.{Head}
 use Rattle.record.specs.Bytes.{part, u32At, i32At, i64At}
-use Rattle.record.specs.Layout.{siteGood, flagOf, interfaces, liquids, massesFrom, partsFrom, lengthOf}
+use Rattle.record.specs.Layout.{siteGood, interfaces, liquids, massesFrom, partsFrom, lengthOf}
 
 -- ---- what the sections hold, were they whole
 

@@ -4,7 +4,8 @@ ghost use mathlib.Core.Bool.{cond};
 ghost use lib.Dec.{eqb};
 ghost use lib.ListN.{length};
 ghost use Rattle.grid.specs.State.{liquid};
-ghost use Rattle.record.specs.Layout.{flagOf, interfaces, liquids};
+ghost use Rattle.grid.specs.Passes.{flagOf};
+ghost use Rattle.record.specs.Layout.{interfaces, liquids};
 
 pub fn one_interface(flag: u8) -> usize
     ensures { λ r. ⌜ r ≡ cond (eqb flag 1) 1 0 ⌝ }

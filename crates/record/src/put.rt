@@ -12,7 +12,8 @@ ghost use lib.ListN.{length, getD};
 ghost use lib.Seq.{sets};
 ghost use Rattle.grid.specs.State.{byFlag, liquid};
 ghost use Rattle.record.specs.Bytes.{i32Of};
-ghost use Rattle.record.specs.Layout.{flagOf, interfaces, liquids, massBytes, cellBytes, partBytes};
+ghost use Rattle.grid.specs.Passes.{flagOf};
+ghost use Rattle.record.specs.Layout.{interfaces, liquids, massBytes, cellBytes, partBytes};
 
 pub fn put_flags(room: &mut [u8], at: usize, flags: &[u8])
     requires { ⌜ at + length (now flags) ≤ length (now room) ⌝ }

@@ -14,7 +14,8 @@ use mir.Syntax.{w32}
 use mir.ValLaws.{toZ-ofZ}
 use Rattle.whole.specs.Fold.{count}
 use Rattle.record.specs.Bytes.{gathered, i32Of}
-use Rattle.record.specs.Layout.{flagOf, interfaces, massBytes}
+use Rattle.grid.specs.Passes.{flagOf}
+use Rattle.record.specs.Layout.{interfaces, massBytes}
 use Rattle.grid.specs.State.{byFlag}
 use Rattle.record.proofs.Gathered.{interfaces-more, interfaces-le, mass-turn}
 use Rattle.record.proofs.put.put_masses.Statement.{statement}

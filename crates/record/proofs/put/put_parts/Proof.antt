@@ -12,7 +12,8 @@ use denote.Ref.{now}
 use Rattle.whole.specs.Fold.{count}
 use Rattle.grid.specs.State.{byFlag, liquid}
 use Rattle.record.specs.Bytes.{gathered, i32Of}
-use Rattle.record.specs.Layout.{flagOf, liquids, cellBytes, partBytes}
+use Rattle.grid.specs.Passes.{flagOf}
+use Rattle.record.specs.Layout.{liquids, cellBytes, partBytes}
 use Rattle.record.proofs.Gathered.{liquids-more, liquids-le, part-turn}
 use Rattle.record.proofs.put.put_parts.Statement.{statement}
 use Rattle.record.proofs.put.put_parts.Tie as tie
