@@ -25,3 +25,4 @@ pub mod Quiet
 pub mod Fair
 pub mod Ranges
 pub mod Marking
+pub mod Plain
