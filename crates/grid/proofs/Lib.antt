@@ -20,3 +20,8 @@ pub mod Lists
 pub mod Walls
 pub mod Beside
 pub mod Prepared
+pub mod Moved
+pub mod Quiet
+pub mod Fair
+pub mod Ranges
+pub mod Marking

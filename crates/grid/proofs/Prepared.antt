@@ -24,6 +24,7 @@ use Rattle.grid.specs.Step.{oldDensity, oldMomentum, fillFor}
 use Rattle.grid.specs.Good.{eqZ, dryGood, bodyGood, interfaceGood, fluidGood, fillGood, cellGood, badRule}
 use Rattle.grid.specs.Outcome.{lengthsGood, settingsGood, goodAnswer, sceneOf}
 use Rattle.grid.specs.Between.{Sized, Ready}
+use Rattle.grid.specs.Sight.{Body}
 use Rattle.grid.proofs.Accepted.{Sound, sound, none-found, cell-good, eqZ-true}
 
 pub sized : (n : ℕ) (a : Lent) → lengthsGood n a ≡ true → Sized n a
@@ -39,12 +40,6 @@ sized n a e =
       fills = eqb-true _ _ (and-right (eqb (length (a .flags)) n && eqb (length (a .parts)) (19 * n) && eqb (length (a .masses)) n) (eqb (length (a .fills)) n) b);
       carry = eqb-true _ _ (and-right (eqb (length (a .flags)) n && eqb (length (a .parts)) (19 * n) && eqb (length (a .masses)) n && eqb (length (a .fills)) n) (eqb (length (a .carry)) 1) e);
     }
-
--- what a liquid cell has
-pub record Body (f : ℕ → ℤ) : Type 0 where
-  pub parts : (k : ℕ) → k ≤ 18 → Within (f k) 1179648
-  pub is-dense : dense (density d3q19 f) ≡ true
-  pub is-slow : slow (density d3q19 f) (dot (momentum d3q19 f) (momentum d3q19 f)) ≡ true
 
 pub body : (f : ℕ → ℤ) → bodyGood d3q19 f ≡ true → Body f
 unfolding bodyGood d3q19

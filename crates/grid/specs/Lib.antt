@@ -7,3 +7,4 @@ pub mod Demands
 pub mod Promise
 pub mod Passes
 pub mod Between
+pub mod Sight

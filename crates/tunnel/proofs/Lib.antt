@@ -1,3 +1,4 @@
 pub mod Floats
 pub mod Cells
 pub mod Axes
+pub mod Columns
