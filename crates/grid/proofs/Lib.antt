@@ -25,3 +25,5 @@ pub mod Quiet
 pub mod Fair
 pub mod Ranges
 pub mod Marking
+pub mod Settled
+pub mod Opened
