@@ -27,3 +27,4 @@ pub mod Ranges
 pub mod Marking
 pub mod Settled
 pub mod Opened
+pub mod Plain

@@ -3,7 +3,7 @@
 -- Use: `length-masses n flag mass` is `length (massBytes n flag mass) ≡ 4 * interfaces n flag`. Assumes nothing.
 use mathlib.Core.Path.{_≡_, refl, sym, ap, ap₂, _∙_, subst}
 use mathlib.Core.Bool.{Bool, true, false, cond}
-use mathlib.Core.List.{List, [], _∷_, _++_}
+use mathlib.Core.List.{List, [], _∷_, _++_, append-nil}
 use mathlib.Core.Logic.{_⊎_, inl, inr}
 use Prim.Native.Nat.{ℕ, zero, suc, _+_, _*_, _≤_, _<_}
 use native.Mathlib.Nat.{le-step, lt-suc-self, le-refl, eq-or-lt-of-le, le-of-suc-le-suc, le-of-eq, le-of-lt}
@@ -20,9 +20,9 @@ use Rattle.whole.specs.Fold.{count}
 use Rattle.grid.specs.State.{byFlag, liquid}
 use Rattle.grid.specs.Passes.{flagOf}
 use Rattle.grid.proofs.Lists.{getD-there}
-use Rattle.record.specs.Bytes.{gathered, bytesOf, i32Of}
-use Rattle.record.specs.Layout.{interfaces, liquids, massBytes, cellBytes, partBytes}
-use Rattle.record.proofs.Numbers.{length-bytesOf, sets-then}
+use Rattle.record.specs.Bytes.{gathered, join, bytesOf, u32Of, i32Of}
+use Rattle.record.specs.Layout.{section, interfaces, liquids, massBytes, cellBytes, partBytes}
+use Rattle.record.proofs.Numbers.{length-bytesOf, sets-then, then-put}
 
 -- ---- counts
 pub count-le : (f : ℕ → Bool) (m n : ℕ) → m ≤ n → count m f ≤ count n f
@@ -160,3 +160,10 @@ pub copy-turn : (l bs : List ℕ) (at c : ℕ) → c < length bs → set (sets l
 copy-turn l bs at c h =
     sets-then l at (at + c) (take c bs) (getD bs c 0 ∷ []) (ap (λ (k : ℕ). at + k) (length-take-le c bs (le-of-lt h)))
     ∙ ap (sets l at) (sym (take-suc bs c 0 h) ∙ ap (λ (k : ℕ). take k bs) (sym (add-one c)))
+
+-- a section of one run: the count, and the run behind it
+pub section-put : (l : List ℕ) (at n m : ℕ) (x : List ℕ) {r q : List ℕ} → r ≡ sets l at (u32Of m) → m ≡ n → q ≡ sets r (at + 4) x → q ≡ sets l at (section n (x ∷ []))
+unfolding join
+section-put l at n m x {r} e k f =
+    then-put l at (at + 4) (u32Of n) x (e ∙ ap (λ (i : ℕ). sets l at (u32Of i)) k) f (ap (λ (i : ℕ). at + i) (length-bytesOf 4 n))
+    ∙ ap (λ (y : List ℕ). sets l at (u32Of n ++ y)) (sym (append-nil x))

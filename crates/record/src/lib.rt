@@ -1,4 +1,5 @@
 // Layer 2, the grid record: its reader and its writer. Knows the promises of grid.
+mod cells;
 mod count;
 mod front;
 mod number;

@@ -1,4 +1,4 @@
--- `tunnel::column::summed`: the invariant is that both accumulators are the definitions' up to height z, and the sum at most 65,536 a cell.
+-- `tunnel::sum::summed`: the invariant is that both accumulators are the definitions' up to height z, and the sum at most 65,536 a cell.
 -- Assumes nothing.
 use mathlib.Core.Path.{_≡_, refl, sym, ap, ap₂, _∙_, subst}
 use mathlib.Core.Bool.{Bool, _&&_, cond}
@@ -10,8 +10,8 @@ use denote.Ref.{now}
 use Rattle.whole.specs.Fold.{all, total}
 use Rattle.tunnel.specs.Depth.{isWall, openFill}
 use Rattle.tunnel.proofs.Columns.{in-column, below-length, high, few, all-more, total-more, open-le}
-use Rattle.tunnel.proofs.column.summed.Statement.{statement}
-use Rattle.tunnel.proofs.column.summed.Tie as tie
+use Rattle.tunnel.proofs.sum.summed.Statement.{statement}
+use Rattle.tunnel.proofs.sum.summed.Tie as tie
 
 abbrev Inv-loop : tie.InvT-loop
 Inv-loop s flags fills x y nz solid₀ sum₀ z₀ solid sum z =
