@@ -25,6 +25,7 @@ pub mod Stores
 pub mod Spans
 pub mod Arrivals
 pub mod Mirrored
+pub mod Collisions
 pub mod Moved
 pub mod Quiet
 pub mod Fair

@@ -6,6 +6,7 @@ pub mod extent;
 pub mod fluid;
 pub mod layer;
 pub mod marks;
+pub mod moving;
 pub mod neighbours;
 pub mod streaming;
 
