@@ -4,6 +4,7 @@ pub mod copying;
 pub mod extent;
 pub mod fluid;
 pub mod layer;
+pub mod lengths;
 pub mod marks;
 pub mod neighbours;
 
