@@ -28,3 +28,4 @@ pub mod Marking
 pub mod Settled
 pub mod Opened
 pub mod Plain
+pub mod Blocks
