@@ -34,4 +34,4 @@ pub mod Settled
 pub mod Opened
 pub mod Plain
 pub mod Poise
-pub mod Blocks
+pub mod Onward
