@@ -4,5 +4,6 @@ pub mod Momentum
 pub mod Pairs
 pub mod Ranges
 pub mod Reading
+pub mod Shares
 pub mod Table
 pub mod Tame
