@@ -1,4 +1,6 @@
+pub mod Bodies
 pub mod Collision
+pub mod Equal
 pub mod Fills
 pub mod Momentum
 pub mod Pairs
