@@ -2,7 +2,9 @@ pub mod Paired
 pub mod Shares
 pub mod ExchangeBack
 pub mod Balanced
+pub mod Bodies
 pub mod Collision
+pub mod Equal
 pub mod Fills
 pub mod Momentum
 pub mod Pairs
