@@ -12,3 +12,4 @@ pub mod Ranges
 pub mod Reading
 pub mod Table
 pub mod Tame
+pub mod Weights
