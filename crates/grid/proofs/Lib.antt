@@ -29,3 +29,5 @@ pub mod Settled
 pub mod Opened
 pub mod Plain
 pub mod Blocks
+pub mod Rules
+pub mod Checks
