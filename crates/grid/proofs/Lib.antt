@@ -20,6 +20,11 @@ pub mod Lists
 pub mod Walls
 pub mod Beside
 pub mod Prepared
+pub mod Blocks
+pub mod Stores
+pub mod Spans
+pub mod Arrivals
+pub mod Mirrored
 pub mod Moved
 pub mod Quiet
 pub mod Fair
@@ -31,3 +36,5 @@ pub mod Plain
 pub mod Blocks
 pub mod Rules
 pub mod Checks
+pub mod Poise
+pub mod Onward
