@@ -17,7 +17,9 @@ use Rattle.record.specs.Layout.{section, interfaces, liquids, massBytes,
 use Rattle.record.proofs.Numbers.{length-bytesOf, then-put}
 use Rattle.record.proofs.Gathered.{length-masses, length-parts}
 
-pub length-record : (s : Sides) (g : Settings) (t : Site) (a : Lent) → length (a .flags) ≡ cellsOf s → length (recordOf s g t a) ≡ recordLength s a
+-- the claim
+abbrev pub Length : Type 0
+Length = (s : Sides) (g : Settings) (t : Site) (a : Lent) → length (a .flags) ≡ cellsOf s → length (recordOf s g t a) ≡ recordLength s a
 
 -- ---- a section, and the three that go by cell number
 pub length-section : (n : ℕ) (x : List ℕ) → length (section n (x ∷ [])) ≡ 4 + length x
@@ -49,6 +51,7 @@ pub length-head : (s : Sides) (g : Settings) (t : Site) (carry : ℤ) → length
 unfolding headBytes join bytesOf
 length-head s g t carry = refl
 
+pub length-record : Length
 unfolding recordOf recordLength stateOf
 length-record s g t a e =
     let h = stateOf 18 a in
@@ -77,4 +80,6 @@ cells-put l flags mass part n at e h x y z =
 
 -- written from the front, the record stands before what the room held past it
 pub front-put : (l x : List ℕ) → length x ≤ length l → sets l 0 x ≡ x ++ drop (length x) l
-front-put l x h = sets-eq x l 0 h
+front-put l x h =
+    let z : 0 + length x ≡ length x = omega arith in
+    sets-eq x l 0 (omega arith) ∙ ap (λ (k : ℕ). x ++ drop k l) z

@@ -4,6 +4,7 @@ mod count;
 mod front;
 mod number;
 mod put;
+pub mod writer;
 
 use grid::Answer;
 use grid::Sides;
