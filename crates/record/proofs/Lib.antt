@@ -1,3 +1,4 @@
 pub mod Numbers
 pub mod Gathered
 pub mod Assembled
+pub mod Answers

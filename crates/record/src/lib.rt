@@ -4,6 +4,7 @@ mod count;
 mod front;
 mod number;
 mod put;
+mod section;
 pub mod writer;
 
 use grid::Answer;
