@@ -86,9 +86,12 @@ whole r number from n size rest =
     (orRefuse (eqb (u32At r from) n) 11 number
     (orRefuse (leb (from + 4 + size * n) (length r)) 10 from rest))
 
--- test 2: the reader's set lacks the flags
+-- test 2, by the lengths of parts, masses, fills and carry: the reader's set lacks the flags
+unfoldable pub slicesFit : ℕ → ℕ → ℕ → ℕ → ℕ → Bool
+slicesFit n parts masses fills carry = eqb parts (19 * n) && eqb masses n && eqb fills n && eqb carry 1
+
 unfoldable pub slicesGood : ℕ → Lent → Bool
-slicesGood n a = eqb (length (a .parts)) (19 * n) && eqb (length (a .masses)) n && eqb (length (a .fills)) n && eqb (length (a .carry)) 1
+slicesGood n a = slicesFit n (length (a .parts)) (length (a .masses)) (length (a .fills)) (length (a .carry))
 
 -- after section 1 test 1 and 2, after section 5 test 4; left-over bytes after section 7, then 3, 5, 6
 unfoldable pub readAnswer : List ℕ → Lent → Answer
@@ -143,5 +146,5 @@ readSet r a = cond (accepted (readAnswer r a)) (lentOf 18 (cellsIn r) (stateIn r
 
 -- names every definition of this file: whoever unfolds this computes with all of them
 unfoldable pub open-reading : Unit {0}
-unfolding sidesIn settingsIn siteIn carryIn cellsIn flagsIn flagIn interfacesIn liquidsIn massAt partAt partIn massIn stateIn whole slicesGood readAnswer readHead flagsFrom readFlags readSet
+unfolding sidesIn settingsIn siteIn carryIn cellsIn flagsIn flagIn interfacesIn liquidsIn massAt partAt partIn massIn stateIn whole slicesFit slicesGood readAnswer readHead flagsFrom readFlags readSet
 open-reading = tt

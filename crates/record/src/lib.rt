@@ -2,6 +2,7 @@
 mod cells;
 mod count;
 mod front;
+mod given;
 mod number;
 mod put;
 mod section;

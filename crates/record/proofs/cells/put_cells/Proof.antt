@@ -8,50 +8,34 @@ use denote.Ref.{now}
 use Rattle.record.proofs.Assembled.{cells-put}
 use Rattle.record.proofs.cells.put_cells.Statement.{statement}
 use Rattle.record.proofs.cells.put_cells.Tie as tie
-use Rattle.record.proofs.cells.put_cells.Reads as reads
-use Rattle.record.proofs.cells.put_cells.Lts as lts
-use Rattle.record.proofs.cells.put_flag_section.Reads as put-flag-section-reads
-use Rattle.record.proofs.cells.put_mass_section.Reads as put-mass-section-reads
-use Rattle.record.proofs.cells.put_part_section.Reads as put-part-section-reads
-use Rattle.record.proofs.count.interface_cells.Reads as interface-cells-reads
 
--- src/cells.rt:63:14
 add-at : tie.Need-add-at
 add-at c = search needs
 
--- src/cells.rt:63:27
 interface-cells-requires : tie.Need-interface-cells-requires
 interface-cells-requires c κs = search needs
 
--- src/cells.rt:63:23
 mul-at : tie.Need-mul-at
 mul-at c = search needs
 
--- src/cells.rt:63:14
 add-at-2 : tie.Need-add-at-2
 add-at-2 c = search needs
 
--- src/cells.rt:64:5
 put-flag-section-requires : tie.Need-put-flag-section-requires
 put-flag-section-requires c κs = search needs
 
--- src/cells.rt:65:28
 add-put-mass-section : tie.Need-add-put-mass-section
 add-put-mass-section c = search needs
 
--- src/cells.rt:65:5
 put-mass-section-requires : tie.Need-put-mass-section-requires
 put-mass-section-requires c κs = search needs
 
--- src/cells.rt:66:5
 put-part-section-requires : tie.Need-put-part-section-requires
 put-part-section-requires c κs = search needs
 
--- src/cells.rt:55:1
 same-length : tie.Need-same-length
 same-length c = search needs
 
--- src/cells.rt:55:1
 returns : tie.Need-returns
 returns c =
     let a = c .before .before .before .before .before .before .before .before .before .before .before .before .before .before .before .args in

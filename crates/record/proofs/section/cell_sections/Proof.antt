@@ -15,16 +15,10 @@ use Rattle.record.specs.Reading.{whole}
 use Rattle.record.proofs.Answers.{stopped, went-on}
 use Rattle.record.proofs.section.cell_sections.Statement.{statement}
 use Rattle.record.proofs.section.cell_sections.Tie as tie
-use Rattle.record.proofs.section.cell_sections.Reads as reads
-use Rattle.record.proofs.section.cell_sections.Lts as lts
-use Rattle.record.proofs.section.passed.Reads as passed-reads
-use Rattle.record.proofs.section.section.Reads as section-reads
 
--- src/section.rt:69:34
 add-section : tie.Need-add-section
 add-section c = search needs
 
--- src/section.rt:69:9
 -- each section that passed lets the rest answer
 masses-on : (c : tie.Else1) (rest : Answer)
     → whole (now (c .before .before .before .before .args .rec)) 6 (massesFrom (c .before .before .before .before .args .n)) (c .before .before .before .before .args .i) 4 rest ≡ rest
@@ -44,11 +38,9 @@ parts-on c rest =
 section-requires : tie.Need-section-requires
 section-requires c κs = search needs
 
--- src/section.rt:70:9
 passed-requires : tie.Need-passed-requires
 passed-requires c κs = search needs
 
--- src/section.rt:71:9
 returns : tie.Need-returns
 returns c =
     let a = c .before .before .before .before .args in
@@ -58,31 +50,24 @@ returns c =
     let seven = whole r 7 (partsFrom (a .n) (a .i)) (19 * a .l) 4 last in
     stopped r 6 (massesFrom (a .n)) (a .i) 4 seven (c .before .before .section .ensures) (c .before .passed .ensures) (c .if1 .taken)
 
--- src/section.rt:73:33
 add-section-2 : tie.Need-add-section-2
 add-section-2 c = search needs
 
--- src/section.rt:73:42
 mul-section : tie.Need-mul-section
 mul-section c = search needs
 
--- src/section.rt:73:33
 add-section-3 : tie.Need-add-section-3
 add-section-3 c = search needs
 
--- src/section.rt:73:49
 mul-section-2 : tie.Need-mul-section-2
 mul-section-2 c = search needs
 
--- src/section.rt:73:9
 section-requires-2 : tie.Need-section-requires-2
 section-requires-2 c κs = search needs
 
--- src/section.rt:74:9
 passed-requires-2 : tie.Need-passed-requires-2
 passed-requires-2 c κs = search needs
 
--- src/section.rt:75:9
 returns-2 : tie.Need-returns-2
 returns-2 c =
     let a = c .before .before .before .before .before .before .before .args in
@@ -93,27 +78,21 @@ returns-2 c =
     stopped r 7 (partsFrom (a .n) (a .i)) (19 * a .l) 4 last (c .before .before .section2 .ensures) (c .before .passed2 .ensures) (c .if2 .taken)
     ∙ sym (masses-on (c .before .before .before) seven)
 
--- src/section.rt:77:15
 add-end : tie.Need-add-end
 add-end c = search needs
 
--- src/section.rt:77:24
 mul-end : tie.Need-mul-end
 mul-end c = search needs
 
--- src/section.rt:77:15
 add-end-2 : tie.Need-add-end-2
 add-end-2 c = search needs
 
--- src/section.rt:77:32
 mul-end-2 : tie.Need-mul-end-2
 mul-end-2 c = search needs
 
--- src/section.rt:77:15
 add-end-3 : tie.Need-add-end-3
 add-end-3 c = search needs
 
--- src/section.rt:79:9
 returns-3 : tie.Need-returns-3
 returns-3 c =
     let a = c .before .before .before .before .before .before .before .before .args in
@@ -124,7 +103,6 @@ returns-3 c =
     ap (λ (t : Bool). orRefuse t 10 end Done) (sym (lt-leb (length r) end (c .if3 .taken)))
     ∙ sym (parts-on (c .before) last) ∙ sym (masses-on (c .before .before .before .before) seven)
 
--- src/section.rt:63:1
 returns-4 : tie.Need-returns-4
 returns-4 c =
     let a = c .before .before .before .before .before .before .before .before .args in

@@ -8,12 +8,7 @@ use Rattle.record.proofs.Answers.{stopped, went-on}
 use Rattle.grid.specs.declared.Answer.{Answer}
 use Rattle.record.proofs.section.front_sections.Statement.{statement}
 use Rattle.record.proofs.section.front_sections.Tie as tie
-use Rattle.record.proofs.section.front_sections.Reads as reads
-use Rattle.record.proofs.section.front_sections.Lts as lts
-use Rattle.record.proofs.section.passed.Reads as passed-reads
-use Rattle.record.proofs.section.section.Reads as section-reads
 
--- src/section.rt:47:9
 -- each section that passed lets the rest answer
 settings-on : (c : tie.Else1) (rest : Answer) → whole (now (c .before .before .before .before .args .rec)) 2 16 5 4 rest ≡ rest
 settings-on c rest = went-on (now (c .before .before .before .before .args .rec)) 2 16 5 4 rest (c .before .before .section .ensures) (c .before .passed .ensures) (c .if1 .left)
@@ -30,11 +25,9 @@ carry-on c rest =
 section-requires : tie.Need-section-requires
 section-requires c κs = search needs
 
--- src/section.rt:48:9
 passed-requires : tie.Need-passed-requires
 passed-requires c κs = search needs
 
--- src/section.rt:49:9
 returns : tie.Need-returns
 returns c =
     let r = now (c .before .before .before .before .args .rec) in
@@ -42,15 +35,12 @@ returns c =
     let four = whole r 4 68 1 8 five in
     stopped r 2 16 5 4 (whole r 3 40 3 8 four) (c .before .before .section .ensures) (c .before .passed .ensures) (c .if1 .taken)
 
--- src/section.rt:51:9
 section-requires-2 : tie.Need-section-requires-2
 section-requires-2 c κs = search needs
 
--- src/section.rt:52:9
 passed-requires-2 : tie.Need-passed-requires-2
 passed-requires-2 c κs = search needs
 
--- src/section.rt:53:9
 returns-2 : tie.Need-returns-2
 returns-2 c =
     let r = now (c .before .before .before .before .before .before .before .args .rec) in
@@ -59,15 +49,12 @@ returns-2 c =
     stopped r 3 40 3 8 four (c .before .before .section2 .ensures) (c .before .passed2 .ensures) (c .if2 .taken)
     ∙ sym (settings-on (c .before .before .before) (whole r 3 40 3 8 four))
 
--- src/section.rt:55:9
 section-requires-3 : tie.Need-section-requires-3
 section-requires-3 c κs = search needs
 
--- src/section.rt:56:9
 passed-requires-3 : tie.Need-passed-requires-3
 passed-requires-3 c κs = search needs
 
--- src/section.rt:57:9
 returns-3 : tie.Need-returns-3
 returns-3 c =
     let r = now (c .before .before .before .before .before .before .before .before .before .before .args .rec) in
@@ -77,11 +64,9 @@ returns-3 c =
     ∙ sym (origin-on (c .before .before .before) four)
     ∙ sym (settings-on (c .before .before .before .before .before .before) (whole r 3 40 3 8 four))
 
--- src/section.rt:59:5
 section-requires-4 : tie.Need-section-requires-4
 section-requires-4 c κs = search needs
 
--- src/section.rt:43:1
 returns-4 : tie.Need-returns-4
 returns-4 c =
     let r = now (c .before .before .before .before .before .before .before .before .before .before .before .args .rec) in

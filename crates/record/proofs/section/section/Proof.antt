@@ -9,60 +9,47 @@ use Rattle.grid.specs.declared.Answer.the-variants.{Done}
 use Rattle.record.proofs.Answers.{whole-short, whole-wrong, whole-cut, whole-there}
 use Rattle.record.proofs.section.section.Statement.{statement}
 use Rattle.record.proofs.section.section.Tie as tie
-use Rattle.record.proofs.section.section.Reads as reads
-use Rattle.record.proofs.section.section.Lts as lts
-use Rattle.record.proofs.number.u32_at.Reads as u32-at-reads
 
--- src/section.rt:30:20
 add-if1 : tie.Need-add-if1
 add-if1 c = search needs
 
--- src/section.rt:31:9
 returns : tie.Need-returns
 returns c =
     let a = c .before .before .args in
     sym (whole-short (now (a .rec)) (a .number) (a .from) (a .n) (a .size) Done (omega arith))
 
--- src/section.rt:33:8
 u32-at-requires : tie.Need-u32-at-requires
 u32-at-requires c κs = search needs
 
--- src/section.rt:33:8
 cast-if2 : tie.Need-cast-if2
 cast-if2 c = search needs
 
--- src/section.rt:34:9
 returns-2 : tie.Need-returns-2
 returns-2 c =
     let a = c .before .before .before .before .args in
     sym (whole-wrong (now (a .rec)) (a .number) (a .from) (a .n) (a .size) Done (omega arith) (λ e. c .if2 .taken (c .before .u32-at .ensures ∙ e)))
 
--- src/section.rt:36:20
 add-if3 : tie.Need-add-if3
 add-if3 c = search needs
 
--- src/section.rt:36:31
 mul-if3 : tie.Need-mul-if3
 mul-if3 c =
     let d = c .before .before .before .before in
     let h : d .args .size * d .args .n ≤ 8 * 4294967296 = mul-le-mul (d .pre .1 .1) (d .pre .1 .0) in
     record { fits = omega arith }
 
--- src/section.rt:36:20
 add-if3-2 : tie.Need-add-if3-2
 add-if3-2 c =
     let d = c .before .before .before .before in
     let h : d .args .size * d .args .n ≤ 8 * 4294967296 = mul-le-mul (d .pre .1 .1) (d .pre .1 .0) in
     record { fits = omega (arith, d .pre .0) }
 
--- src/section.rt:37:9
 returns-3 : tie.Need-returns-3
 returns-3 c =
     let a = c .before .before .before .before .before .args in
     let e : c .before .before .u32-at .result ≡ a .n = omega arith in
     sym (whole-cut (now (a .rec)) (a .number) (a .from) (a .n) (a .size) Done (omega arith) (sym (c .before .before .u32-at .ensures) ∙ e) (omega arith))
 
--- src/section.rt:24:1
 returns-4 : tie.Need-returns-4
 returns-4 c =
     let a = c .before .before .before .before .before .args in

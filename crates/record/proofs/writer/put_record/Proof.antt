@@ -18,16 +18,10 @@ use Rattle.grid.specs.Grid.{sidesGood, cellsOf}
 use Rattle.grid.proofs.GoodSides.{good-sides}
 use Rattle.record.proofs.writer.put_record.Statement.{statement}
 use Rattle.record.proofs.writer.put_record.Tie as tie
-use Rattle.record.proofs.writer.put_record.Reads as reads
-use Rattle.record.proofs.writer.put_record.Lts as lts
-use Rattle.record.proofs.cells.put_cells.Reads as put-cells-reads
-use Rattle.record.proofs.front.put_head.Reads as put-head-reads
 
--- src/writer.rt:28:5
 put-head-requires : tie.Need-put-head-requires
 put-head-requires c κs = search needs
 
--- src/writer.rt:29:5
 -- N is at most 262,144
 small : (s : Sides) {n : ℕ} → sidesGood s ≡ true → n ≡ cellsOf s → n ≤ 262144
 unfolding cellsOf
@@ -47,11 +41,9 @@ put-cells-requires c κs =
       ),
     )
 
--- src/writer.rt:19:1
 same-length : tie.Need-same-length
 same-length c = search needs
 
--- src/writer.rt:19:1
 returns : tie.Need-returns
 returns c =
     let d = c .before .before .before .before .before .before .before .before .before .before in
