@@ -7,6 +7,7 @@ use crate::section::passed;
 use crate::section::section;
 use grid::Answer;
 use grid::Sides;
+use grid::extent::cells;
 use grid::extent::good_sides;
 use lattice::Settings;
 use lattice::limits::good_settings;
@@ -104,4 +105,29 @@ pub fn good_site(g: Settings, t: Site) -> bool
         & good_coordinate(t.x)
         & good_coordinate(t.y)
         & good_coordinate(t.z)
+}
+
+fn slices_fit(n: usize, parts: usize, masses: usize, fills: usize, carry: usize) -> bool
+    requires { ⌜ n ≤ 262144 ⌝ }
+    ensures { λ r. ⌜ r ≡ slicesFit n parts masses fills carry ⌝ }
+{
+    (parts == 19 * n) & (masses == n) & (fills == n) & (carry == 1)
+}
+
+// Section 1, then tests 1 and 2.
+pub fn opening(rec: &[u8], parts: usize, masses: usize, fills: usize, carry: usize) -> Answer
+    ensures { λ r. ⌜ r ≡ whole (now (rec .entry)) 1 0 3 4 (orRefuse (sidesGood (sidesIn (now (rec .entry)))) 1 0 (orRefuse (slicesFit (cellsIn (now (rec .entry))) parts masses fills carry) 2 0 Done)) ⌝ }
+{
+    let sides = section(rec, 1, 0, 3, 4);
+    if !passed(sides) {
+        return sides;
+    }
+    let s = sides_in(rec);
+    if !good_sides(s) {
+        return Answer::Refused(1, 0);
+    }
+    if !slices_fit(cells(s), parts, masses, fills, carry) {
+        return Answer::Refused(2, 0);
+    }
+    Answer::Done
 }
