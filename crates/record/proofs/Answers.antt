@@ -91,3 +91,51 @@ module _ (r : List ℕ) (number from n size : ℕ) where
 
   pub holds : {a : Answer} {t : Bool} → a ≡ whole r number from n size Done → t ≡ accepted a → not t ≡ false → Held r from n size
   holds {a} {t} e p h = whole-held (sym (ap accepted e) ∙ sym p ∙ not-false t h)
+
+-- ---- tests in a row, whatever they are: F passes `rest` on, or answers itself
+pub record Chain (F : Answer → Answer) : Type 0 where
+  pub refuses : accepted (F Done) ≡ false → (rest : Answer) → F rest ≡ F Done
+  pub passes : accepted (F Done) ≡ true → (rest : Answer) → F rest ≡ rest
+
+pub chain-or : (t : Bool) (number place : ℕ) → Chain (orRefuse t number place)
+chain-or true number place = record { refuses = λ e rest. absurd (false≢true (sym e)); passes = λ e rest. refl }
+chain-or false number place = record { refuses = λ e rest. refl; passes = λ e rest. absurd (false≢true e) }
+
+pub chain-whole : (r : List ℕ) (number from n size : ℕ) → Chain (whole r number from n size)
+chain-whole r number from n size = record {
+  refuses = λ e rest. whole-refused r number from n size rest e;
+  passes = λ e rest. whole-passed r number from n size rest e;
+}
+
+pub chain-both : (F G : Answer → Answer) → Chain F → accepted (F (G Done)) ≡ true → (accepted (F Done) ≡ true) × (accepted (G Done) ≡ true)
+chain-both F G f e = go (accepted (F Done)) refl
+  where
+    go : (t : Bool) → accepted (F Done) ≡ t → (accepted (F Done) ≡ true) × (accepted (G Done) ≡ true)
+    go true h = (h, sym (ap accepted (f .passes h (G Done))) ∙ e)
+    go false h = absurd (false≢true (sym h ∙ sym (ap accepted (f .refuses h (G Done))) ∙ e))
+
+pub chain-then : (F G : Answer → Answer) → Chain F → Chain G → Chain (λ rest. F (G rest))
+chain-then F G f g = record { refuses = λ e rest. refuses (accepted (F Done)) refl e rest; passes = passes }
+  where
+    refuses : (t : Bool) → accepted (F Done) ≡ t → accepted (F (G Done)) ≡ false → (rest : Answer) → F (G rest) ≡ F (G Done)
+    refuses true h e rest = ap F (g .refuses (sym (ap accepted (f .passes h (G Done))) ∙ e) rest)
+    refuses false h e rest = f .refuses h (G rest) ∙ sym (f .refuses h (G Done))
+
+    passes : accepted (F (G Done)) ≡ true → (rest : Answer) → F (G rest) ≡ rest
+    passes e rest =
+        let both = chain-both F G f e in
+        f .passes (both .0) (G rest) ∙ g .passes (both .1) rest
+
+-- as a caller meets it: a is what F answered, t whether it passed
+pub chain-stops : (F : Answer → Answer) → Chain F → {a : Answer} {t : Bool} (rest : Answer) → a ≡ F Done → t ≡ accepted a → not t ≡ true → a ≡ F rest
+chain-stops F f {a} {t} rest e p h = e ∙ sym (f .refuses (sym (ap accepted e) ∙ sym p ∙ not-true t h) rest)
+
+pub chain-on : (F : Answer → Answer) → Chain F → {a : Answer} {t : Bool} (rest : Answer) → a ≡ F Done → t ≡ accepted a → not t ≡ false → F rest ≡ rest
+chain-on F f {a} {t} rest e p h = f .passes (sym (ap accepted e) ∙ sym p ∙ not-false t h) rest
+
+pub chain-ok : (F : Answer → Answer) {a : Answer} {t : Bool} → a ≡ F Done → t ≡ accepted a → not t ≡ false → accepted (F Done) ≡ true
+chain-ok F {a} {t} e p h = sym (ap accepted e) ∙ sym p ∙ not-false t h
+
+pub or-true : (t : Bool) (number place : ℕ) → accepted (orRefuse t number place Done) ≡ true → t ≡ true
+or-true true number place e = refl
+or-true false number place e = absurd (false≢true e)

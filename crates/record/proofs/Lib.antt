@@ -2,3 +2,4 @@ pub mod Numbers
 pub mod Gathered
 pub mod Assembled
 pub mod Answers
+pub mod Shape
