@@ -25,3 +25,7 @@ pub mod Quiet
 pub mod Fair
 pub mod Ranges
 pub mod Marking
+pub mod Settled
+pub mod Opened
+pub mod Plain
+pub mod Poise

@@ -6,7 +6,7 @@ use Prim.Native.Nat.{ℕ, _<_}
 use Rattle.grid.specs.declared.Sides.{Sides}
 use Rattle.grid.specs.Grid.{sidesGood, cellsOf}
 use Rattle.whole.specs.Fold.{all, total}
-use Rattle.tunnel.specs.declared.column.Contents.{Contents}
+use Rattle.tunnel.specs.declared.sum.Contents.{Contents}
 use Rattle.tunnel.specs.Depth.{isWall, openFill}
 
 -- a cell of good sides

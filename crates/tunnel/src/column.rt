@@ -1,24 +1,16 @@
-// Depth of a column: solid, dry, or the exact sum of its fills.
+// Depth of a column: its tests, then the reading of what it holds.
 use crate::Depth;
 use crate::cell::number;
-use crate::exact::share;
+use crate::sum::reading;
+use crate::sum::summed;
 use grid::Sides;
 use grid::extent::cells;
 use grid::extent::good_sides;
 ghost use mathlib.Core.Path.{_≡_};
-ghost use mathlib.Core.Bool.{cond};
-ghost use Prim.Native.Nat.{_≤_, _<_};
-ghost use lib.Dec.{eqb};
 ghost use lib.ListN.{length};
 ghost use Rattle.whole.specs.Fold.{first};
-ghost use Rattle.tunnel.specs.Asks.{InColumn, ContentsAre};
-ghost use Rattle.tunnel.specs.Depth.{flagBad, fillBad, readingOf, measuredOf, depthOf, DepthIs};
-
-// What a column holds: whether every cell is wall, and the fills of the others added up.
-struct Contents {
-    solid: bool,
-    sum: u32,
-}
+ghost use Rattle.tunnel.specs.Asks.{InColumn};
+ghost use Rattle.tunnel.specs.Depth.{flagBad, fillBad, measuredOf, depthOf, DepthIs};
 
 // The height of the lowest flag above 3, nz if there is none.
 fn bad_flag(s: Sides, flags: &[u8], x: usize, y: usize) -> usize
@@ -52,49 +44,6 @@ fn bad_fill(s: Sides, fills: &[u32], x: usize, y: usize) -> usize
         z += 1;
     }
     nz
-}
-
-// A cell's part of the sum: a wall has none.
-fn open_fill(flag: u8, fill: u32) -> u32
-    ensures { λ r. ⌜ r ≡ cond (eqb flag 3) 0 fill ⌝ }
-{
-    if flag == 3 {
-        return 0;
-    }
-    fill
-}
-
-fn summed(s: Sides, flags: &[u8], fills: &[u32], x: usize, y: usize) -> Contents
-    requires { ⌜ InColumn s (length (now flags)) x y ⌝ }
-    requires { ⌜ InColumn s (length (now fills)) x y ⌝ }
-    requires { ⌜ s .nz ≤ first (s .nz) (fillBad s (now fills) x y) ⌝ }
-    ensures { λ r. ⌜ ContentsAre r s (now (flags .entry)) (now (fills .entry)) x y ⌝ }
-{
-    let nz = s.nz;
-    let mut solid = true;
-    let mut sum = 0;
-    let mut z = 0;
-    while z < nz {
-        let at = number(s, x, y, z);
-        let flag = flags[at];
-        solid = solid & (flag == 3);
-        sum += open_fill(flag, fills[at]);
-        z += 1;
-    }
-    Contents { solid, sum }
-}
-
-fn reading(solid: bool, sum: u32) -> Depth
-    requires { ⌜ sum < 16777216 ⌝ }
-    ensures { λ r. ⌜ DepthIs r (readingOf solid sum) ⌝ }
-{
-    if solid {
-        return Depth::Solid;
-    }
-    if sum == 0 {
-        return Depth::Dry;
-    }
-    Depth::Deep(share(sum))
 }
 
 // The reading of a column of the grid.

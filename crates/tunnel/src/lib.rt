@@ -3,6 +3,7 @@ pub mod cell;
 pub mod column;
 mod exact;
 pub mod placing;
+mod sum;
 
 // A survey point or the grid's origin, in whole millimetres.
 pub struct Point {

@@ -1,9 +1,9 @@
--- `tunnel::column::reading`: solid, dry, or the exact share of the sum. Assumes nothing.
+-- `tunnel::sum::reading`: solid, dry, or the exact share of the sum. Assumes nothing.
 use borrow.Author.Needs.{needs}
 use borrow.Author.Tests.{eq-eqb, ne-eqb}
 use Rattle.tunnel.specs.Depth.{readingOf, is-solid, is-dry, is-deep}
-use Rattle.tunnel.proofs.column.reading.Statement.{statement}
-use Rattle.tunnel.proofs.column.reading.Tie as tie
+use Rattle.tunnel.proofs.sum.reading.Statement.{statement}
+use Rattle.tunnel.proofs.sum.reading.Tie as tie
 
 returns : tie.Need-returns
 unfolding readingOf

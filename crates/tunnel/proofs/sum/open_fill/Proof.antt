@@ -1,7 +1,7 @@
--- `tunnel::column::open_fill`: by the one test. Assumes nothing.
+-- `tunnel::sum::open_fill`: by the one test. Assumes nothing.
 use borrow.Author.Tests.{eq-eqb, ne-eqb}
-use Rattle.tunnel.proofs.column.open_fill.Statement.{statement}
-use Rattle.tunnel.proofs.column.open_fill.Tie as tie
+use Rattle.tunnel.proofs.sum.open_fill.Statement.{statement}
+use Rattle.tunnel.proofs.sum.open_fill.Tie as tie
 
 returns : tie.Need-returns
 returns c = simp (eq-eqb _ _ (c .if1 .taken))
