@@ -2,4 +2,5 @@ pub mod Numbers
 pub mod Gathered
 pub mod Assembled
 pub mod Answers
-pub mod Shape
+pub mod Shaped
+pub mod Flags

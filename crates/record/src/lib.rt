@@ -6,6 +6,7 @@ mod given;
 mod number;
 mod put;
 mod section;
+mod shape;
 pub mod writer;
 
 use grid::Answer;

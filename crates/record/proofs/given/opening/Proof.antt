@@ -14,16 +14,7 @@ use Rattle.record.specs.Reading.{sidesIn, cellsIn, whole, slicesFit}
 use Rattle.record.proofs.Answers.{Held, stopped, went-on, holds, or-pass, or-fail}
 use Rattle.record.proofs.given.opening.Statement.{statement}
 use Rattle.record.proofs.given.opening.Tie as tie
-use Rattle.record.proofs.given.opening.Reads as reads
-use Rattle.record.proofs.given.opening.Lts as lts
-use Rattle.grid.proofs.extent.cells.Reads as cells-reads
-use Rattle.grid.proofs.extent.good_sides.Reads as good-sides-reads
-use Rattle.record.proofs.given.sides_in.Reads as sides-in-reads
-use Rattle.record.proofs.given.slices_fit.Reads as slices-fit-reads
-use Rattle.record.proofs.section.passed.Reads as passed-reads
-use Rattle.record.proofs.section.section.Reads as section-reads
 
--- src/given.rt:121:9
 -- what each test that passed has shown
 held : (c : tie.Else1) → Held (now (c .before .before .before .before .args .rec)) 0 3 4
 held c = holds (now (c .before .before .before .before .args .rec)) 1 0 3 4 (c .before .before .section .ensures) (c .before .passed .ensures) (c .if1 .left)
@@ -41,11 +32,9 @@ cells-are c = c .cells .ensures ∙ ap cellsOf (c .before .before .before .sides
 section-requires : tie.Need-section-requires
 section-requires c κs = search needs
 
--- src/given.rt:122:9
 passed-requires : tie.Need-passed-requires
 passed-requires c κs = search needs
 
--- src/given.rt:123:9
 returns : tie.Need-returns
 returns c =
     let a = c .before .before .before .before .args in
@@ -53,15 +42,12 @@ returns c =
     let two = orRefuse (slicesFit (cellsIn r) (a .parts) (a .masses) (a .fills) (a .carry)) 2 0 Done in
     stopped r 1 0 3 4 (orRefuse (sidesGood (sidesIn r)) 1 0 two) (c .before .before .section .ensures) (c .before .passed .ensures) (c .if1 .taken)
 
--- src/given.rt:125:9
 sides-in-requires : tie.Need-sides-in-requires
 sides-in-requires c κs = held c .inside
 
--- src/given.rt:126:9
 good-sides-requires : tie.Need-good-sides-requires
 good-sides-requires c κs = search needs
 
--- src/given.rt:127:9
 returns-2 : tie.Need-returns-2
 returns-2 c =
     let a = c .before .before .before .before .before .before .before .args in
@@ -70,11 +56,9 @@ returns-2 c =
     let bad = sym (ap sidesGood (c .before .before .sides-in .ensures)) ∙ sym (c .before .good-sides .ensures) ∙ not-true _ (c .if2 .taken) in
     sym (section-on (c .before .before .before) (orRefuse (sidesGood (sidesIn r)) 1 0 two) ∙ or-fail 1 0 two bad)
 
--- src/given.rt:129:20
 cells-requires : tie.Need-cells-requires
 cells-requires c κs = ap sidesGood (c .before .before .sides-in .ensures) ∙ sides-good c
 
--- src/given.rt:129:9
 slices-fit-requires : tie.Need-slices-fit-requires
 unfolding cellsIn cellsOf
 slices-fit-requires c κs =
@@ -82,7 +66,6 @@ slices-fit-requires c κs =
     let g = good-sides s (sides-good (c .before)) .all in
     subst (λ (n : ℕ). n ≤ 262144) (sym (cells-are c)) g
 
--- src/given.rt:130:9
 returns-3 : tie.Need-returns-3
 returns-3 c =
     let a = c .before .before .before .before .before .before .before .before .before .before .args in
@@ -91,7 +74,6 @@ returns-3 c =
     let bad = ap (λ (n : ℕ). slicesFit n (a .parts) (a .masses) (a .fills) (a .carry)) (sym (cells-are (c .before .before))) ∙ sym (c .before .slices-fit .ensures) ∙ not-true _ (c .if3 .taken) in
     sym (section-on (c .before .before .before .before .before .before) (orRefuse (sidesGood (sidesIn r)) 1 0 two) ∙ or-pass 1 0 two (sides-good (c .before .before .before)) ∙ or-fail 2 0 Done bad)
 
--- src/given.rt:118:1
 returns-4 : tie.Need-returns-4
 returns-4 c =
     let a = c .before .before .before .before .before .before .before .before .before .before .args in

@@ -4,14 +4,10 @@ use mathlib.Core.Path.{refl}
 use Rattle.record.specs.Reading.{slicesFit}
 use Rattle.record.proofs.given.slices_fit.Statement.{statement}
 use Rattle.record.proofs.given.slices_fit.Tie as tie
-use Rattle.record.proofs.given.slices_fit.Reads as reads
-use Rattle.record.proofs.given.slices_fit.Lts as lts
 
--- src/given.rt:114:15
 mul-result : tie.Need-mul-result
 mul-result c = search needs
 
--- src/given.rt:110:1
 returns : tie.Need-returns
 unfolding slicesFit
 returns c = refl

@@ -70,6 +70,23 @@ chain-ends r n i l =
     (chain-whole r 7 (partsFrom n i) (19 * l) 4)
     (chain-or (leb (length r) (lengthOf n i l)) 10 (lengthOf n i l)))
 
+-- ---- what the first two groups show when they pass
+pub opened : (r : List ℕ) (p m f k : ℕ) → accepted (opens r p m f k Done) ≡ true
+    → Held r 0 3 4 × (sidesGood (sidesIn r) ≡ true) × (slicesFit (cellsIn r) p m f k ≡ true)
+opened r p m f k e =
+    let S = sidesGood (sidesIn r) in
+    let F = slicesFit (cellsIn r) p m f k in
+    let one = chain-both (whole r 1 0 3 4) (λ rest. orRefuse S 1 0 (orRefuse F 2 0 rest)) (chain-whole r 1 0 3 4) e in
+    let tests = chain-both (orRefuse S 1 0) (orRefuse F 2 0) (chain-or S 1 0) (one .1) in
+    (whole-held r 1 0 3 4 (one .0), or-true S 1 0 (tests .0), or-true F 2 0 (tests .1))
+
+pub fronted : (r : List ℕ) (n : ℕ) → accepted (fronts r n Done) ≡ true → Held r 16 5 4 × Held r 40 3 8 × Held r 68 1 8 × Held r 80 n 1
+fronted r n e =
+    let two = chain-both (whole r 2 16 5 4) (λ rest. whole r 3 40 3 8 (whole r 4 68 1 8 (whole r 5 80 n 1 rest))) (chain-whole r 2 16 5 4) e in
+    let three = chain-both (whole r 3 40 3 8) (λ rest. whole r 4 68 1 8 (whole r 5 80 n 1 rest)) (chain-whole r 3 40 3 8) (two .1) in
+    let four = chain-both (whole r 4 68 1 8) (whole r 5 80 n 1) (chain-whole r 4 68 1 8) (three .1) in
+    (whole-held r 2 16 5 4 (two .0), whole-held r 3 40 3 8 (three .0), whole-held r 4 68 1 8 (four .0), whole-held r 5 80 n 1 (four .1))
+
 -- ---- all of them
 module _ (r : List ℕ) (p m f k : ℕ) where
   pub shape-is : (rest : Answer)
@@ -94,28 +111,24 @@ module _ (r : List ℕ) (p m f k : ℕ) where
       let n = cellsIn r in
       let i = interfacesIn r in
       let l = liquidsIn r in
-      let S = sidesGood (sidesIn r) in
-      let F = slicesFit n p m f k in
       let end = leb (length r) (lengthOf n i l) in
       let all = chain-both (opens r p m f k) (λ rest. fronts r n (flagged r (ends r n i l rest))) (chain-opens r p m f k) e in
-      let one = chain-both (whole r 1 0 3 4) (λ rest. orRefuse S 1 0 (orRefuse F 2 0 rest)) (chain-whole r 1 0 3 4) (all .0) in
-      let tests = chain-both (orRefuse S 1 0) (orRefuse F 2 0) (chain-or S 1 0) (one .1) in
+      let one = opened r p m f k (all .0) in
       let later = chain-both (fronts r n) (λ rest. flagged r (ends r n i l rest)) (chain-fronts r n) (all .1) in
-      let two = chain-both (whole r 2 16 5 4) (λ rest. whole r 3 40 3 8 (whole r 4 68 1 8 (whole r 5 80 n 1 rest))) (chain-whole r 2 16 5 4) (later .0) in
-      let three = chain-both (whole r 3 40 3 8) (λ rest. whole r 4 68 1 8 (whole r 5 80 n 1 rest)) (chain-whole r 3 40 3 8) (two .1) in
-      let four = chain-both (whole r 4 68 1 8) (whole r 5 80 n 1) (chain-whole r 4 68 1 8) (three .1) in
+      let two = fronted r n (later .0) in
+      let place = badFlag (gridOf (sidesIn r)) (flagIn r) in
       let back = chain-both (flagged r) (ends r n i l) (chain-flagged r) (later .1) in
       let six = chain-both (whole r 6 (massesFrom n) i 4) (λ rest. whole r 7 (partsFrom n i) (19 * l) 4 (orRefuse end 10 (lengthOf n i l) rest)) (chain-whole r 6 (massesFrom n) i 4) (back .1) in
       let seven = chain-both (whole r 7 (partsFrom n i) (19 * l) 4) (orRefuse end 10 (lengthOf n i l)) (chain-whole r 7 (partsFrom n i) (19 * l) 4) (six .1) in
       record {
-        first = whole-held r 1 0 3 4 (one .0);
-        sides = or-true S 1 0 (tests .0);
-        slices = or-true F 2 0 (tests .1);
-        settings = whole-held r 2 16 5 4 (two .0);
-        origin = whole-held r 3 40 3 8 (three .0);
-        carry = whole-held r 4 68 1 8 (four .0);
-        flags = whole-held r 5 80 n 1 (four .1);
-        tested = leb-true n (badFlag (gridOf (sidesIn r)) (flagIn r)) (or-true (leb n (badFlag (gridOf (sidesIn r)) (flagIn r))) 4 (badFlag (gridOf (sidesIn r)) (flagIn r)) (back .0));
+        first = one .0;
+        sides = one .1;
+        slices = one .2;
+        settings = two .0;
+        origin = two .1;
+        carry = two .2;
+        flags = two .3;
+        tested = leb-true n place (or-true (leb n place) 4 place (back .0));
         masses = whole-held r 6 (massesFrom n) i 4 (six .0);
         parts = whole-held r 7 (partsFrom n i) (19 * l) 4 (seven .0);
         end = leb-true (length r) (lengthOf n i l) (or-true end 10 (lengthOf n i l) (seven .1));
