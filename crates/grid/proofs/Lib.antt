@@ -20,6 +20,11 @@ pub mod Lists
 pub mod Walls
 pub mod Beside
 pub mod Prepared
+pub mod Blocks
+pub mod Stores
+pub mod Spans
+pub mod Arrivals
+pub mod Mirrored
 pub mod Moved
 pub mod Quiet
 pub mod Fair
@@ -29,3 +34,4 @@ pub mod Settled
 pub mod Opened
 pub mod Plain
 pub mod Poise
+pub mod Onward

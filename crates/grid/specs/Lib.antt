@@ -8,3 +8,5 @@ pub mod Promise
 pub mod Passes
 pub mod Between
 pub mod Sight
+pub mod Pasted
+pub mod Sources

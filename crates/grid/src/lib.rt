@@ -1,11 +1,14 @@
 // Layer 2, the grid: states, check, step and run. Knows the promises of lattice.
+pub mod cells;
 pub mod convert;
 pub mod copying;
 pub mod extent;
 pub mod fluid;
 pub mod layer;
+pub mod lengths;
 pub mod marks;
 pub mod neighbours;
+pub mod streaming;
 
 // The sides of a grid, in cells.
 pub struct Sides {
