@@ -33,7 +33,6 @@ pub mod Marking
 pub mod Settled
 pub mod Opened
 pub mod Plain
-pub mod Blocks
 pub mod Rules
 pub mod Checks
 pub mod Poise
