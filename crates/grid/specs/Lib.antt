@@ -11,3 +11,4 @@ pub mod Sight
 pub mod Pasted
 pub mod Sources
 pub mod PutAt
+pub mod Halfway

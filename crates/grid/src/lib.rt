@@ -5,9 +5,11 @@ pub mod copying;
 pub mod extent;
 pub mod fluid;
 pub mod layer;
+pub mod lengths;
 pub mod marks;
 pub mod moving;
 pub mod neighbours;
+pub mod sets;
 pub mod streaming;
 
 // The sides of a grid, in cells.
