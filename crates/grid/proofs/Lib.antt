@@ -20,3 +20,5 @@ pub mod Lists
 pub mod Walls
 pub mod Beside
 pub mod Prepared
+pub mod Held
+pub mod Trades

@@ -4,6 +4,7 @@ pub mod extent;
 pub mod fluid;
 pub mod layer;
 pub mod neighbours;
+pub mod trading;
 
 // The sides of a grid, in cells.
 pub struct Sides {

@@ -1,0 +1,40 @@
+// Stage 2: what an interface cell gains from its neighbours, and the mark that stage 5 makes of it.
+use whole::wide;
+ghost use mathlib.Core.Path.{_≡_};
+ghost use mathlib.Core.Bool.{cond};
+ghost use Prim.Native.Nat.{_+_, _<_};
+ghost use lib.Dec.{eqb};
+ghost use lib.IntN.{pos, _-ℤ_};
+ghost use lib.ListN.{length, getD};
+ghost use Rattle.grid.specs.Sight.{Bodied, Around, sight, noSettings};
+ghost use Rattle.grid.specs.Step.{tradedMass};
+ghost use Rattle.grid.specs.Trade.{Fills, Traders, trading, passed, markFor};
+
+fn difference(a: i32, b: i32) -> i64
+    ensures { λ r. ⌜ r ≡ a -ℤ b ⌝ }
+{
+    wide(a) - wide(b)
+}
+
+// Two fills together.
+fn both(a: u32, b: u32) -> i64
+    ensures { λ r. ⌜ r ≡ pos (a + b) ⌝ }
+{
+    a as i64 + b as i64
+}
+
+// What cell c gains from cell b in direction i, whose opposite is k.
+fn traded(flags: &[u8], parts: &[i32], fill: &[u32], c: usize, b: usize, i: usize, k: usize) -> i64
+    requires { ⌜ Bodied (now flags) (now parts) × Fills (now flags) (now fill) × (c < length (now flags)) × (b < length (now flags)) × (i < 19) × (k < 19) ⌝ }
+    ensures { λ r. ⌜ r ≡ passed (now (flags .entry)) (now (parts .entry)) (now (fill .entry)) c b i k ⌝ }
+{
+    let f = flags[b];
+    let d = difference(parts[19 * b + k], parts[19 * c + i]);
+    if f == 2 {
+        return d;
+    }
+    if f == 1 {
+        return lattice::exchange::exchange(both(fill[c], fill[b]), d);
+    }
+    0
+}
