@@ -38,3 +38,19 @@ fn traded(flags: &[u8], parts: &[i32], fill: &[u32], c: usize, b: usize, i: usiz
     }
     0
 }
+
+// The mass of interface cell c with what it gains from its neighbours.
+fn traded_mass(flags: &[u8], parts: &[i32], mass: &[i32], fill: &[u32], off: &[usize; 19], low: usize, c: usize) -> i64
+    requires { ⌜ Traders (now flags) (now parts) (now mass) (now fill) × Around (length (now flags)) (now off) low c × (getD (now flags) c 3 ≡ 1) ⌝ }
+    ensures { λ r. ⌜ r ≡ tradedMass (sight (trading (now (flags .entry)) (now (parts .entry)) (now (mass .entry)) (now (fill .entry))) (now (off .entry)) low noSettings) c ⌝ }
+{
+    let k = c - low;
+    let mut m = wide(mass[c]);
+    let mut i = 1;
+    while i < 19 {
+        m += traded(flags, parts, fill, c, k + off[i], i, i + 1);
+        m += traded(flags, parts, fill, c, k + off[i + 1], i + 1, i);
+        i += 2;
+    }
+    m
+}
