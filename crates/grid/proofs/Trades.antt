@@ -15,12 +15,13 @@ use Rattle.whole.specs.Sums.{sum-abs}
 use Rattle.whole.specs.Bounds.{abs-add, abs-sub, abs-mul, abs-quot}
 use Rattle.whole.specs.Machine.{Within}
 use Rattle.lattice.specs.Lattice.{d3q19, pairOpp}
-use Rattle.lattice.specs.Cell.{exchange}
+use Rattle.lattice.specs.Cell.{exchange, over, under}
 use Rattle.lattice.proofs.Paired.{paired19}
-use Rattle.grid.specs.State.{byFlag, liquid, stateOf}
-use Rattle.grid.specs.Step.{traded, tradedMass, difference}
+use Rattle.grid.specs.State.{Scene, byFlag, liquid, stateOf}
+use Rattle.grid.specs.Step.{flagAt, traded, tradedMass, difference, newDensity}
+use Rattle.grid.specs.Between.{movedMass, firstMark}
 use Rattle.grid.specs.Sight.{Bodied, Around, sight, noSettings}
-use Rattle.grid.specs.Trade.{Fills, Masses, Traders, trading, apart, passed}
+use Rattle.grid.specs.Trade.{Fills, Masses, Traders, trading, apart, passed, markFor}
 use Rattle.grid.proofs.Lists.{getD-there}
 
 -- neither fluid nor interface
@@ -30,6 +31,13 @@ module _ {ℓ} {A : Type ℓ} where
   by-neither (suc zero) x y z g h = absurd (h refl)
   by-neither (suc (suc zero)) x y z g h = absurd (g refl)
   by-neither (suc (suc (suc n))) x y z g h = refl
+
+  -- no interface cell
+  pub by-other : (f : ℕ) (x y : A) → (f ≡ 1 → ⊥) → byFlag f x y x x ≡ x
+  by-other zero x y h = refl
+  by-other (suc zero) x y h = absurd (h refl)
+  by-other (suc (suc zero)) x y h = refl
+  by-other (suc (suc (suc n))) x y h = refl
 
 -- ---- by cases, of the flag as the code reads it
 module _ (flags : List ℕ) (parts : List ℤ) (fills : List ℕ) (c b i k : ℕ) (h : b < length flags) where
@@ -161,3 +169,26 @@ module _ (flags : List ℕ) (parts masses : List ℤ) (fills off : List ℕ) (lo
 
     pub mass-within : Within (tradedMass (sight (trading flags parts masses fills) off low noSettings) c) 44826624
     mass-within = subst (λ (z : ℤ). Within z 44826624) gained-all (gained-within 18 (omega arith))
+
+-- ---- after stages 1 to 4: with the density of a liquid cell, and 0 for any other, the code's mass and mark are those of the passes
+module _ (S : Scene) (c : ℕ) (ρ : ℤ) (e : ρ ≡ byFlag (flagAt S c) (pos 0) (newDensity S c) (newDensity S c) (pos 0)) where
+  pub moved-mass : byFlag (flagAt S c) ρ (tradedMass S c) ρ ρ ≡ movedMass S c
+  unfolding movedMass
+  moved-mass = ap (λ (r : ℤ). byFlag (flagAt S c) r (tradedMass S c) r r) e ∙ go (flagAt S c)
+    where
+      go : (f : ℕ) → let r = byFlag f (pos 0) (newDensity S c) (newDensity S c) (pos 0) in byFlag f r (tradedMass S c) r r ≡ byFlag f (pos 0) (tradedMass S c) (newDensity S c) (pos 0)
+      go zero = refl
+      go (suc zero) = refl
+      go (suc (suc zero)) = refl
+      go (suc (suc (suc n))) = refl
+
+  pub first-mark : markFor (flagAt S c) (movedMass S c) ρ ≡ firstMark S c
+  unfolding markFor movedMass firstMark
+  first-mark = ap (λ (r : ℤ). markFor (flagAt S c) (movedMass S c) r) e ∙ go (flagAt S c)
+    where
+      go : (f : ℕ) → markFor f (byFlag f (pos 0) (tradedMass S c) (newDensity S c) (pos 0)) (byFlag f (pos 0) (newDensity S c) (newDensity S c) (pos 0))
+          ≡ byFlag f 0 (cond (over (tradedMass S c) (newDensity S c)) 1 (cond (under (tradedMass S c) (newDensity S c)) 2 0)) 0 0
+      go zero = refl
+      go (suc zero) = refl
+      go (suc (suc zero)) = refl
+      go (suc (suc (suc n))) = refl

@@ -1,11 +1,10 @@
 // Stage 2: what an interface cell gains from its neighbours, and the mark that stage 5 makes of it.
 use whole::wide;
 ghost use mathlib.Core.Path.{_≡_};
-ghost use mathlib.Core.Bool.{cond};
 ghost use Prim.Native.Nat.{_+_, _<_};
-ghost use lib.Dec.{eqb};
 ghost use lib.IntN.{pos, _-ℤ_};
 ghost use lib.ListN.{length, getD};
+ghost use Rattle.grid.specs.State.{byFlag};
 ghost use Rattle.grid.specs.Sight.{Bodied, Around, sight, noSettings};
 ghost use Rattle.grid.specs.Step.{tradedMass};
 ghost use Rattle.grid.specs.Trade.{Fills, Traders, trading, passed, markFor};
@@ -40,7 +39,15 @@ fn traded(flags: &[u8], parts: &[i32], fill: &[u32], c: usize, b: usize, i: usiz
 }
 
 // The mass of interface cell c with what it gains from its neighbours.
-fn traded_mass(flags: &[u8], parts: &[i32], mass: &[i32], fill: &[u32], off: &[usize; 19], low: usize, c: usize) -> i64
+fn traded_mass(
+    flags: &[u8],
+    parts: &[i32],
+    mass: &[i32],
+    fill: &[u32],
+    off: &[usize; 19],
+    low: usize,
+    c: usize,
+) -> i64
     requires { ⌜ Traders (now flags) (now parts) (now mass) (now fill) × Around (length (now flags)) (now off) low c × (getD (now flags) c 3 ≡ 1) ⌝ }
     ensures { λ r. ⌜ r ≡ tradedMass (sight (trading (now (flags .entry)) (now (parts .entry)) (now (mass .entry)) (now (fill .entry))) (now (off .entry)) low noSettings) c ⌝ }
 {
@@ -53,4 +60,34 @@ fn traded_mass(flags: &[u8], parts: &[i32], mass: &[i32], fill: &[u32], off: &[u
         i += 2;
     }
     m
+}
+
+// The mass after stage 2: an interface cell's is traded, any other's is its density, which is 0 where there is no liquid.
+fn new_mass(
+    flags: &[u8],
+    parts: &[i32],
+    mass: &[i32],
+    fill: &[u32],
+    off: &[usize; 19],
+    low: usize,
+    c: usize,
+    rho: i32,
+) -> i32
+    requires { ⌜ Traders (now flags) (now parts) (now mass) (now fill) × (c < length (now flags)) × (getD (now flags) c 3 ≡ 1 → Around (length (now flags)) (now off) low c) ⌝ }
+    ensures { λ r. ⌜ r ≡ byFlag (getD (now (flags .entry)) c 3) rho (tradedMass (sight (trading (now (flags .entry)) (now (parts .entry)) (now (mass .entry)) (now (fill .entry))) (now (off .entry)) low noSettings) c) rho rho ⌝ }
+{
+    if flags[c] == 1 {
+        return traded_mass(flags, parts, mass, fill, off, low, c) as i32;
+    }
+    rho
+}
+
+// The mark that stage 5 gives a cell of flag f: 1 filled, 2 to be emptied, else 0.
+fn new_mark(f: u8, m: i32, rho: i32) -> u8
+    ensures { λ r. ⌜ r ≡ markFor f m rho ⌝ }
+{
+    if f == 1 {
+        return lattice::convert::mark_of(wide(m), wide(rho));
+    }
+    0
 }

@@ -84,10 +84,11 @@ both-is c = held64 (c .both .result) (c .both .ok) ∙ c .both .ensures
 exchange-requires : tie.Need-exchange-requires
 exchange-requires c κs =
     let s = c .before .before .before .before .before .before .before .before .before .before .before in
-    let d = c .before .before .before .before .before in
-    (rw (both-is c) (record { abs = omega (arith, s .pre .1 .low (s .args .c) (s .pre .2), s .pre .1 .low (s .args .b) (s .pre .3)) }),
-    rw (apart-is d) (apart-in (getD (s .args .parts .now) (19 * s .args .b + s .args .k) (pos 0)) (getD (s .args .parts .now) (19 * s .args .c + s .args .i) (pos 0))
-    (d .before .before .difference-arg .given) (d .before .difference-arg2 .given)))
+    let d = c .before .before .before .before .before in (
+      rw (both-is c) (record { abs = omega (arith, s .pre .1 .low (s .args .c) (s .pre .2), s .pre .1 .low (s .args .b) (s .pre .3)) }),
+      rw (apart-is d) (apart-in (getD (s .args .parts .now) (19 * s .args .b + s .args .k) (pos 0)) (getD (s .args .parts .now) (19 * s .args .c + s .args .i) (pos 0))
+          (d .before .before .difference-arg .given) (d .before .difference-arg2 .given)),
+    )
 
 returns-2 : tie.Need-returns-2
 returns-2 c =

@@ -40,7 +40,7 @@ loop-holds c =
       omega arith,
       refl,
       held64 (c .wide .result) (c .wide .ok) ∙ c .wide .ensures ∙ held32 (getD (s .args .mass .now) (s .args .c) (pos 0)) (c .before .wide-arg .given)
-      ∙ gained-none (s .args .flags .now) (s .args .parts .now) (s .args .mass .now) (s .args .fill .now) (s .args .off .now) (s .args .low) (s .args .c),
+          ∙ gained-none (s .args .flags .now) (s .args .parts .now) (s .args .mass .now) (s .args .fill .now) (s .args .off .now) (s .args .low) (s .args .c),
     )
 
 mul-traded : tie.Need-mul-traded Inv-loop μ-loop
