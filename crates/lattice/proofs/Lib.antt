@@ -3,5 +3,9 @@ pub mod Shares
 pub mod ExchangeBack
 pub mod Balanced
 pub mod Fills
+pub mod Momentum
+pub mod Pairs
 pub mod Ranges
+pub mod Reading
 pub mod Table
+pub mod Tame

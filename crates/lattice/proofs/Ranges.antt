@@ -1,5 +1,6 @@
 -- Ranges: a number within ±n by two tests, and gravity out of range by one component alone. Assumes nothing.
 use mathlib.Core.Path.{_≡_, refl, sym, _∙_, ap}
+use mathlib.Core.Logic.{⊎-elim}
 use mathlib.Core.Bool.{Bool, true, false, not, _&&_}
 use Prim.Native.Nat.{ℕ, suc, _+_, _*_, _<_, _≤_}
 use native.Mathlib.Nat.{mul-le-mul}
@@ -11,6 +12,7 @@ use mir.Syntax.{w64}
 use mir.Val.{SFits, toZ, ofZ}
 use mir.Facts.{toZ-ofZ}
 use borrow.Author.Tests.{leb-true, leb-false, lt-leb, not-true, not-false}
+use Rattle.whole.specs.Order.{≤-or}
 use Rattle.whole.specs.Machine.{Within}
 use Rattle.whole.specs.Ring.{square-pos}
 use Rattle.lattice.specs.Cell.{gravityGood}
@@ -39,3 +41,22 @@ large z r f e t =
 
 pub little : (z : ℤ) (r : Bool) → SFits w64 z → r ≡ leb (natAbs (toZ w64 (ofZ w64 z))) 1048 → not r ≡ false → Within z 1048
 little z r f e t = record { abs = leb-true (natAbs z) 1048 (sym (rw (toZ-ofZ f) at e) ∙ not-false r t) }
+
+-- gravity in range: each component is within ±1048
+module _ (x y z : ℤ) (e : gravityGood x y z ≡ true) where
+  sum-low : natAbs x * natAbs x + natAbs y * natAbs y + natAbs z * natAbs z ≤ 1099511
+  unfolding gravityGood
+  sum-low = leb-true _ 1099511 (ap (λ (s : ℤ). leZ s (pos 1099511)) (sym (sum-of-squares x y z)) ∙ e)
+
+  -- 1049² is too much
+  root : (n s : ℕ) → n * n + s ≤ 1099511 → n ≤ 1048
+  root n s h = ⊎-elim (λ k. k) (λ k. absurd (omega (arith, mul-le-mul k k))) (≤-or n 1048)
+
+  pub weak-x : Within x 1048
+  weak-x = record { abs = root (natAbs x) (natAbs y * natAbs y + natAbs z * natAbs z) (omega (arith, sum-low)) }
+
+  pub weak-y : Within y 1048
+  weak-y = record { abs = root (natAbs y) (natAbs x * natAbs x + natAbs z * natAbs z) (omega (arith, sum-low)) }
+
+  pub weak-z : Within z 1048
+  weak-z = record { abs = root (natAbs z) (natAbs x * natAbs x + natAbs y * natAbs y) (omega (arith, sum-low)) }

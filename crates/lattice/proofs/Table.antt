@@ -2,16 +2,19 @@
 use mathlib.Core.Path.{_≡_, refl, sym, _∙_, ap}
 use mathlib.Core.Logic.{_⊎_, ⊎-elim}
 use mathlib.Core.Bool.{Bool, true, false, _&&_, _||_, not}
-use mathlib.Core.List.{List, [], _∷_}
+use mathlib.Core.List.{List, [], _∷_, map}
 use Prim.Native.Nat.{ℕ, zero, suc, _<_, _≤_}
 use native.Mathlib.Omega.{arith}
 use lib.Dec.{T, leb, ltb, eqb}
 use lib.ListN.{getD}
 use borrow.Author.Tests.{eqb-true, eqb-false, ne-eqb, lt-ltb, le-ltb}
-use Rattle.whole.specs.Bools.{or-cases}
-use Rattle.whole.specs.Fold.{all, open-fold}
+use lib.IntN.{ℤ, pos, _+ℤ_, _*ℤ_}
+use Rattle.whole.specs.Bools.{or-cases, true-T}
+use Rattle.whole.specs.Fold.{all, tab, open-fold}
+use Rattle.whole.specs.Ring.{E, var, con, _⊕_, _⊖_, _⊗_, eval, vanishes, ring}
 use Rattle.whole.specs.Search.{all-at}
-use Rattle.lattice.specs.Lattice.{d3q19, open-lattice}
+use Rattle.whole.specs.Tab.{upto-all}
+use Rattle.lattice.specs.Lattice.{V3, dot, d3q19, open-lattice}
 
 -- weight 2 for 1 to 6, weight 1 for the rest
 weight-right : ℕ → Bool
@@ -32,3 +35,43 @@ heavy i h k = let e : ltb i 7 ≡ true = lt-ltb i 7 k in eqb-true (d3q19 .weight
 
 pub light : (i : ℕ) → 7 ≤ i → i < 19 → d3q19 .weight i ≡ 1
 light i h k = let e : ltb i 7 ≡ false = le-ltb i 7 h in eqb-true (d3q19 .weight i) 1 (rw e at (weight-at i (omega arith) k))
+
+-- ---- e·v by forms: the code's array, entry by entry, over the three components
+module _ (x y z o : E) where
+  abbrev forms-of : List E
+  forms-of =
+      o
+      ∷ x ∷ (o ⊖ x) ∷ y ∷ (o ⊖ y) ∷ z ∷ (o ⊖ z)
+      ∷ (x ⊕ y) ∷ (o ⊖ x ⊖ y) ∷ (x ⊖ y) ∷ (o ⊖ x ⊕ y)
+      ∷ (y ⊕ z) ∷ (o ⊖ y ⊖ z) ∷ (y ⊖ z) ∷ (o ⊖ y ⊕ z)
+      ∷ (x ⊕ z) ∷ (o ⊖ x ⊖ z) ∷ (x ⊖ z) ∷ (o ⊖ x ⊕ z)
+      ∷ []
+
+abbrev pub forms : List E
+forms = forms-of (var 0) (var 1) (var 2) (con (pos 0))
+
+-- e·v of the table's vector as a form
+table-form : V3 → E
+table-form e = con (e .x) ⊗ var 0 ⊕ con (e .y) ⊗ var 1 ⊕ con (e .z) ⊗ var 2
+
+form-right : ℕ → Bool
+form-right k = vanishes (getD forms k (con (pos 0)) ⊖ table-form (d3q19 .e k))
+
+forms-right : all 19 form-right ≡ true
+unfolding open-fold open-lattice form-right table-form
+forms-right = refl
+
+eval-at : (ρ : List ℤ) (l : List E) (k : ℕ) → getD (map (eval ρ) l) k (pos 0) ≡ eval ρ (getD l k (con (pos 0)))
+eval-at ρ [] zero = refl
+eval-at ρ [] (suc k) = refl
+eval-at ρ (e ∷ l) zero = refl
+eval-at ρ (e ∷ l) (suc k) = eval-at ρ l k
+
+dot-right : (x y z : ℤ) (k : ℕ) → k < 19 → getD (map (eval (x ∷ y ∷ z ∷ [])) forms) k (pos 0) ≡ dot (d3q19 .e k) (record { x = x; y = y; z = z })
+unfolding table-form form-right
+dot-right x y z k h =
+    eval-at (x ∷ y ∷ z ∷ []) forms k
+    ∙ ring (x ∷ y ∷ z ∷ []) (getD forms k (con (pos 0))) (table-form (d3q19 .e k)) (true-T (all-at 19 form-right forms-right k h))
+
+pub dots-right : (x y z : ℤ) → map (eval (x ∷ y ∷ z ∷ [])) forms ≡ tab 19 (λ k. dot (d3q19 .e k) (record { x = x; y = y; z = z }))
+dots-right x y z = upto-all (pos 0) (λ k. dot (d3q19 .e k) (record { x = x; y = y; z = z })) (map (eval (x ∷ y ∷ z ∷ [])) forms) 19 refl (dot-right x y z)

@@ -3,7 +3,10 @@ pub mod convert;
 pub mod directions;
 pub mod exchange;
 pub mod fill;
+pub mod gravity;
 pub mod limits;
+pub mod moments;
+pub mod stream;
 
 // The relaxation and the gravity of a step, as document 01's settings have them.
 pub struct Settings {
@@ -11,4 +14,12 @@ pub struct Settings {
     pub gx: i64,
     pub gy: i64,
     pub gz: i64,
+}
+
+// Density and momentum of a cell.
+pub struct Flow {
+    pub rho: i32,
+    pub x: i32,
+    pub y: i32,
+    pub z: i32,
 }

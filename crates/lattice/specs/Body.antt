@@ -1,0 +1,47 @@
+-- What the code holds of one cell, in the definitions' words: its parts as a function of the direction, a flow's momentum as a vector, and the tests
+-- of a cell that stands by itself. Assumes nothing.
+use Prim.Native.Nat.{ℕ, suc, _<_}
+use mathlib.Core.Bool.{Bool, true, false, _&&_}
+use mathlib.Core.List.{List}
+use lib.IntN.{ℤ, pos, negsuc}
+use lib.Signed.{_≤ℤ_}
+use lib.ListN.{getD}
+use Rattle.whole.specs.Fold.{all}
+use Rattle.whole.specs.Machine.{Within}
+use Rattle.lattice.specs.declared.Flow.{Flow}
+use Rattle.lattice.specs.Lattice.{V3, dot, Lattice, density, momentum}
+use Rattle.lattice.specs.Cell.{partGood, dense, slow}
+
+-- part k of an array of parts
+abbrev pub partsOf : List ℤ → ℕ → ℤ
+partsOf f k = getD f k (pos 0)
+
+-- part 0 within ±r, each other part within ±b: part 0 is what the eighteen others leave, and so may be the largest by far
+pub record Bounded (f : List ℤ) (r b : ℕ) : Type 0 where
+  pub rest : Within (partsOf f 0) r
+  pub at : (k : ℕ) → 0 < k → k < 19 → Within (partsOf f k) b
+
+-- a flow's momentum
+abbrev pub vec : Flow → V3
+vec v = record { x = v .x; y = v .y; z = v .z }
+
+-- density in its range, and no component above a third of the largest density: what the products of stages 1, 4 and 5 need
+pub record Tame (v : Flow) : Type 0 where
+  pub low : pos 294912 ≤ℤ v .rho
+  pub rho : Within (v .rho) 1179648
+  pub x : Within (v .x) 393216
+  pub y : Within (v .y) 393216
+  pub z : Within (v .z) 393216
+
+-- stage 3's test of a flow
+unfoldable pub steadyFlow : Flow → Bool
+steadyFlow v = dense (v .rho) && slow (v .rho) (dot (vec v) (vec v))
+
+-- each liquid cell has parts, ρ and 9·|j|² in their ranges
+unfoldable pub goodBody : Lattice → (ℕ → ℤ) → Bool
+goodBody L f = all (suc (L .q)) (λ k. partGood (f k)) && dense (density L f) && slow (density L f) (dot (momentum L f) (momentum L f))
+
+-- names every definition of this file: whoever unfolds this computes with all of them
+unfoldable pub open-body : Unit {0}
+unfolding steadyFlow goodBody
+open-body = tt
