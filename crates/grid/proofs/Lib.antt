@@ -22,3 +22,4 @@ pub mod Beside
 pub mod Prepared
 pub mod Held
 pub mod Trades
+pub mod Blocks
