@@ -22,4 +22,6 @@ pub mod Beside
 pub mod Prepared
 pub mod Held
 pub mod Trades
+pub mod Arrays
+pub mod Weighed
 pub mod Blocks

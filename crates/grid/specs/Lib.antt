@@ -10,3 +10,4 @@ pub mod Between
 pub mod Sight
 pub mod Trade
 pub mod Pasted
+pub mod Filled

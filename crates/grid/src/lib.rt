@@ -2,6 +2,7 @@
 pub mod cells;
 pub mod copying;
 pub mod extent;
+pub mod filling;
 pub mod fluid;
 pub mod layer;
 pub mod neighbours;
