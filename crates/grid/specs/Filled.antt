@@ -7,6 +7,7 @@ use lib.IntN.{ℤ, pos}
 use lib.Signed.{_<ℤ_}
 use lib.Dec.{eqb}
 use lib.ListN.{length, getD}
+use Rattle.whole.specs.Fold.{tab, all}
 use Rattle.whole.specs.Machine.{Within}
 use Rattle.lattice.specs.Lattice.{d3q19, density}
 use Rattle.lattice.specs.Cell.{massGood}
@@ -37,7 +38,15 @@ fillAt flags parts masses c = fillFor (getD flags c 3) (getD masses c (pos 0)) (
 unfoldable pub fairMass : ℕ → ℤ → Bool
 fairMass f m = not (eqb f 1) || massGood m
 
+unfoldable pub fairAt : List ℕ → List ℤ → ℕ → Bool
+fairAt flags masses c = fairMass (getD flags c 3) (getD masses c (pos 0))
+
+-- what the pass leaves: every cell's fill, and whether every interface cell's mass is in its range
+pub record Refilled (flags : List ℕ) (parts masses : List ℤ) (fills : List ℕ) (fair : Bool) : Type 0 where
+  pub fills-are : fills ≡ tab (length flags) (fillAt flags parts masses)
+  pub fair-is : fair ≡ all (length flags) (fairAt flags masses)
+
 -- names every definition of this file: whoever unfolds this computes with all of them
 unfoldable pub open-filled : Unit {0}
-unfolding fillAt fairMass
+unfolding fillAt fairMass fairAt
 open-filled = tt
