@@ -19,7 +19,7 @@ partOf parts c k = getD parts (19 * c + k) (pos 0)
 
 -- parts whose sum 32 bits can hold, and a density that can be divided by
 pub record Weighty (f : ℕ → ℤ) : Type 0 where
-  pub rest : Within (f 0) 536870912
+  pub rest : Within (f 0) 1073741824
   pub each : (k : ℕ) → 0 < k → k < 19 → Within (f k) 33554432
   pub some : pos 0 <ℤ density d3q19 f
 

@@ -11,3 +11,4 @@ pub mod Sight
 pub mod Trade
 pub mod Pasted
 pub mod Filled
+pub mod Born
