@@ -81,7 +81,7 @@ both-tests (suc zero) o u n p q = (p, and-left u n q)
 both-tests (suc (suc zero)) o u n p q = absurd (false≢true p)
 both-tests (suc (suc (suc r))) o u n p q = absurd (false≢true p)
 
-stays : (S : Scene) (c k : ℕ) → dense (newDensity S c) ≡ true → liquid (S .old .flag c) ≡ true → liquid (newFlag S c) ≡ true → newPart S c k ≡ collided S c k
+pub stays : (S : Scene) (c k : ℕ) → dense (newDensity S c) ≡ true → liquid (S .old .flag c) ≡ true → liquid (newFlag S c) ≡ true → newPart S c k ≡ collided S c k
 unfolding newPart newFlag filled emptied
 stays S c k d o l =
     part-cases (S .old .flag c) (besideFilled S c) (filled S c) (emptied S c) (besideEmptied S c) (born S c k) (collided S c k)
@@ -90,7 +90,7 @@ stays S c k d o l =
     o l
 
 -- ---- test 7 has passed
-tested : (S : Scene) → moveAnswer S ≡ Done → (c : ℕ) → c < S .grid .cells → liquid (S .old .flag c) ≡ true → dense (newDensity S c) ≡ true
+pub tested : (S : Scene) → moveAnswer S ≡ Done → (c : ℕ) → c < S .grid .cells → liquid (S .old .flag c) ≡ true → dense (newDensity S c) ≡ true
 unfolding moveAnswer tooFast
 tested S e c h l =
     let a = none-found (S .grid .cells) 7 (first (S .grid .cells) (tooFast S)) _ e in

@@ -12,7 +12,7 @@ use Rattle.whole.specs.Fold.{any, anyDir, tab}
 use Rattle.whole.specs.Search.{any-where}
 use Rattle.grid.specs.declared.Sides.{Sides}
 use Rattle.grid.specs.Grid.{gridOf, cellsOf}
-use Rattle.grid.specs.Passes.{Inner, lowOf, offsetOf, besideAt}
+use Rattle.grid.specs.Passes.{Inner, lowOf, offsetOf, besideAt, Reach}
 use Rattle.grid.proofs.Offsets.{neighbour, near-below}
 use Rattle.grid.proofs.Lists.{getD-there}
 
@@ -50,3 +50,7 @@ module _ {s : Sides} {off : List ℕ} {low : ℕ} (o : Offsets s off low) (c : �
   beside-is bytes d m e =
       any-cong 18 (λ a. eqb (getD bytes (c - low + getD off (suc a) 0) 0) m) (λ a. eqb (getD bytes (gridOf s .near c (suc a)) d) m)
       (λ a h. ap (λ (x : ℕ). eqb x m) (byte-is bytes d e (suc a) (omega arith)))
+
+  -- what `beside` asks
+  pub reach : (bytes : List ℕ) → length bytes ≡ cellsOf s → Reach bytes off (c - low)
+  reach bytes e = record { all = λ i h. subst (λ (m : ℕ). c - low + getD off i 0 < m) (sym e) (place-low i h) }

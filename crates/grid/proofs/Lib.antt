@@ -25,3 +25,16 @@ pub mod Trades
 pub mod Arrays
 pub mod Weighed
 pub mod Blocks
+pub mod Stores
+pub mod Spans
+pub mod Arrivals
+pub mod Mirrored
+pub mod Moved
+pub mod Quiet
+pub mod Fair
+pub mod Ranges
+pub mod Marking
+pub mod Settled
+pub mod Opened
+pub mod Plain
+pub mod Poise

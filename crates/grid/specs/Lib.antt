@@ -12,3 +12,4 @@ pub mod Trade
 pub mod Pasted
 pub mod Filled
 pub mod Born
+pub mod Sources

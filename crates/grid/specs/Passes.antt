@@ -1,16 +1,17 @@
--- What the passes of the step and of the check compute on the way, in terms of the definitions: offsets of neighbours, the
--- coordinates of a walk. Assumes nothing.
+-- What the passes of the step and of the check compute on the way, in terms of the definitions: offsets of neighbours, the coordinates of a walk,
+-- marks. Assumes nothing.
 use Prim.Native.Nat.{ℕ, _+_, _<_, _≤_}
 use mathlib.Core.Path.{_≡_}
-use mathlib.Core.Bool.{Bool, true, _||_, cond}
+use mathlib.Core.Bool.{Bool, true, _&&_, _||_, not, cond}
 use mathlib.Core.List.{List}
-use lib.Dec.{ltb, eqb}
+use lib.Dec.{leb, ltb, eqb}
 use lib.ListN.{length, getD}
 use Rattle.whole.specs.Fold.{anyDir}
 use Rattle.lattice.specs.Lattice.{d3q19}
 use Rattle.grid.specs.declared.Sides.{Sides}
 use Rattle.grid.specs.declared.layer.Place.{Place}
 use Rattle.grid.specs.Grid.{cellAt, atEnd, toward, cellsOf, sidesGood, gridOf}
+use Rattle.grid.specs.Step.{flagAfter}
 use Rattle.grid.specs.Good.{badFlag}
 
 -- the lowest cell that is not in the outer layer
@@ -24,6 +25,10 @@ offsetOf s i = toward d3q19 (s .nx) (s .ny) (lowOf s) i
 -- a neighbour's byte is m: of the cell c with k = c − low, by an array of offsets
 unfoldable pub besideAt : List ℕ → List ℕ → ℕ → ℕ → Bool
 besideAt bytes off k m = anyDir 18 (λ i. eqb (getD bytes (k + getD off i 0) 0) m)
+
+-- every offset leads to a byte
+pub record Reach (bytes off : List ℕ) (k : ℕ) : Type 0 where
+  pub all : (i : ℕ) → i < 19 → k + getD off i 0 < length bytes
 
 -- a cell whose neighbours are all cells
 pub record Inner (s : Sides) (c : ℕ) : Type 0 where
@@ -63,7 +68,45 @@ pub record Flagged (s : Sides) (flags : List ℕ) : Type 0 where
   pub count : length flags ≡ cellsOf s
   pub tested : cellsOf s ≤ badFlag (gridOf s) (flagOf flags)
 
+-- ---- marks: what the passes note of a cell in one byte
+
+-- c is past the first plane, row and cell and before the last ones, so that its neighbours are cells
+unfoldable pub inside : Sides → ℕ → Bool
+inside s c = leb (lowOf s) c && ltb (c + lowOf s) (cellsOf s)
+
+-- a neighbour's byte is m
+unfoldable pub besideIn : Sides → List ℕ → ℕ → ℕ → Bool
+besideIn s bytes m c = anyDir 18 (λ i. eqb (getD bytes (gridOf s .near c i) 0) m)
+
+-- pass 0: 1 at a fluid cell with no wall beside it, where every part streams straight in
+abbrev pub openMark : ℕ → Bool → ℕ
+openMark f walled = cond (eqb f 2 && not walled) 1 0
+
+unfoldable pub openedMark : Sides → List ℕ → List ℕ → ℕ → ℕ
+openedMark s flags marks c = cond (inside s c) (openMark (getD flags c 0) (besideIn s flags 3 c)) (getD marks c 0)
+
+-- pass 2: 1 filled, 2 would be emptied; beside a filled cell it is not
+unfoldable pub keptMark : Sides → List ℕ → ℕ → ℕ
+keptMark s marks c = cond (eqb (getD marks c 0) 2) (cond (besideIn s marks 1 c) 0 2) (getD marks c 0)
+
+-- what pass 2 asks: only inner cells are to be emptied
+pub record Emptying (s : Sides) (marks : List ℕ) : Type 0 where
+  pub sides : sidesGood s ≡ true
+  pub count : length marks ≡ cellsOf s
+  pub inner : (c : ℕ) → c < length marks → getD marks c 0 ≡ 2 → Inner s c
+
+-- pass 3: the new flag, by marks 1 filled, 2 emptied
+unfoldable pub turnedFlag : Sides → List ℕ → List ℕ → ℕ → ℕ
+turnedFlag s flags marks c =
+    flagAfter (flagOf flags c) (besideIn s marks 1 c) (eqb (getD marks c 0) 1) (eqb (getD marks c 0) 2) (besideIn s marks 2 c)
+
+-- what pass 3 asks: only interface cells are marked
+pub record Marked (s : Sides) (flags marks : List ℕ) : Type 0 where
+  pub flagged : Flagged s flags
+  pub count : length marks ≡ cellsOf s
+  pub only : (c : ℕ) → c < length marks → (getD flags c 0 ≡ 1 → ⊥) → getD marks c 0 ≡ 0
+
 -- names every definition of this file: whoever unfolds this computes with all of them
 unfoldable pub open-passes : Unit {0}
-unfolding lowOf offsetOf besideAt placeAfter outerAt
+unfolding lowOf offsetOf besideAt placeAfter outerAt inside besideIn openedMark keptMark turnedFlag
 open-passes = tt

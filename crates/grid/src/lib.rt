@@ -1,12 +1,15 @@
 // Layer 2, the grid: states, check, step and run. Knows the promises of lattice.
 pub mod birth;
 pub mod cells;
+pub mod convert;
 pub mod copying;
 pub mod extent;
 pub mod filling;
 pub mod fluid;
 pub mod layer;
+pub mod marks;
 pub mod neighbours;
+pub mod streaming;
 pub mod trading;
 
 // The sides of a grid, in cells.

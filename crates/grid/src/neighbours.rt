@@ -5,7 +5,7 @@ ghost use mathlib.Core.Bool.{true};
 ghost use Prim.Native.Nat.{_≤_};
 ghost use Rattle.whole.specs.Fold.{tab};
 ghost use Rattle.grid.specs.Grid.{sidesGood, cellAt};
-ghost use Rattle.grid.specs.Passes.{lowOf, offsetOf};
+ghost use Rattle.grid.specs.Passes.{lowOf, offsetOf, besideAt, Reach};
 
 // A cell near the lowest corner.
 fn cell_at(s: Sides, x: usize, y: usize, z: usize) -> usize
@@ -49,4 +49,18 @@ pub fn offsets(s: Sides) -> [usize; 19]
         cell_at(s, 2, 1, 0),
         cell_at(s, 0, 1, 2),
     ]
+}
+
+// Whether a neighbour's byte is m; k is c - low. By pairs and with no way out, so that the passes above run many cells at a time.
+pub fn beside(bytes: &[u8], off: &[usize; 19], k: usize, m: u8) -> bool
+    requires { ⌜ Reach (now bytes) (now off) k ⌝ }
+    ensures { λ r. ⌜ r ≡ besideAt (now (bytes .entry)) (now (off .entry)) k m ⌝ }
+{
+    let mut found = false;
+    let mut i = 1;
+    while i < 19 {
+        found = found | (bytes[k + off[i]] == m) | (bytes[k + off[i + 1]] == m);
+        i += 2;
+    }
+    found
 }

@@ -11,7 +11,7 @@ use lib.Dec.{T}
 use lib.IntN.{ℤ, pos, negsuc, natAbs}
 use lib.ListN.{length, getD, take, drop, set, length-drop}
 use lib.Seq.{drop-cons, take-add, take-at, drop-at, drop-drop, length-take-le, sets}
-use lib.Signed.{ltZ, nonNeg}
+use lib.Signed.{ltZ, nonNeg, mag}
 use borrow.Author.Tests.{ltb-true}
 use mir.Syntax.{Width, w32, w64}
 use mir.Val.{bits, hbits, Fits, SFits, toZ, ofZ}
@@ -73,6 +73,16 @@ sets-append l i (x ∷ a) b =
 -- the same with the place given
 pub sets-then : {A : Type 0} (l : List A) (i j : ℕ) (a b : List A) → i + length a ≡ j → sets (sets l i a) j b ≡ sets l i (a ++ b)
 sets-then l i j a b e = ap (λ (k : ℕ). sets (sets l i a) k b) (sym e) ∙ sym (sets-append l i a b)
+
+-- a second writing that begins where the first one ends
+pub then-put : (l : List ℕ) (i j : ℕ) (a b : List ℕ) {r q : List ℕ} → r ≡ sets l i a → q ≡ sets r j b → i + length a ≡ j → q ≡ sets l i (a ++ b)
+then-put l i j a b e f h = f ∙ ap (λ (o : List ℕ). sets o j b) e ∙ sets-then l i j a b h
+
+-- the same of a signed number that passed a call: what the machine made of it is the number itself
+pub then-signed : (k : ℕ) (v w : Width) (l : List ℕ) (i j : ℕ) (a : List ℕ) (z : ℤ) {r q : List ℕ} → r ≡ sets l i a
+    → q ≡ sets r j (bytesOf k (ofZ w (toZ v (ofZ v z)))) → mag z < 2 ^ hbits v → i + length a ≡ j → q ≡ sets l i (a ++ bytesOf k (ofZ w z))
+then-signed k v w l i j a z {r} e f m h =
+    then-put l i j a (bytesOf k (ofZ w z)) e (f ∙ ap (λ (y : ℤ). sets r j (bytesOf k (ofZ w y))) (toZ-ofZ v z (record { sfits = m }))) h
 
 -- ---- what the code reads: four bytes, and eight as twice four
 one : (k i : ℕ) (s : List ℕ) → i < length s → part (suc k) i s ≡ getD s i 0 ∷ part k (suc i) s

@@ -5,12 +5,14 @@ use mathlib.Core.List.{List, [], _∷_, _++_}
 use lib.IntN.{ℤ, pos}
 use lib.Dec.{eqb}
 use Rattle.whole.specs.Fold.{count}
+use Rattle.whole.specs.Machine.{Within}
 use Rattle.lattice.specs.Cell.{edgeGood, coordinateGood}
 use Rattle.lattice.specs.declared.Settings.{Settings}
 use Rattle.grid.specs.declared.Sides.{Sides}
 use Rattle.grid.specs.Grid.{cellsOf}
-use Rattle.grid.specs.State.{Lent, State, stateOf, byFlag, liquid}
+use Rattle.grid.specs.State.{Lent, stateOf, byFlag, liquid}
 use Rattle.grid.specs.Outcome.{settingsGood}
+use Rattle.grid.specs.Passes.{flagOf}
 use Rattle.record.specs.declared.Site.{Site}
 use Rattle.record.specs.Bytes.{u32Of, i32Of, i64Of, join, gathered}
 
@@ -40,36 +42,52 @@ abbrev pub section : ℕ → List (List ℕ) → List ℕ
 section n numbers = u32Of n ++ join numbers
 
 -- interface masses by cell number
-unfoldable pub massBytes : ℕ → State → List ℕ
-massBytes n s = gathered n (λ c. byFlag (s .flag c) [] (i32Of (s .mass c)) [] [])
+unfoldable pub massBytes : ℕ → (ℕ → ℕ) → (ℕ → ℤ) → List ℕ
+massBytes n flag mass = gathered n (λ c. byFlag (flag c) [] (i32Of (mass c)) [] [])
 
 -- parts of liquid cells by cell number, 19 each
-unfoldable pub cellBytes : State → ℕ → List ℕ
-cellBytes s c = gathered 19 (λ k. i32Of (s .part c k))
+unfoldable pub cellBytes : (ℕ → ℤ) → List ℕ
+cellBytes part = gathered 19 (λ k. i32Of (part k))
 
-unfoldable pub partBytes : ℕ → State → List ℕ
-partBytes n s = gathered n (λ c. byFlag (s .flag c) [] (cellBytes s c) (cellBytes s c) [])
+unfoldable pub partBytes : ℕ → (ℕ → ℕ) → (ℕ → ℕ → ℤ) → List ℕ
+partBytes n flag part = gathered n (λ c. byFlag (flag c) [] (cellBytes (part c)) (cellBytes (part c)) [])
 
--- the record of a grid: 3 sides (u32); 5 settings p, gx, gy, gz, edge (i32); 3 origin (i64); 1 carry (i64); N flags (u8); masses; parts
-unfoldable pub recordOf : Sides → Settings → Site → Lent → List ℕ
-recordOf s g t a =
-    let n = cellsOf s in
-    let h = stateOf 18 a in
+-- sections 1 to 4: 3 sides (u32); 5 settings p, gx, gy, gz, edge (i32); 3 origin (i64); 1 carry (i64)
+unfoldable pub headBytes : Sides → Settings → Site → ℤ → List ℕ
+headBytes s g t carry =
     join (
     section 3 (u32Of (s .nx) ∷ u32Of (s .ny) ∷ u32Of (s .nz) ∷ [])
     ∷ section 5 (i32Of (g .p) ∷ i32Of (g .gx) ∷ i32Of (g .gy) ∷ i32Of (g .gz) ∷ i32Of (t .edge) ∷ [])
     ∷ section 3 (i64Of (t .x) ∷ i64Of (t .y) ∷ i64Of (t .z) ∷ [])
-    ∷ section 1 (i64Of (h .carry) ∷ [])
-    ∷ section n (a .flags ∷ [])
-    ∷ section (interfaces n (h .flag)) (massBytes n h ∷ [])
-    ∷ section (19 * liquids n (h .flag)) (partBytes n h ∷ [])
+    ∷ section 1 (i64Of carry ∷ [])
     ∷ [])
+
+-- sections 5 to 7: N flags (u8); interface masses; parts of liquid cells
+unfoldable pub cellsBytes : ℕ → List ℕ → (ℕ → ℤ) → (ℕ → ℕ → ℤ) → List ℕ
+cellsBytes n flags mass part =
+    join (
+    section n (flags ∷ [])
+    ∷ section (interfaces n (flagOf flags)) (massBytes n (flagOf flags) mass ∷ [])
+    ∷ section (19 * liquids n (flagOf flags)) (partBytes n (flagOf flags) part ∷ [])
+    ∷ [])
+
+-- the record of a grid
+unfoldable pub recordOf : Sides → Settings → Site → Lent → List ℕ
+recordOf s g t a = let h = stateOf 18 a in headBytes s g t (h .carry) ++ cellsBytes (cellsOf s) (a .flags) (h .mass) (h .part)
 
 -- its length, 92 + N + 4I + 76L
 unfoldable pub recordLength : Sides → Lent → ℕ
 recordLength s a = lengthOf (cellsOf s) (interfaces (cellsOf s) (stateOf 18 a .flag)) (liquids (cellsOf s) (stateOf 18 a .flag))
 
+-- settings that fit the record's numbers, as those in their ranges do
+pub record Small (g : Settings) (t : Site) : Type 0 where
+  pub p : Within (g .p) 2147483647
+  pub gx : Within (g .gx) 2147483647
+  pub gy : Within (g .gy) 2147483647
+  pub gz : Within (g .gz) 2147483647
+  pub edge : Within (t .edge) 2147483647
+
 -- names every definition of this file: whoever unfolds this computes with all of them
 unfoldable pub open-layout : Unit {0}
-unfolding siteGood interfaces liquids massBytes cellBytes partBytes recordOf recordLength
+unfolding siteGood interfaces liquids massBytes cellBytes partBytes headBytes cellsBytes recordOf recordLength
 open-layout = tt

@@ -4,7 +4,7 @@ use mathlib.Core.Bool.{Bool, true, false, _&&_, cond}
 use mathlib.Core.List.{List, [], _∷_}
 use lib.IntN.{ℤ, pos}
 use lib.Dec.{leb, eqb}
-use lib.ListN.{length, getD}
+use lib.ListN.{length}
 use Rattle.lattice.specs.Lattice.{density, d3q19}
 use Rattle.lattice.specs.declared.Settings.{Settings}
 use Rattle.grid.specs.declared.Sides.{Sides}
@@ -15,6 +15,7 @@ use Rattle.grid.specs.State.{State, Lent, lentOf, byFlag}
 use Rattle.grid.specs.Step.{fillFor}
 use Rattle.grid.specs.Good.{badFlag, badFluid, badRule}
 use Rattle.grid.specs.Outcome.{accepted, orRefuse, ifNone}
+use Rattle.grid.specs.Passes.{flagOf}
 use Rattle.record.specs.declared.Site.{Site}
 use Rattle.record.specs.declared.Head.{Head}
 use Rattle.record.specs.Bytes.{part, u32At, i32At, i64At}
@@ -43,7 +44,7 @@ unfoldable pub flagsIn : List ℕ → List ℕ
 flagsIn r = part (cellsIn r) 84 r
 
 unfoldable pub flagIn : List ℕ → ℕ → ℕ
-flagIn r c = getD (flagsIn r) c 3
+flagIn r c = flagOf (flagsIn r) c
 
 -- I and L of those flags
 unfoldable pub interfacesIn : List ℕ → ℕ

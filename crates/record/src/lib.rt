@@ -1,5 +1,9 @@
 // Layer 2, the grid record: its reader and its writer. Knows the promises of grid.
+mod cells;
+mod count;
+mod front;
 mod number;
+mod put;
 
 use grid::Answer;
 use grid::Sides;

@@ -1,3 +1,7 @@
+pub mod Unique
+pub mod Figures
+pub mod Meaning
 pub mod Floats
 pub mod Cells
 pub mod Axes
+pub mod Columns

@@ -1,7 +1,9 @@
 // Layer 3, tunnel readings: placing, cell point and depth. Knows the promises of grid and lattice.
 pub mod cell;
+pub mod column;
 mod exact;
 pub mod placing;
+mod sum;
 
 // A survey point or the grid's origin, in whole millimetres.
 pub struct Point {
@@ -24,4 +26,12 @@ pub struct CellPoint {
     pub y: f32,
     pub z: f32,
     pub fill: f32,
+}
+
+// What the depth of a column answers: the refusal's number and place, solid, dry, or a depth in cells.
+pub enum Depth {
+    Refused(u8, usize),
+    Solid,
+    Dry,
+    Deep(f32),
 }

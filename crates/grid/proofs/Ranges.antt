@@ -1,0 +1,91 @@
+-- A loop that goes over the places a to b − 1 of a list and stores f c at each, or leaves what is already f c: the list in the end is f there, and
+-- what it was elsewhere. Assumes nothing.
+use mathlib.Core.Path.{_≡_, refl, sym, ap, _∙_}
+use mathlib.Core.Bool.{Bool, true, false, _&&_, cond}
+use mathlib.Core.List.{List}
+use Prim.Native.Nat.{ℕ, _+_, _≤_, _<_}
+use native.Mathlib.Omega.{arith}
+use native.Mathlib.Decide.{ℕ-discrete, decLt}
+use lib.Dec.{leb, ltb}
+use lib.ListN.{length, getD, set, length-set}
+use lib.Seq.{getD-set-same, getD-set-other}
+use borrow.Author.Tests.{le-leb, lt-leb, lt-ltb, le-ltb}
+use Rattle.whole.specs.Bools.{cond-yes, cond-no, and-true}
+use Rattle.whole.specs.Fold.{tab}
+use Rattle.whole.specs.Tab.{upto-all}
+
+-- two tests of order that go together
+pub ltb-same : (a b c d : ℕ) → (a < b → c < d) → (c < d → a < b) → ltb a b ≡ ltb c d
+ltb-same a b c d f g = by (decLt a b)
+  where
+    by : Dec (a < b) → ltb a b ≡ ltb c d
+    by (yes h) = lt-ltb a b h ∙ sym (lt-ltb c d (f h))
+    by (no h) = le-ltb a b (not-less a b h) ∙ sym (le-ltb c d (not-less c d (λ k. h (g k))))
+      where
+        not-less : (m n : ℕ) → (m < n → ⊥) → n ≤ m
+        not-less m n k = omega arith
+
+module _ {ℓ} {A : Type ℓ} (d : A) (f : ℕ → A) (old : List A) (a b : ℕ) where
+  abbrev pub ranged : ℕ → A
+  ranged j = cond (leb a j && ltb j b) (f j) (getD old j d)
+
+  pub record Ranged (out : List A) (c : ℕ) : Type ℓ where
+    pub from : a ≤ c
+    pub to : c ≤ b
+    pub size : length out ≡ length old
+    pub done : (j : ℕ) → j < c → getD out j d ≡ ranged j
+    pub rest : (j : ℕ) → c ≤ j → getD out j d ≡ getD old j d
+
+  ranged-low : (j : ℕ) → j < a → ranged j ≡ getD old j d
+  ranged-low j h = cond-no (f j) (getD old j d) (ap (λ (t : Bool). t && ltb j b) (lt-leb a j h))
+
+  ranged-high : (j : ℕ) → b ≤ j → ranged j ≡ getD old j d
+  ranged-high j h = cond-no (f j) (getD old j d) (never (leb a j) (ltb j b) (le-ltb j b h))
+    where
+      never : (s t : Bool) → t ≡ false → (s && t) ≡ false
+      never true t e = e
+      never false t e = refl
+
+  ranged-in : (j : ℕ) → a ≤ j → j < b → ranged j ≡ f j
+  ranged-in j h k = cond-yes (f j) (getD old j d) (and-true (leb a j) (ltb j b) (le-leb a j h) (lt-ltb j b k))
+
+  pub ranged-first : a ≤ b → Ranged old a
+  ranged-first h = record { from = omega arith; to = h; size = refl; done = λ j k. sym (ranged-low j k); rest = λ j k. refl }
+
+  pub ranged-more : (out : List A) (c : ℕ) (x : A) → Ranged out c → c < b → b ≤ length old → x ≡ f c → Ranged (set out c x) (c + 1)
+  ranged-more out c x r h k e =
+      record {
+        from = omega (arith, r .from);
+        to = omega arith;
+        size = simp length-set (r .size);
+        done = λ j l. at j l (ℕ-discrete j c);
+        rest = λ j l. getD-set-other out c j x d (λ p. omega arith) ∙ r .rest j (omega arith);
+      }
+    where
+      at : (j : ℕ) → j < c + 1 → Dec (j ≡ c) → getD (set out c x) j d ≡ ranged j
+      at j l (yes p) =
+          ap (λ (i : ℕ). getD (set out c x) i d) p ∙ getD-set-same out c x d (omega (arith, r .size)) ∙ e ∙ sym (ranged-in c (r .from) h) ∙ ap ranged (sym p)
+      at j l (no n) = getD-set-other out c j x d n ∙ r .done j (omega arith)
+
+  pub ranged-keep : (out : List A) (c : ℕ) → Ranged out c → c < b → getD old c d ≡ f c → Ranged out (c + 1)
+  ranged-keep out c r h e =
+      record {
+        from = omega (arith, r .from);
+        to = omega arith;
+        size = r .size;
+        done = λ j l. at j l (ℕ-discrete j c);
+        rest = λ j l. r .rest j (omega arith);
+      }
+    where
+      at : (j : ℕ) → j < c + 1 → Dec (j ≡ c) → getD out j d ≡ ranged j
+      at j l (yes p) =
+          ap (λ (i : ℕ). getD out i d) p ∙ r .rest c (omega arith) ∙ e ∙ sym (ranged-in c (r .from) h) ∙ ap ranged (sym p)
+      at j l (no n) = r .done j (omega arith)
+
+  -- the loop is over: the list is g, which is f in the range and what it was elsewhere
+  pub ranged-all : (out : List A) (c n : ℕ) (g : ℕ → A) → Ranged out c → b ≤ c → length old ≡ n → ((j : ℕ) → j < n → ranged j ≡ g j) → out ≡ tab n g
+  ranged-all out c n g r h e k = upto-all d g out n (r .size ∙ e) (λ j l. at j (decLt j c) ∙ k j l)
+    where
+      at : (j : ℕ) → Dec (j < c) → getD out j d ≡ ranged j
+      at j (yes l) = r .done j l
+      at j (no l) = r .rest j (omega arith) ∙ sym (ranged-high j (omega arith))

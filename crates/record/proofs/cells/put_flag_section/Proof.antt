@@ -1,0 +1,39 @@
+-- `record::cells::put_flag_section` writes section 5. Assumes nothing.
+use borrow.Author.Needs.{needs}
+use mathlib.Core.Path.{refl}
+use lib.ListN.{length}
+use denote.Ref.{now}
+use Rattle.record.proofs.Gathered.{section-put}
+use Rattle.record.proofs.cells.put_flag_section.Statement.{statement}
+use Rattle.record.proofs.cells.put_flag_section.Tie as tie
+use Rattle.record.proofs.cells.put_flag_section.Reads as reads
+use Rattle.record.proofs.cells.put_flag_section.Lts as lts
+use Rattle.record.proofs.front.put_count.Reads as put-count-reads
+use Rattle.record.proofs.put.put_flags.Reads as put-flags-reads
+
+-- src/cells.rt:22:5
+put-count-requires : tie.Need-put-count-requires
+put-count-requires c κs = search needs
+
+-- src/cells.rt:23:21
+add-put-flags : tie.Need-add-put-flags
+add-put-flags c = search needs
+
+-- src/cells.rt:23:5
+put-flags-requires : tie.Need-put-flags-requires
+put-flags-requires c κs = search needs
+
+-- src/cells.rt:17:1
+same-length : tie.Need-same-length
+same-length c = search needs
+
+-- src/cells.rt:17:1
+returns : tie.Need-returns
+returns c =
+    let a = c .before .before .before .before .before .before .before .before .before .before .args in
+    let s = now (a .flags) in
+    section-put (now (a .room)) (a .at) (length s) (length s) s (c .before .before .before .before .before .before .put-count .ensures) refl (c .before .before .put-flags .ensures)
+
+pub put-flag-section-spec : {M : Type 1} → statement M
+put-flag-section-spec =
+    tie.close (tie.spec put-count-requires add-put-flags put-flags-requires same-length returns)
