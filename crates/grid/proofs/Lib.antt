@@ -24,6 +24,7 @@ pub mod Held
 pub mod Trades
 pub mod Arrays
 pub mod Weighed
+pub mod Births
 pub mod Blocks
 pub mod Stores
 pub mod Spans

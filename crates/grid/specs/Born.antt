@@ -38,6 +38,21 @@ pub record Roomy (t : Sum) : Type 0 where
   pub y : Within (t .y) 1000000000000
   pub z : Within (t .z) 1000000000000
 
+-- v is the flow of cell c after stage 3
+pub record NewFlow (S : Scene) (c : ℕ) (v : Flow) : Type 0 where
+  pub rho : v .rho ≡ newDensity S c
+  pub x : v .x ≡ newMomentum S c .x
+  pub y : v .y ≡ newMomentum S c .y
+  pub z : v .z ≡ newMomentum S c .z
+
+-- one cell more, of flow v
+pub record Joined (t : Sum) (v : Flow) (r : Sum) : Type 0 where
+  pub n : r .n ≡ t .n +ℤ pos 1
+  pub rho : r .rho ≡ t .rho +ℤ v .rho
+  pub x : r .x ≡ t .x +ℤ v .x
+  pub y : r .y ≡ t .y +ℤ v .y
+  pub z : r .z ≡ t .z +ℤ v .z
+
 -- cell b is counted in, where it is liquid
 pub record Added (S : Scene) (t : Sum) (b : ℕ) (r : Sum) : Type 0 where
   pub n : r .n ≡ t .n +ℤ cond (liquid (flagAt S b)) (pos 1) (pos 0)

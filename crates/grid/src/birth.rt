@@ -1,10 +1,20 @@
 // Stage 5: the parts of new interface cells, from means over the neighbours that were liquid.
+use crate::kinds::is_liquid;
+use crate::streaming::streamed;
 use lattice::Flow;
+use lattice::Settings;
+use lattice::gravity::pulled;
+use lattice::moments::flow_of;
+use whole::wide;
 ghost use mathlib.Core.Path.{_≡_};
-ghost use lib.IntN.{pos};
+ghost use mathlib.Core.Bool.{true};
+ghost use Prim.Native.Nat.{_<_};
+ghost use lib.IntN.{pos, _+ℤ_};
+ghost use lib.ListN.{length, getD};
 ghost use lib.Signed.{_<ℤ_, quotZ};
 ghost use Rattle.whole.specs.Machine.{Within};
-ghost use Rattle.grid.specs.Born.{Countable, Meant};
+ghost use Rattle.grid.specs.State.{liquid};
+ghost use Rattle.grid.specs.Born.{Tested, Roomy, NewFlow, Joined, Added, Countable, Meant, flowSight};
 
 // How many cells, and the sums of their density and momentum.
 pub struct Sum {
@@ -13,6 +23,61 @@ pub struct Sum {
     pub x: i64,
     pub y: i64,
     pub z: i64,
+}
+
+// The flow of liquid cell b after stage 3.
+fn flow_at(
+    flags: &[u8],
+    parts: &[i32],
+    off: &[usize; 19],
+    low: usize,
+    b: usize,
+    g: Settings,
+) -> Flow
+    requires { ⌜ Tested (now flags) (now parts) (now off) low g × (b < length (now flags)) × (liquid (getD (now flags) b 3) ≡ true) ⌝ }
+    ensures { λ r. ⌜ NewFlow (flowSight (now (flags .entry)) (now (parts .entry)) (now (off .entry)) low g) b r ⌝ }
+{
+    pulled(flow_of(streamed(flags, parts, off, low, b)), g)
+}
+
+fn plus(a: i64, b: i32) -> i64
+    requires { ⌜ Within a 1000000000000 ⌝ }
+    ensures { λ r. ⌜ r ≡ a +ℤ b ⌝ }
+{
+    a + wide(b)
+}
+
+// The sums with one cell more, of flow v.
+fn joined(t: Sum, v: Flow) -> Sum
+    requires { ⌜ Roomy t ⌝ }
+    ensures { λ r. ⌜ Joined t v r ⌝ }
+{
+    Sum {
+        n: plus(t.n, 1),
+        rho: plus(t.rho, v.rho),
+        x: plus(t.x, v.x),
+        y: plus(t.y, v.y),
+        z: plus(t.z, v.z),
+    }
+}
+
+// The sums with cell b, where it was liquid.
+fn with_cell(
+    t: Sum,
+    flags: &[u8],
+    parts: &[i32],
+    off: &[usize; 19],
+    low: usize,
+    b: usize,
+    g: Settings,
+) -> Sum
+    requires { ⌜ Tested (now flags) (now parts) (now off) low g × (b < length (now flags)) × Roomy t ⌝ }
+    ensures { λ r. ⌜ Added (flowSight (now (flags .entry)) (now (parts .entry)) (now (off .entry)) low g) t b r ⌝ }
+{
+    if is_liquid(flags[b]) {
+        return joined(t, flow_at(flags, parts, off, low, b, g));
+    }
+    t
 }
 
 fn cut_mean(sum: i64, n: i64) -> i32

@@ -6,6 +6,7 @@ pub mod copying;
 pub mod extent;
 pub mod filling;
 pub mod fluid;
+pub mod kinds;
 pub mod layer;
 pub mod marks;
 pub mod neighbours;
