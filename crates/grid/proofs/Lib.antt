@@ -24,7 +24,9 @@ pub mod Held
 pub mod Trades
 pub mod Arrays
 pub mod Weighed
+pub mod Picked
 pub mod Births
+pub mod Means
 pub mod Blocks
 pub mod Stores
 pub mod Spans

@@ -14,7 +14,9 @@ ghost use lib.ListN.{length, getD};
 ghost use lib.Signed.{_<ℤ_, quotZ};
 ghost use Rattle.whole.specs.Machine.{Within};
 ghost use Rattle.grid.specs.State.{liquid};
-ghost use Rattle.grid.specs.Born.{Tested, Roomy, NewFlow, Joined, Added, Countable, Meant, flowSight};
+ghost use Rattle.grid.specs.Step.{liquidNear};
+ghost use Rattle.grid.specs.Sight.{Around};
+ghost use Rattle.grid.specs.Born.{Tested, Roomy, NewFlow, Joined, Added, Countable, Meant, Begins, flowSight};
 
 // How many cells, and the sums of their density and momentum.
 pub struct Sum {
@@ -98,4 +100,32 @@ fn mean(t: Sum) -> Flow
         y: cut_mean(t.y, t.n),
         z: cut_mean(t.z, t.n),
     }
+}
+
+// The flow that empty cell c begins with: means over the neighbours that were liquid.
+fn mean_flow(
+    flags: &[u8],
+    parts: &[i32],
+    off: &[usize; 19],
+    low: usize,
+    c: usize,
+    g: Settings,
+) -> Flow
+    requires { ⌜ Tested (now flags) (now parts) (now off) low g × Around (length (now flags)) (now off) low c × (0 < liquidNear (flowSight (now flags) (now parts) (now off) low g) c) ⌝ }
+    ensures { λ r. ⌜ Begins (flowSight (now (flags .entry)) (now (parts .entry)) (now (off .entry)) low g) c r ⌝ }
+{
+    let k = c - low;
+    let mut t = Sum {
+        n: 0,
+        rho: 0,
+        x: 0,
+        y: 0,
+        z: 0,
+    };
+    let mut i = 1;
+    while i < 19 {
+        t = with_cell(t, flags, parts, off, low, k + off[i], g);
+        i += 1;
+    }
+    mean(t)
 }
