@@ -147,8 +147,8 @@ module _ (f : ℕ → ℤ) (b : Body f) where
   pub part-own : (l : List ℤ) → l ≡ tab 19 f → (k : ℕ) → k ≤ 18 → partsOf l k ≡ f k
   part-own l e k h = ap (λ (x : List ℤ). getD x k (pos 0)) e ∙ getD-tab 19 f (pos 0) k (omega arith)
 
-  pub bounded-own : (l : List ℤ) → l ≡ tab 19 f → Bounded l 1073741824 33554432
-  bounded-own l e = record {
+  pub bounded-own : (l : List ℤ) → l ≡ tab 19 f → (r q : ℕ) → 1179648 ≤ r → 1179648 ≤ q → Bounded l r q
+  bounded-own l e r q hr hq = record {
     rest = record { abs = omega (arith, ap natAbs (part-own l e 0 (omega arith)), b .parts 0 (omega arith) .abs) };
     at = λ k z h. record { abs = omega (arith, ap natAbs (part-own l e k (omega arith)), b .parts k (omega arith) .abs) };
   }

@@ -13,3 +13,4 @@ pub mod Pasted
 pub mod Filled
 pub mod Born
 pub mod Sources
+pub mod Halfway

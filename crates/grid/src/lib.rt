@@ -8,8 +8,10 @@ pub mod filling;
 pub mod fluid;
 pub mod kinds;
 pub mod layer;
+pub mod lengths;
 pub mod marks;
 pub mod neighbours;
+pub mod sets;
 pub mod streaming;
 pub mod trading;
 

@@ -52,7 +52,7 @@ own-requires : tie.Need-own-requires Inv-loop μ-loop
 own-requires c κs = search needs
 
 flow-of-requires : tie.Need-flow-of-requires Inv-loop μ-loop
-flow-of-requires c κs = bounded-own (parts-of (c .before .before)) (body (c .before .before)) _ (c .own .ensures)
+flow-of-requires c κs = bounded-own (parts-of (c .before .before)) (body (c .before .before)) _ (c .own .ensures) _ _ (omega arith) (omega arith)
 
 dots-requires : tie.Need-dots-requires Inv-loop μ-loop
 dots-requires c κs =
