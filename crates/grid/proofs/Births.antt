@@ -8,18 +8,20 @@ use lib.IntN.{ℤ, pos, natAbs, _+ℤ_, +ℤ-idr}
 use lib.ListN.{length, getD}
 use Rattle.whole.specs.Bools.{cond-yes, cond-no}
 use Rattle.whole.specs.Fold.{tab}
+use Rattle.whole.specs.Tab.{tab-cong}
 use Rattle.whole.specs.Machine.{Within}
 use Rattle.lattice.specs.Lattice.{V3, d3q19, density, momentum}
-use Rattle.lattice.specs.Body.{partsOf, Bounded}
+use Rattle.lattice.specs.Body.{partsOf, Bounded, vec, stillDir, stillPart, goodBody}
 use Rattle.lattice.specs.declared.Flow.{Flow}
 use Rattle.lattice.specs.declared.Settings.{Settings}
 use Rattle.grid.specs.State.{Scene, liquid, stateOf}
-use Rattle.grid.specs.Step.{oldDensity, oldMomentum, rebuilt, rebuild, arrives, streamed, newDensity, newMomentum}
+use Rattle.grid.specs.Step.{oldDensity, oldMomentum, rebuilt, rebuild, arrives, streamed, newDensity, newMomentum, bornDir, born}
+use Rattle.grid.specs.Good.{bodyGood}
 use Rattle.grid.specs.Sight.{Bodied, Around, flowing, noSettings, sight}
-use Rattle.grid.specs.Born.{Tested, NewFlow, Joined, Added, flowSight}
+use Rattle.grid.specs.Born.{Tested, NewFlow, Joined, Added, Begins, flowSight}
 use Rattle.grid.specs.declared.birth.Sum.{Sum}
-use Rattle.grid.proofs.Same.{density-same, momentum-same}
-use Rattle.grid.proofs.Arrays.{density-is, momentum-is, bounded-is}
+use Rattle.grid.proofs.Same.{density-same, momentum-same, body-same}
+use Rattle.grid.proofs.Arrays.{part-is, density-is, momentum-is, bounded-is}
 use Rattle.grid.proofs.Spans.{streamed-in}
 
 -- a liquid cell is no wall
@@ -78,3 +80,18 @@ module _ (flags : List ℕ) (parts : List ℤ) (off : List ℕ) (low : ℕ) (g :
     where
       plus-none : (a b : ℤ) → a ≡ a +ℤ cond (liquid (getD flags c 3)) b (pos 0)
       plus-none a b = sym (+ℤ-idr a) ∙ ap (λ (k : ℤ). a +ℤ k) (sym (cond-no b (pos 0) w))
+
+  -- ---- the parts of a new interface cell
+  module _ {v : Flow} (b : Begins (flowSight flags parts off low g) c v) where
+    born-part : (k : ℕ) → stillPart d3q19 (v .rho) (vec v) k ≡ born (flowSight flags parts off low g) c k
+    unfolding born bornDir stillPart stillDir sight
+    born-part zero = ap₂ (λ (ρ : ℤ) (j : V3). stillPart d3q19 ρ j 0) (b .rho) (b .momentum)
+    born-part (suc a) = ap₂ (λ (ρ : ℤ) (j : V3). stillPart d3q19 ρ j (suc a)) (b .rho) (b .momentum)
+
+    module _ (l : List ℤ) (e : l ≡ tab 19 (stillPart d3q19 (v .rho) (vec v))) where
+      pub born-list : l ≡ tab 19 (born (flowSight flags parts off low g) c)
+      born-list = e ∙ tab-cong 19 (stillPart d3q19 (v .rho) (vec v)) (born (flowSight flags parts off low g) c) (pos 0) (λ k h. born-part k)
+
+      pub born-fair : goodBody d3q19 (partsOf l) ≡ bodyGood d3q19 (born (flowSight flags parts off low g) c)
+      unfolding goodBody bodyGood d3q19
+      born-fair = body-same d3q19 (partsOf l) (born (flowSight flags parts off low g) c) (λ k h. part-is l (born (flowSight flags parts off low g) c) born-list k (omega arith))

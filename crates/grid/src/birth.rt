@@ -1,14 +1,17 @@
 // Stage 5: the parts of new interface cells, from means over the neighbours that were liquid.
+use crate::cells::paste;
 use crate::kinds::is_liquid;
 use crate::streaming::streamed;
 use lattice::Flow;
 use lattice::Settings;
+use lattice::convert::equilibrium;
 use lattice::gravity::pulled;
 use lattice::moments::flow_of;
+use lattice::rules::fair_parts;
 use whole::wide;
 ghost use mathlib.Core.Path.{_≡_};
 ghost use mathlib.Core.Bool.{true};
-ghost use Prim.Native.Nat.{_<_};
+ghost use Prim.Native.Nat.{_+_, _*_, _<_, _≤_};
 ghost use lib.IntN.{pos, _+ℤ_};
 ghost use lib.ListN.{length, getD};
 ghost use lib.Signed.{_<ℤ_, quotZ};
@@ -16,7 +19,7 @@ ghost use Rattle.whole.specs.Machine.{Within};
 ghost use Rattle.grid.specs.State.{liquid};
 ghost use Rattle.grid.specs.Step.{liquidNear};
 ghost use Rattle.grid.specs.Sight.{Around};
-ghost use Rattle.grid.specs.Born.{Tested, Roomy, NewFlow, Joined, Added, Countable, Meant, Begins, flowSight};
+ghost use Rattle.grid.specs.Born.{Tested, Roomy, NewFlow, Joined, Added, Countable, Meant, Begins, Placed, flowSight};
 
 // How many cells, and the sums of their density and momentum.
 pub struct Sum {
@@ -128,4 +131,22 @@ fn mean_flow(
         i += 1;
     }
     mean(t)
+}
+
+// The parts that empty cell c begins with, written where they belong; whether they keep the rules of a liquid cell.
+fn put_born(
+    flags: &[u8],
+    parts: &[i32],
+    parts2: &mut [i32],
+    off: &[usize; 19],
+    low: usize,
+    c: usize,
+    g: Settings,
+) -> bool
+    requires { ⌜ Tested (now flags) (now parts) (now off) low g × Around (length (now flags)) (now off) low c × (0 < liquidNear (flowSight (now flags) (now parts) (now off) low g) c) × (19 * c + 19 ≤ length (now parts2)) ⌝ }
+    ensures { λ r. ⌜ Placed (flowSight (now (flags .entry)) (now (parts .entry)) (now (off .entry)) low g) c (now (parts2 .entry)) (now (parts2 .exit)) r ⌝ }
+{
+    let v = equilibrium(mean_flow(flags, parts, off, low, c, g));
+    paste(parts2, 19 * c, v);
+    fair_parts(v)
 }
