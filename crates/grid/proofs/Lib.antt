@@ -20,6 +20,13 @@ pub mod Lists
 pub mod Walls
 pub mod Beside
 pub mod Prepared
+pub mod Held
+pub mod Trades
+pub mod Arrays
+pub mod Weighed
+pub mod Picked
+pub mod Births
+pub mod Means
 pub mod Blocks
 pub mod Stores
 pub mod Spans

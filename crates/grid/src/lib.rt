@@ -1,9 +1,12 @@
 // Layer 2, the grid: states, check, step and run. Knows the promises of lattice.
+pub mod birth;
 pub mod cells;
 pub mod convert;
 pub mod copying;
 pub mod extent;
+pub mod filling;
 pub mod fluid;
+pub mod kinds;
 pub mod layer;
 pub mod lengths;
 pub mod marks;
@@ -11,6 +14,7 @@ pub mod moving;
 pub mod neighbours;
 pub mod sets;
 pub mod streaming;
+pub mod trading;
 
 // The sides of a grid, in cells.
 pub struct Sides {
