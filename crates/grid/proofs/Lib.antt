@@ -26,3 +26,4 @@ pub mod Fair
 pub mod Ranges
 pub mod Marking
 pub mod Plain
+pub mod Portions

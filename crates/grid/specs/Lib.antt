@@ -8,3 +8,4 @@ pub mod Promise
 pub mod Passes
 pub mod Between
 pub mod Sight
+pub mod Gifts
