@@ -27,3 +27,5 @@ pub mod Ranges
 pub mod Marking
 pub mod Plain
 pub mod Portions
+pub mod Amounts
+pub mod Given

@@ -7,11 +7,18 @@ use Prim.Native.Nat.{ℕ, zero, suc, _+_, _-_, _*_, _/_, _%_, _≤_, _<_}
 use lib.IntN.{ℤ, pos, negℤ, _+ℤ_, _-ℤ_}
 use lib.Dec.{eqb}
 use lib.ListN.{length, getD}
-use Rattle.whole.specs.Fold.{sum, dirs, anyDir}
+use Rattle.whole.specs.Fold.{dirs, anyDir, first, tab}
 use Rattle.whole.specs.Machine.{Within}
 use Rattle.whole.specs.Search.{Dir}
 use Rattle.lattice.specs.Lattice.{V3, dot, d3q19, density}
 use Rattle.lattice.specs.Cell.{positive, isPositive, share}
+use Rattle.lattice.specs.declared.Settings.{Settings}
+use Rattle.grid.specs.declared.Sides.{Sides}
+use Rattle.grid.specs.Grid.{cellsOf}
+use Rattle.grid.specs.State.{Lent}
+use Rattle.grid.specs.Step.{tooFast, newFlag}
+use Rattle.grid.specs.Outcome.{sceneOf}
+use Rattle.grid.specs.Between.{Ready, movedMass, settledMark, bornPart}
 use Rattle.grid.specs.Sight.{Around}
 
 -- ---- the normal, of the cell with k = c − low
@@ -145,6 +152,16 @@ pub record Giving (flags fills : List ℕ) (parts masses : List ℤ) (marks off 
   pub apart : (c : ℕ) → c < length flags → getD flags c 0 ≡ 1 → getD marks c 0 ≡ 0
   pub returns : (c i : ℕ) → c < length flags → getD flags c 0 ≡ 1 → Dir 18 i → (getD marks (c - low + getD off i 0) 0 ≡ 0 → ⊥)
       → (c - low + getD off i 0) - low + getD off (d3q19 .opp i) 0 ≡ c
+
+-- ---- where stage 6 begins: from a good state that passed test 7, with flags, newborn parts, masses and settled marks in their places
+pub record Midway (s : Sides) (g : Settings) (a : Lent) (flags fills : List ℕ) (parts masses : List ℤ) (marks : List ℕ) : Type 0 where
+  pub ready : Ready s g a
+  pub steady : cellsOf s ≤ first (cellsOf s) (tooFast (sceneOf s g a))
+  pub fills-are : fills ≡ a .fills
+  pub flags-are : flags ≡ tab (cellsOf s) (newFlag (sceneOf s g a))
+  pub parts-are : parts ≡ tab (19 * cellsOf s) (λ m. bornPart (sceneOf s g a) (m / 19) (m % 19))
+  pub masses-are : masses ≡ tab (cellsOf s) (movedMass (sceneOf s g a))
+  pub marks-are : marks ≡ tab (cellsOf s) (settledMark (sceneOf s g a))
 
 -- names every definition of this file: whoever unfolds this computes with all of them
 unfoldable pub open-gifts : Unit {0}
