@@ -29,3 +29,4 @@ pub mod Plain
 pub mod Portions
 pub mod Amounts
 pub mod Given
+pub mod Blocks

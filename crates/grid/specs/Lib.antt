@@ -9,3 +9,4 @@ pub mod Passes
 pub mod Between
 pub mod Sight
 pub mod Gifts
+pub mod Pasted
