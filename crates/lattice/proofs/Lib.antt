@@ -2,6 +2,7 @@ pub mod Paired
 pub mod Shares
 pub mod ExchangeBack
 pub mod Balanced
+pub mod Collision
 pub mod Fills
 pub mod Momentum
 pub mod Pairs

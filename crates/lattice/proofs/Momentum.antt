@@ -60,11 +60,11 @@ unfolding open-fold open-lattice
 z-pairs f = ring-by (all-parts f) (search many depth 60 fits 50000) (search many depth 60 fits 50000) tt
 
 -- ---- bounds
-pub pair-in : (f : List ℤ) → Bounded f 536870912 33554432 → (h : ℕ) → h < 9 → Within (pair (partsOf f) h) 67108864
+pub pair-in : (f : List ℤ) → Bounded f 1073741824 33554432 → (h : ℕ) → h < 9 → Within (pair (partsOf f) h) 67108864
 pair-in f b h k =
     record { abs = omega (arith, abs-sub (partsOf f (2 * h + 1)) (partsOf f (2 * h + 2)), b .at (2 * h + 1) (omega arith) (omega arith) .abs, b .at (2 * h + 2) (omega arith) (omega arith) .abs) }
 
-module _ (f : List ℤ) (b : Bounded f 536870912 33554432) where
+module _ (f : List ℤ) (b : Bounded f 1073741824 33554432) where
   pub x-in : Within (momentum d3q19 (partsOf f) .x) 335544320
   x-in =
       let p0 = pair-in f b 0 (lit< tt) in
@@ -92,7 +92,7 @@ module _ (f : List ℤ) (b : Bounded f 536870912 33554432) where
       let p8 = pair-in f b 8 (lit< tt) in
       subst (λ (z : ℤ). Within z 335544320) (z-pairs (partsOf f)) (within-by (search reading depth 20) tt)
 
-  pub density-in : Within (density d3q19 (partsOf f)) 1140850688
+  pub density-in : Within (density d3q19 (partsOf f)) 1677721600
   unfolding density d3q19
   density-in =
       record {

@@ -11,8 +11,9 @@ use lib.IntN.{ℤ, pos, natAbs}
 use lib.Signed.{quotZ, mag}
 use mir.Syntax.{Width, w32, w64}
 use mir.Val.{SFits, toZ, ofZ, hbits}
+use mir.Facts.{toZ-ofZ}
 use Rattle.whole.specs.Bools.{T-left, T-right}
-use Rattle.whole.specs.Bounds.{Reads, abs-quot}
+use Rattle.whole.specs.Bounds.{Reads, fits, abs-quot}
 use Rattle.whole.specs.Machine.{Val, Within, v+, v*, vneg, v64, v32, vpos, vnegsuc, any}
 
 -- a number from its bound alone: that it fits is then computed
@@ -47,7 +48,36 @@ v/num {a} {b} x y =
           };
     }
 
-pub ruleset reading = (v+, v*, v/num, num, vneg, v64, v32, vpos, vnegsuc, inside)
+-- by a number of at least l
+pub record Least (b : ℤ) : Type 0 where
+  pub z : ℤ
+  pub l : ℕ
+  pub ok : Bool
+  pub is : T ok → b ≡ z
+  pub low : l ≤ natAbs z
+
+abbrev pub at-least : (w : Width) (a : ℤ) (n l : ℕ) → Within a n → l ≤ natAbs a → Least (toZ w (ofZ w a))
+at-least w a n l h k = record { z = a; l = l; ok = ltb n (2 ^ hbits w); is = λ t. toZ-ofZ (fits (inside h .is tt) t); low = k }
+
+abbrev pub is-least : (a : ℤ) (l : ℕ) → l ≤ natAbs a → Least a
+is-least a l k = record { z = a; l = l; ok = true; is = λ t. refl; low = k }
+
+abbrev pub v/least : {a b : ℤ} → Val a → Least b → Val (quotZ a b)
+v/least x y =
+    record {
+      z = quotZ (x .z) (y .z);
+      n = x .n / y .l;
+      ok = x .ok && (y .ok && ltb 0 (y .l));
+      is = λ t.
+          let o = T-right (x .ok) (y .ok && ltb 0 (y .l)) t in
+          let r = x .is (T-left (x .ok) (y .ok && ltb 0 (y .l)) t) in
+          record {
+            is = ap₂ quotZ (r .is) (y .is (T-left (y .ok) (ltb 0 (y .l)) o));
+            abs = quot-abs (x .z) (y .z) (x .n) (y .l) (r .abs) (ltb→lt 0 (y .l) (T-right (y .ok) (ltb 0 (y .l)) o)) (y .low);
+          };
+    }
+
+pub ruleset reading = (v+, v*, v/num, num, v/least, vneg, v64, v32, vpos, vnegsuc, inside)
 
 -- a field or a parameter of 32 bits of which nothing else is known
 abbrev pub whole32 : {a : ℤ} → SFits w32 a → Val (toZ w32 (ofZ w32 a))

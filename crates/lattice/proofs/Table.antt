@@ -3,18 +3,21 @@ use mathlib.Core.Path.{_≡_, refl, sym, _∙_, ap}
 use mathlib.Core.Logic.{_⊎_, ⊎-elim}
 use mathlib.Core.Bool.{Bool, true, false, _&&_, _||_, not}
 use mathlib.Core.List.{List, [], _∷_, map}
-use Prim.Native.Nat.{ℕ, zero, suc, _<_, _≤_}
+use Prim.Native.Nat.{ℕ, zero, suc, _+_, _%_, _<_, _≤_}
 use native.Mathlib.Omega.{arith}
 use lib.Dec.{T, leb, ltb, eqb}
 use lib.ListN.{getD}
-use borrow.Author.Tests.{eqb-true, eqb-false, ne-eqb, lt-ltb, le-ltb}
-use lib.IntN.{ℤ, pos, _+ℤ_, _*ℤ_}
-use Rattle.whole.specs.Bools.{or-cases, true-T}
+use borrow.Author.Tests.{leb-true, eqb-true, eqb-false, ne-eqb, lt-ltb, le-ltb}
+use lib.IntN.{ℤ, pos, negℤ, natAbs, _+ℤ_, _*ℤ_}
+use Rattle.whole.specs.Bools.{and-left, and-right, or-cases, true-T}
 use Rattle.whole.specs.Fold.{all, tab, open-fold}
-use Rattle.whole.specs.Ring.{E, var, con, _⊕_, _⊖_, _⊗_, eval, vanishes, ring}
+use Rattle.whole.specs.Ring.{E, var, con, _⊕_, _⊖_, _⊗_, neg, eval, vanishes, ring}
+use Rattle.whole.specs.Order.{≤-or}
+use Rattle.whole.specs.Machine.{Within, within-by}
 use Rattle.whole.specs.Search.{all-at}
 use Rattle.whole.specs.Tab.{upto-all}
 use Rattle.lattice.specs.Lattice.{V3, dot, d3q19, open-lattice}
+use Rattle.lattice.proofs.Reading.{reading}
 
 -- weight 2 for 1 to 6, weight 1 for the rest
 weight-right : ℕ → Bool
@@ -75,3 +78,53 @@ dot-right x y z k h =
 
 pub dots-right : (x y z : ℤ) → map (eval (x ∷ y ∷ z ∷ [])) forms ≡ tab 19 (λ k. dot (d3q19 .e k) (record { x = x; y = y; z = z }))
 dots-right x y z = upto-all (pos 0) (λ k. dot (d3q19 .e k) (record { x = x; y = y; z = z })) (map (eval (x ∷ y ∷ z ∷ [])) forms) 19 refl (dot-right x y z)
+
+-- ---- opposite directions: the pair of odd i is i and i + 1
+opposite-right : ℕ → Bool
+opposite-right i =
+    eqb (i % 2) 0 || (eqb (d3q19 .weight (i + 1)) (d3q19 .weight i) && vanishes (table-form (d3q19 .e (i + 1)) ⊖ neg (table-form (d3q19 .e i))))
+
+opposites-right : all 18 opposite-right ≡ true
+unfolding open-fold open-lattice opposite-right table-form
+opposites-right = refl
+
+opposite-at : (i : ℕ) → i % 2 ≡ 1 → i < 19
+    → (eqb (d3q19 .weight (i + 1)) (d3q19 .weight i) && vanishes (table-form (d3q19 .e (i + 1)) ⊖ neg (table-form (d3q19 .e i)))) ≡ true
+unfolding opposite-right
+opposite-at i o h =
+    ⊎-elim (λ e. absurd (eqb-false (i % 2) 0 (ne-eqb (i % 2) 0 (λ z. omega arith)) (eqb-true (i % 2) 0 e))) (λ e. e)
+    (or-cases (eqb (i % 2) 0) _ (all-at 18 opposite-right opposites-right i (omega arith)))
+
+pub weight-opposite : (i : ℕ) → i % 2 ≡ 1 → i < 19 → d3q19 .weight (i + 1) ≡ d3q19 .weight i
+weight-opposite i o h = eqb-true _ _ (and-left _ _ (opposite-at i o h))
+
+pub dot-opposite : (i : ℕ) → i % 2 ≡ 1 → i < 19 → (v : V3) → dot (d3q19 .e (i + 1)) v ≡ negℤ (dot (d3q19 .e i) v)
+unfolding table-form
+dot-opposite i o h v =
+    ring (v .x ∷ v .y ∷ v .z ∷ []) (table-form (d3q19 .e (i + 1))) (neg (table-form (d3q19 .e i)))
+    (true-T (and-right (eqb (d3q19 .weight (i + 1)) (d3q19 .weight i)) _ (opposite-at i o h)))
+
+-- ---- bounds
+pub weight-in : (i : ℕ) → 0 < i → i < 19 → Within (pos (d3q19 .weight i)) 2
+weight-in i h k =
+    ⊎-elim (λ l. record { abs = omega (arith, light i l k) }) (λ l. record { abs = omega (arith, heavy i h l) }) (≤-or 7 i)
+
+unit-right : ℕ → Bool
+unit-right i = leb (natAbs (d3q19 .e i .x)) 1 && (leb (natAbs (d3q19 .e i .y)) 1 && leb (natAbs (d3q19 .e i .z)) 1)
+
+units-right : all 19 unit-right ≡ true
+unfolding open-fold open-lattice unit-right
+units-right = refl
+
+-- e·v is within the sum of the components' bounds
+pub dot-in : (i : ℕ) → i < 19 → (v : V3) → Within (v .x) 393216 → Within (v .y) 393216 → Within (v .z) 393216 → Within (dot (d3q19 .e i) v) 1179648
+unfolding unit-right
+dot-in i h v hx hy hz =
+    let u = all-at 19 unit-right units-right i h in
+    let x = leb (natAbs (d3q19 .e i .x)) 1 in
+    let y = leb (natAbs (d3q19 .e i .y)) 1 in
+    let z = leb (natAbs (d3q19 .e i .z)) 1 in
+    let ex : Within (d3q19 .e i .x) 1 = record { abs = leb-true _ 1 (and-left x (y && z) u) } in
+    let ey : Within (d3q19 .e i .y) 1 = record { abs = leb-true _ 1 (and-left y z (and-right x (y && z) u)) } in
+    let ez : Within (d3q19 .e i .z) 1 = record { abs = leb-true _ 1 (and-right y z (and-right x (y && z) u)) } in
+    within-by (search reading depth 20) tt

@@ -50,6 +50,14 @@ steady-tame v e =
     swap-z x y z = ring-by (x ∷ y ∷ z ∷ []) (search quotes depth 20) (search quotes depth 20) tt
 
 -- what gravity adds is small
-pub pull-in : {ρ g : ℤ} → Within ρ 1200000000 → Within g 1048 → Within (pull ρ g) 1200000
+pub pull-in : {ρ g : ℤ} → Within ρ 1700000000 → Within g 1048 → Within (pull ρ g) 1700000
 unfolding pull
 pull-in {ρ} {g} r h = within-by (search reading depth 20) tt
+
+-- a tame component, as `speed2` asks it
+pub wider : {a : ℤ} → Within a 393216 → Within a 400000000
+wider h = record { abs = omega (arith, h .abs) }
+
+-- and as `dots` asks it
+pub widest : {a : ℤ} → Within a 393216 → Within a 1000000000
+widest h = record { abs = omega (arith, h .abs) }

@@ -1,16 +1,16 @@
 -- What the code holds of one cell, in the definitions' words: its parts as a function of the direction, a flow's momentum as a vector, and the tests
 -- of a cell that stands by itself. Assumes nothing.
-use Prim.Native.Nat.{ℕ, suc, _<_}
+use Prim.Native.Nat.{ℕ, zero, suc, _<_}
 use mathlib.Core.Bool.{Bool, true, false, _&&_}
 use mathlib.Core.List.{List}
-use lib.IntN.{ℤ, pos, negsuc}
+use lib.IntN.{ℤ, pos, negsuc, _-ℤ_}
 use lib.Signed.{_≤ℤ_}
 use lib.ListN.{getD}
-use Rattle.whole.specs.Fold.{all}
+use Rattle.whole.specs.Fold.{all, dirs}
 use Rattle.whole.specs.Machine.{Within}
 use Rattle.lattice.specs.declared.Flow.{Flow}
 use Rattle.lattice.specs.Lattice.{V3, dot, Lattice, density, momentum}
-use Rattle.lattice.specs.Cell.{partGood, dense, slow}
+use Rattle.lattice.specs.Cell.{partGood, dense, slow, quad, relaxed, still}
 
 -- part k of an array of parts
 abbrev pub partsOf : List ℤ → ℕ → ℤ
@@ -41,7 +41,25 @@ steadyFlow v = dense (v .rho) && slow (v .rho) (dot (vec v) (vec v))
 unfoldable pub goodBody : Lattice → (ℕ → ℤ) → Bool
 goodBody L f = all (suc (L .q)) (λ k. partGood (f k)) && dense (density L f) && slow (density L f) (dot (momentum L f) (momentum L f))
 
+-- ---- the nineteen parts at once, of a cell with density ρ and momentum j
+
+-- stage 4: part i of 1..q relaxed; part 0 is ρ less the others
+unfoldable pub relaxedDir : Lattice → ℤ → V3 → ℤ → (ℕ → ℤ) → ℕ → ℤ
+relaxedDir L ρ j p f i = relaxed p (L .weight i) (quad ρ (dot (L .e i) j) (dot j j)) ρ (f i)
+
+unfoldable pub collidedPart : Lattice → ℤ → V3 → ℤ → (ℕ → ℤ) → ℕ → ℤ
+collidedPart L ρ j p f zero = ρ -ℤ dirs (L .q) (relaxedDir L ρ j p f)
+collidedPart L ρ j p f (suc a) = relaxedDir L ρ j p f (suc a)
+
+-- stage 5: the parts of a new interface cell
+unfoldable pub stillDir : Lattice → ℤ → V3 → ℕ → ℤ
+stillDir L ρ j i = still (L .weight i) (quad ρ (dot (L .e i) j) (dot j j)) ρ
+
+unfoldable pub stillPart : Lattice → ℤ → V3 → ℕ → ℤ
+stillPart L ρ j zero = ρ -ℤ dirs (L .q) (stillDir L ρ j)
+stillPart L ρ j (suc a) = stillDir L ρ j (suc a)
+
 -- names every definition of this file: whoever unfolds this computes with all of them
 unfoldable pub open-body : Unit {0}
-unfolding steadyFlow goodBody
+unfolding steadyFlow goodBody relaxedDir collidedPart stillDir stillPart
 open-body = tt

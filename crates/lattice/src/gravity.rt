@@ -11,7 +11,7 @@ ghost use Rattle.lattice.specs.Post.{Pulled};
 
 // What gravity adds to one component of the momentum.
 fn pull(rho: i32, g: i64) -> i32
-    requires { ⌜ Within rho 1200000000 × Within g 1048 ⌝ }
+    requires { ⌜ Within rho 1700000000 × Within g 1048 ⌝ }
     ensures { λ r. ⌜ r ≡ pull rho g ⌝ }
 {
     (wide(rho) * g / 1048576) as i32
@@ -19,7 +19,7 @@ fn pull(rho: i32, g: i64) -> i32
 
 // The flow with gravity added to each component.
 pub fn pulled(v: Flow, g: Settings) -> Flow
-    requires { ⌜ Within (v .rho) 1200000000 × Within (v .x) 340000000 × Within (v .y) 340000000 × Within (v .z) 340000000 × (gravityGood (g .gx) (g .gy) (g .gz) ≡ true) ⌝ }
+    requires { ⌜ Within (v .rho) 1700000000 × Within (v .x) 340000000 × Within (v .y) 340000000 × Within (v .z) 340000000 × (gravityGood (g .gx) (g .gy) (g .gz) ≡ true) ⌝ }
     ensures { λ r. ⌜ Pulled v g r ⌝ }
 {
     Flow {

@@ -1,4 +1,5 @@
 // Layer 1, lattice arithmetic: the formulas of one cell. Knows no grid.
+pub mod collide;
 pub mod convert;
 pub mod directions;
 pub mod exchange;

@@ -16,7 +16,7 @@ pub fn times(a: i32, b: i32) -> i64
 }
 
 pub fn density(f: [i32; 19]) -> i32
-    requires { ⌜ Bounded f 536870912 33554432 ⌝ }
+    requires { ⌜ Bounded f 1073741824 33554432 ⌝ }
     ensures { λ r. ⌜ r ≡ density d3q19 (partsOf f) ⌝ }
 {
     let mut r = f[0];
@@ -30,14 +30,14 @@ pub fn density(f: [i32; 19]) -> i32
 
 // What pair h carries along its direction.
 fn apart(f: [i32; 19], h: usize) -> i32
-    requires { ⌜ Bounded f 536870912 33554432 × (h < 9) ⌝ }
+    requires { ⌜ Bounded f 1073741824 33554432 × (h < 9) ⌝ }
     ensures { λ r. ⌜ r ≡ partsOf f (2 * h + 1) -ℤ partsOf f (2 * h + 2) ⌝ }
 {
     f[2 * h + 1] - f[2 * h + 2]
 }
 
 pub fn flow_of(f: [i32; 19]) -> Flow
-    requires { ⌜ Bounded f 536870912 33554432 ⌝ }
+    requires { ⌜ Bounded f 1073741824 33554432 ⌝ }
     ensures { λ r. ⌜ (r .rho ≡ density d3q19 (partsOf f)) × (vec r ≡ momentum d3q19 (partsOf f)) ⌝ }
 {
     let xy = apart(f, 3);

@@ -20,7 +20,7 @@ use Rattle.lattice.proofs.moments.density.Tie as tie
 
 abbrev Inv-loop : tie.InvT-loop
 Inv-loop f r₀ i₀ r i =
-    (i ≤ 19) × (i % 2 ≡ 1) × (toZ w32 r ≡ sum i (partsOf f)) × (natAbs (toZ w32 r) ≤ 536870912 + i * 33554432)
+    (i ≤ 19) × (i % 2 ≡ 1) × (toZ w32 r ≡ sum i (partsOf f)) × (natAbs (toZ w32 r) ≤ 1073741824 + i * 33554432)
 
 abbrev μ-loop : tie.MeasureT-loop
 μ-loop f r₀ i₀ r i = 19 - i
@@ -63,7 +63,7 @@ add-r-3 c =
     let i = c .before .before .before .loop .i in
     let a = s .pre .at i (omega arith) (omega arith) in
     let b = s .pre .at (i + 1) (omega arith) (omega arith) in
-    let r = known (toZ w32 (c .before .before .before .loop .r)) 1140850688 (omega arith) in
+    let r = known (toZ w32 (c .before .before .before .loop .r)) 1644167168 (omega arith) in
     does-fit (search reading depth 20) tt
 
 add-i : tie.Need-add-i Inv-loop μ-loop
@@ -78,7 +78,7 @@ loop-again c =
     let l = c .before .before .before .loop in
     let a = s .pre .at (l .i) (omega arith) (omega arith) in
     let b = s .pre .at (l .i + 1) (omega arith) (omega arith) in
-    let r = known (toZ w32 (l .r)) 1140850688 (omega arith) in
+    let r = known (toZ w32 (l .r)) 1644167168 (omega arith) in
     let e : toZ w32 (ofZ w32 (toZ w32 (l .r) +ℤ toZ w32 (ofZ w32 (toZ w32 (ofZ w32 (getD (s .args .t1) (l .i) (pos 0))) +ℤ toZ w32 (ofZ w32 (getD (s .args .t1) (l .i + 1) (pos 0)))))))
     ≡ toZ w32 (l .r) +ℤ (getD (s .args .t1) (l .i) (pos 0) +ℤ getD (s .args .t1) (l .i + 1) (pos 0)) =
     reads-as (search reading depth 20) tt in (

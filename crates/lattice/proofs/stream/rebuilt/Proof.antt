@@ -12,13 +12,11 @@ use Rattle.lattice.specs.declared.Flow.{Flow}
 use Rattle.lattice.specs.Lattice.{dot}
 use Rattle.lattice.specs.Cell.{gas}
 use Rattle.lattice.specs.Body.{vec, Tame}
+use Rattle.lattice.proofs.Tame.{wider}
 use Rattle.lattice.proofs.Reading.{reading, inside}
 use borrow.Author.Needs.{needs}
 use Rattle.lattice.proofs.stream.rebuilt.Statement.{statement}
 use Rattle.lattice.proofs.stream.rebuilt.Tie as tie
-
-wider : {a : ℤ} → Within a 393216 → Within a 400000000
-wider h = record { abs = omega (arith, h .abs) }
 
 square : (v : Flow) → Tame v → 0 < natAbs (v .rho *ℤ v .rho)
 square v t =
