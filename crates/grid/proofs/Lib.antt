@@ -30,3 +30,4 @@ pub mod Portions
 pub mod Amounts
 pub mod Given
 pub mod Blocks
+pub mod Readings

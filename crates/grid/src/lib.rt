@@ -5,6 +5,7 @@ pub mod copying;
 pub mod extent;
 pub mod fluid;
 pub mod layer;
+pub mod leaning;
 pub mod marks;
 pub mod neighbours;
 
