@@ -31,3 +31,5 @@ pub mod Amounts
 pub mod Given
 pub mod Blocks
 pub mod Readings
+pub mod Owned
+pub mod Settles

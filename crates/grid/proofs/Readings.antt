@@ -7,13 +7,13 @@ use native.Mathlib.Nat.{lt-of-le-of-lt}
 use lib.IntN.{ℤ, pos, negℤ, _+ℤ_, _-ℤ_, +ℤ-idl}
 use lib.Signed.{mag}
 use lib.Dec.{T, ltb, ltb→lt, eqb}
-use mir.Syntax.{Width, w32}
+use mir.Syntax.{Width, w32, w64}
 use mir.Val.{SFits, toZ, ofZ}
 use mir.Facts.{toZ-pos, toZ-ofZ}
 use borrow.Author.Needs.{sfits-of}
 use borrow.Author.Tests.{eq-eqb, ne-eqb}
 use Rattle.whole.specs.Bools.{cond-yes, cond-no}
-use Rattle.whole.specs.Machine.{Val, does-fit, reads-as, known, same, v+, vneg, v32, vpos}
+use Rattle.whole.specs.Machine.{Val, Within, does-fit, reads-as, known, same, v+, vneg, v32, vpos}
 use Rattle.lattice.specs.Lattice.{V3}
 use Rattle.grid.specs.Gifts.{normalAt, back, leaningAt}
 
@@ -37,6 +37,13 @@ less-none x = +ℤ-idl (negℤ x)
 -- a call's result, and the same with its sign turned
 pub told : {x z : ℤ} → mag x < 2147483648 → x ≡ z → toZ w32 (ofZ w32 x) ≡ z
 told f e = toZ-ofZ (sfits-of {w = w32} f) ∙ e
+
+pub told64 : {x z : ℤ} → mag x < 9223372036854775808 → x ≡ z → toZ w64 (ofZ w64 x) ≡ z
+told64 f e = toZ-ofZ (sfits-of {w = w64} f) ∙ e
+
+-- a value that is known to be z, within a bound
+abbrev pub held-in : {x z : ℤ} {k : ℕ} → x ≡ z → Within z k → Val x
+held-in {z = z} {k = k} e h = same e (known z k (h .abs))
 
 -- a difference of fills, as a call answered it
 abbrev fallen : {x : ℤ} {a b : ℕ} → mag x < 2147483648 → x ≡ pos a -ℤ pos b → a ≤ 65536 → b ≤ 65536 → Val (toZ w32 (ofZ w32 x))

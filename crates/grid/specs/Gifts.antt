@@ -6,7 +6,7 @@ use mathlib.Core.List.{List}
 use Prim.Native.Nat.{ℕ, zero, suc, _+_, _-_, _*_, _/_, _%_, _≤_, _<_}
 use lib.IntN.{ℤ, pos, negℤ, _+ℤ_, _-ℤ_}
 use lib.Dec.{eqb}
-use lib.ListN.{length, getD}
+use lib.ListN.{length, getD, set, replicate}
 use Rattle.whole.specs.Fold.{dirs, anyDir, first, tab}
 use Rattle.whole.specs.Machine.{Within}
 use Rattle.whole.specs.Search.{Dir}
@@ -20,6 +20,7 @@ use Rattle.grid.specs.Step.{tooFast, newFlag}
 use Rattle.grid.specs.Outcome.{sceneOf}
 use Rattle.grid.specs.Between.{Ready, movedMass, settledMark, bornPart}
 use Rattle.grid.specs.Sight.{Around}
+use Rattle.grid.specs.Pasted.{pasted}
 
 -- ---- the normal, of the cell with k = c − low
 
@@ -124,7 +125,7 @@ Filled fills = (j : ℕ) → getD fills j 0 ≤ 65536
 -- cell c has nineteen parts that can be added up
 pub record Parts (parts : List ℤ) (c : ℕ) : Type 0 where
   pub there : 19 * c + 19 ≤ length parts
-  pub rest : Within (getD parts (19 * c) (pos 0)) 536870912
+  pub rest : Within (getD parts (19 * c) (pos 0)) 1073741824
   pub at : (k : ℕ) → 0 < k → k < 19 → Within (getD parts (19 * c + k) (pos 0)) 33554432
 
 -- cell c has a mass and a density whose difference is an excess
@@ -152,6 +153,24 @@ pub record Giving (flags fills : List ℕ) (parts masses : List ℤ) (marks off 
   pub apart : (c : ℕ) → c < length flags → getD flags c 0 ≡ 1 → getD marks c 0 ≡ 0
   pub returns : (c i : ℕ) → c < length flags → getD flags c 0 ≡ 1 → Dir 18 i → (getD marks (c - low + getD off i 0) 0 ≡ 0 → ⊥)
       → (c - low + getD off i 0) - low + getD off (d3q19 .opp i) 0 ≡ c
+
+-- marked cells have parts that can be added up
+pub record Settling (parts masses : List ℤ) (marks : List ℕ) : Type 0 where
+  pub few : length marks ≤ 262144
+  pub parts-there : length parts ≡ 19 * length marks
+  pub masses-there : length masses ≡ length marks
+  pub each : (c : ℕ) → c < length marks → (getD marks c 0 ≡ 0 → ⊥) → Parts parts c
+
+-- one marked cell settled: a filled one gets its mass, an emptied one is cleared
+pub record CellSettled (m c : ℕ) (parts masses parts′ masses′ : List ℤ) : Type 0 where
+  pub parts-are : parts′ ≡ cond (eqb m 1) parts (pasted parts (19 * c) (replicate 19 (pos 0)))
+  pub masses-are : masses′ ≡ set masses c (cond (eqb m 1) (densityAt parts c) (pos 0))
+
+-- all cells settled, and no mark left
+pub record Settled (parts masses : List ℤ) (marks : List ℕ) (parts′ masses′ : List ℤ) (marks′ : List ℕ) : Type 0 where
+  pub parts-are : parts′ ≡ tab (19 * length marks) (λ m. settledPart parts marks (m / 19) (m % 19))
+  pub masses-are : masses′ ≡ tab (length marks) (settledMass parts masses marks)
+  pub marks-are : marks′ ≡ replicate (length marks) 0
 
 -- ---- where stage 6 begins: from a good state that passed test 7, with flags, newborn parts, masses and settled marks in their places
 pub record Midway (s : Sides) (g : Settings) (a : Lent) (flags fills : List ℕ) (parts masses : List ℤ) (marks : List ℕ) : Type 0 where

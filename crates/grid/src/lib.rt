@@ -4,10 +4,12 @@ pub mod convert;
 pub mod copying;
 pub mod extent;
 pub mod fluid;
+pub mod giving;
 pub mod layer;
 pub mod leaning;
 pub mod marks;
 pub mod neighbours;
+pub mod settling;
 
 // The sides of a grid, in cells.
 pub struct Sides {
