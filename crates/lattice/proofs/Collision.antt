@@ -10,16 +10,16 @@ use lib.Signed.{_≤ℤ_, leZ, quotZ}
 use lib.ListN.{getD}
 use Rattle.whole.specs.Bools.{and-left, and-right}
 use Rattle.whole.specs.Fold.{sum, dirs}
-use Rattle.whole.specs.Bounds.{abs-below}
+use Rattle.whole.specs.Bounds.{abs-above, abs-below, abs-mul}
 use Rattle.whole.specs.Ring.{ring-by, quotes}
 use Rattle.whole.specs.Order.{leZ-true, *ℤ-mono}
 use Rattle.whole.specs.Machine.{Within, within-by}
 use Rattle.lattice.specs.declared.Flow.{Flow}
 use Rattle.lattice.specs.declared.collide.Common.{Common}
 use Rattle.lattice.specs.Lattice.{V3, dot, d3q19}
-use Rattle.lattice.specs.Cell.{quad, relaxed, relaxationGood}
-use Rattle.lattice.specs.Body.{partsOf, vec, Tame, relaxedDir}
-use Rattle.lattice.specs.Post.{CommonIs, Ready, grown}
+use Rattle.lattice.specs.Cell.{quad, relaxed, still, relaxationGood}
+use Rattle.lattice.specs.Body.{partsOf, vec, Tame, relaxedDir, stillDir}
+use Rattle.lattice.specs.Post.{CommonIs, Ready, grown, stilled}
 use Rattle.lattice.proofs.Reading.{reading}
 
 pub relaxation-in : (p : ℤ) → relaxationGood p ≡ true → Within p 2037
@@ -36,6 +36,7 @@ ready v p k t e is =
       base = subst (λ (z : ℤ). Within z 4174708211712) (sym (is .base)) (within-by (search reading depth 20) tt);
       six = subst (λ (z : ℤ). Within z 7077888) (sym (is .six)) (within-by (search reading depth 20) tt);
       seventy = subst (λ (z : ℤ). Within z 84934656) (sym (is .seventy)) (within-by (search reading depth 20) tt);
+      deep = rw (is .seventy, abs-mul (negsuc 71) (v .rho)) (omega (arith, abs-above (t .low)));
       low = subst (λ (z : ℤ). pos 21743271936 ≤ℤ z) (sym (is .den)) (*ℤ-mono 73728 (t .low));
       den = subst (λ (z : ℤ). Within z 86973087744) (sym (is .den)) (within-by (search reading depth 20) tt);
       p = subst (λ (z : ℤ). Within z 2037) (sym (is .p)) (relaxation-in p e);
@@ -65,3 +66,22 @@ module _ (v : Flow) (p : ℤ) (k : Common) (is : CommonIs v p k) (f d : List ℤ
   formed-is =
       rw (is .base, is .six, is .seventy, is .den, is .p, e)
       (ap (λ (n : ℤ). partsOf f i +ℤ quotZ n (pos 73728 *ℤ v .rho)) (numerator p (pos (d3q19 .weight i)) (v .rho) (dot (vec v) (vec v)) (partsOf f i) (dot (d3q19 .e i) (vec v))))
+
+-- ---- stage 5's form, with e·j read from the array d
+abbrev pub begun : List ℤ → Common → ℕ → ℤ
+begun d k i = stilled (pos (d3q19 .weight i)) (getD d i (pos 0)) k
+
+module _ (v : Flow) (p : ℤ) (k : Common) (is : CommonIs v p k) (d : List ℤ) (i : ℕ) (e : getD d i (pos 0) ≡ dot (d3q19 .e i) (vec v)) where
+  dividend : (w r q x : ℤ)
+      → w *ℤ (pos 2 *ℤ (r *ℤ r) -ℤ pos 3 *ℤ q -ℤ negsuc 5 *ℤ r *ℤ x +ℤ pos 9 *ℤ x *ℤ x)
+      ≡ w *ℤ (pos 2 *ℤ (r *ℤ r) +ℤ pos 6 *ℤ (r *ℤ x) +ℤ pos 9 *ℤ (x *ℤ x) -ℤ pos 3 *ℤ q)
+  dividend w r q x = ring-by (w ∷ r ∷ q ∷ x ∷ []) (search quotes depth 20) (search quotes depth 20) tt
+
+  divisor-is : (r : ℤ) → pos 0 -ℤ negsuc 71 *ℤ r ≡ pos 72 *ℤ r
+  divisor-is r = ring-by (r ∷ []) (search quotes depth 20) (search quotes depth 20) tt
+
+  pub begun-is : begun d k i ≡ stillDir d3q19 (v .rho) (vec v) i
+  unfolding stillDir still quad
+  begun-is =
+      rw (is .base, is .six, is .seventy, e)
+      (ap₂ quotZ (dividend (pos (d3q19 .weight i)) (v .rho) (dot (vec v) (vec v)) (dot (d3q19 .e i) (vec v))) (divisor-is (v .rho)))

@@ -8,5 +8,6 @@ pub mod Momentum
 pub mod Pairs
 pub mod Ranges
 pub mod Reading
+pub mod Weighing
 pub mod Table
 pub mod Tame

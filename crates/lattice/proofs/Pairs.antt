@@ -4,6 +4,7 @@ use mathlib.Core.Bool.{Bool, _&&_}
 use mathlib.Core.List.{List}
 use Prim.Native.Nat.{ℕ, zero, suc, _+_, _<_, _≤_}
 use native.Mathlib.Nat.{lt-irrefl, le-of-suc-le-suc}
+use native.Mathlib.Numerals.{add-one}
 use native.Mathlib.Decide.{ℕ-discrete}
 use native.Mathlib.Omega.{arith}
 use lib.Arith.{lt-of-le-ne}
@@ -47,6 +48,10 @@ off-dirs n f = sum-first n (off-rest f) ∙ +ℤ-idl (dirs n f)
 pub off-pair : (i : ℕ) (f : ℕ → ℤ) → 0 < i → sum (i + 2) (off-rest f) ≡ sum i (off-rest f) +ℤ (f i +ℤ f (i + 1))
 off-pair i f h =
     sum-pair i (off-rest f) ∙ ap₂ (λ (x y : ℤ). sum i (off-rest f) +ℤ (x +ℤ y)) (off-at f i h) (off-at f (i + 1) (omega arith))
+
+pub off-next : (i : ℕ) (f : ℕ → ℤ) → 0 < i → sum (i + 1) (off-rest f) ≡ sum i (off-rest f) +ℤ f i
+unfolding sum
+off-next i f h = rw add-one (ap (λ (x : ℤ). sum i (off-rest f) +ℤ x) (off-at f i h))
 
 -- ---- two stores at once
 pub both-stored : (P : ℕ → ℤ → Type 0) (l : List ℤ) (i : ℕ) (x y : ℤ) → i + 1 < length l → ((k : ℕ) → 0 < k → k < i → P k (getD l k (pos 0))) → P i x → P (i + 1) y

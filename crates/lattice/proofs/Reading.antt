@@ -62,6 +62,9 @@ at-least w a n l h k = record { z = a; l = l; ok = ltb n (2 ^ hbits w); is = λ 
 abbrev pub is-least : (a : ℤ) (l : ℕ) → l ≤ natAbs a → Least a
 is-least a l k = record { z = a; l = l; ok = true; is = λ t. refl; low = k }
 
+abbrev pub least-val : {m : ℤ} (v : Val m) (l : ℕ) → l ≤ natAbs (v .z) → Least m
+least-val v l k = record { z = v .z; l = l; ok = v .ok; is = λ t. v .is t .is; low = k }
+
 abbrev pub v/least : {a b : ℤ} → Val a → Least b → Val (quotZ a b)
 v/least x y =
     record {

@@ -21,6 +21,10 @@ pub record Bounded (f : List ℤ) (r b : ℕ) : Type 0 where
   pub rest : Within (partsOf f 0) r
   pub at : (k : ℕ) → 0 < k → k < 19 → Within (partsOf f k) b
 
+-- weights of the eighteen directions that shares can be worked out with
+pub record Weights (w : List ℤ) : Type 0 where
+  pub at : (k : ℕ) → 0 < k → k < 19 → Within (partsOf w k) 1000000
+
 -- a flow's momentum
 abbrev pub vec : Flow → V3
 vec v = record { x = v .x; y = v .y; z = v .z }

@@ -1,7 +1,7 @@
 -- What the code promises of a value with several fields, part by part. Assumes nothing.
 use mathlib.Core.Path.{_≡_}
-use Prim.Native.Nat.{ℕ}
-use lib.IntN.{ℤ, pos, negsuc, _+ℤ_, _-ℤ_, _*ℤ_}
+use Prim.Native.Nat.{ℕ, _≤_}
+use lib.IntN.{ℤ, pos, negsuc, natAbs, _+ℤ_, _-ℤ_, _*ℤ_}
 use lib.Signed.{_≤ℤ_, quotZ}
 use Rattle.whole.specs.Machine.{Within}
 use Rattle.lattice.specs.declared.collide.Common.{Common}
@@ -32,6 +32,7 @@ pub record Ready (k : Common) : Type 0 where
   pub base : Within (k .base) 4174708211712
   pub six : Within (k .six) 7077888
   pub seventy : Within (k .seventy) 84934656
+  pub deep : 21233664 ≤ natAbs (k .seventy)
   pub low : pos 21743271936 ≤ℤ k .den
   pub den : Within (k .den) 86973087744
   pub p : Within (k .p) 2037
@@ -39,6 +40,10 @@ pub record Ready (k : Common) : Type 0 where
 -- a part, grown by the cut quotient
 abbrev pub grown : ℤ → ℤ → ℤ → Common → ℤ
 grown f w q k = f +ℤ quotZ (k .p *ℤ (w *ℤ q +ℤ k .seventy *ℤ f)) (k .den)
+
+-- stage 5: the part of a cell that begins
+abbrev pub stilled : ℤ → ℤ → Common → ℤ
+stilled w d k = quotZ (w *ℤ (k .base -ℤ k .six *ℤ d +ℤ pos 9 *ℤ d *ℤ d)) (pos 0 -ℤ k .seventy)
 
 -- a pair of opposite parts: the even part of Q with the odd one taken away and added
 pub record Paired (f g w d : ℤ) (k : Common) (r : Pair) : Type 0 where

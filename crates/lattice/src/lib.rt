@@ -2,6 +2,7 @@
 pub mod collide;
 pub mod convert;
 pub mod directions;
+pub mod excess;
 pub mod exchange;
 pub mod fill;
 pub mod gravity;
