@@ -8,8 +8,9 @@ use Rattle.grid.specs.State.{open-state}
 use Rattle.grid.specs.Step.{open-step}
 use Rattle.grid.specs.Good.{open-good}
 use Rattle.grid.specs.Outcome.{open-outcome}
+use Rattle.tunnel.specs.Place.{open-place}
 use Rattle.figures.specs.Table.{figures, hold}
 
 pub stars : T (hold figures)
-unfolding open-fold open-lattice open-cell open-grid open-state open-step open-good open-outcome
+unfolding open-fold open-lattice open-cell open-grid open-state open-step open-good open-outcome open-place
 stars = tt

@@ -8,6 +8,9 @@ use Rattle.lattice.specs.Cell.{fillOf, exchange, over, under, share, gravityGoo
 use Rattle.grid.specs.State.{Lent}
 use Rattle.grid.specs.Good.{eqZ}
 use Rattle.grid.specs.Outcome.{numberOf, placeOf, stepAnswer, stepSecond, stepMarks}
+use Rattle.tunnel.specs.declared.Placed.{Placed}
+use Rattle.tunnel.specs.Place.{refusalNumber, axisOf}
+use Rattle.tunnel.specs.Place as placing
 use Rattle.figures.specs.Cases.{sides, settings, falling, single, rest, fallen, caseT, marks}
 
 -- a figure: what the definitions give, and what the document says
@@ -28,6 +31,14 @@ flat a = map pos (a .flags) ++ a .parts ++ a .masses ++ map pos (a .fills) ++ a 
 -- weights 1, 1, 2 of directions 1, 2, 3
 abbrev weights : ℕ → ℤ
 weights k = getD (pos 0 ∷ pos 1 ∷ pos 1 ∷ pos 2 ∷ []) k (pos 0)
+
+-- placing on an axis of 10 cells (10 itself is outside), and in a grid of 10×3×3 cells at the height and side of its origin
+abbrev axis : ℤ → ℕ
+axis point = axisOf point (pos 5200000000) 50 10
+
+abbrev placed : ℤ → Placed
+placed point =
+    placing.placeOf (record { nx = 10; ny = 3; nz = 3 }) (pos 50) (record { x = pos 5200000000; y = pos 0; z = pos 0 }) (record { x = point; y = pos 0; z = pos 0 })
 
 abbrev ONE : ℤ
 ONE = pos 589824
@@ -55,6 +66,12 @@ figures =
     ∷ one (bit (gravityGood (pos 34) (pos 0) (negsuc 1047))) (pos 1)
     ∷ one (bit (gravityGood (pos 35) (pos 0) (negsuc 1047))) (pos 0)
     ∷ one (pos (numberOf (stepAnswer sides (record { p = pos 1024; gx = pos 35; gy = pos 0; gz = negsuc 1047 }) caseT caseT marks))) (pos 3)
+    -- edge 50, origin 5,200,000,000, one axis of 10 cells: 5,200,000,149 is cell 2, 5,200,000,150 cell 3, 5,199,999,999 outside
+    ∷ one (pos (axis (pos 5200000149))) (pos 2)
+    ∷ one (pos (axis (pos 5200000150))) (pos 3)
+    ∷ one (pos (axis (pos 5199999999))) (pos 10)
+    ∷ one (pos (refusalNumber (placed (pos 5200000149)))) (pos 0)
+    ∷ one (pos (refusalNumber (placed (pos 5199999999)))) (pos 13)
     -- case T, through the whole outcome of a step
     ∷ record {
       worked = pos (numberOf (stepAnswer sides falling caseT caseT marks)) ∷ pos (placeOf (stepAnswer sides falling caseT caseT marks)) ∷ [];

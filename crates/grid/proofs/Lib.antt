@@ -25,6 +25,8 @@ pub mod Quiet
 pub mod Fair
 pub mod Ranges
 pub mod Marking
+pub mod Settled
+pub mod Opened
 pub mod Plain
 pub mod Portions
 pub mod Amounts
@@ -33,3 +35,4 @@ pub mod Blocks
 pub mod Readings
 pub mod Owned
 pub mod Settles
+pub mod Poise

@@ -14,7 +14,7 @@ use Rattle.whole.specs.Bools.{and-left, and-right, and-true, cond-yes, cond-no}
 use Rattle.whole.specs.Fold.{tab}
 use Rattle.grid.specs.declared.Sides.{Sides}
 use Rattle.grid.specs.Grid.{sidesGood, cellsOf}
-use Rattle.grid.specs.Passes.{Inner, lowOf, inside, besideAt, besideIn, openMark, openedMark, settledMark, Emptying, turnedFlag, Marked, Flagged, flagOf}
+use Rattle.grid.specs.Passes.{Inner, lowOf, inside, besideAt, besideIn, openMark, openedMark, keptMark, Emptying, turnedFlag, Marked, Flagged, flagOf}
 use Rattle.grid.specs.Step.{flagAfter}
 use Rattle.grid.proofs.GoodSides.{good-sides}
 use Rattle.grid.proofs.Walls.{inner}
@@ -114,15 +114,15 @@ module _ (old off : List ℕ) (low n : ℕ) {out : List ℕ} {c : ℕ} (r : Rang
   settled-skip f = sym (cond-no (cond (besideAt old off (c - low) 1) 0 2) (getD old c 0) (ne-eqb (getD old c 0) 2 (λ e. f (r .rest c (omega arith) ∙ e))))
 
 module _ {s : Sides} {off : List ℕ} {low : ℕ} (o : Offsets s off low) (marks : List ℕ) (w : Emptying s marks) where
-  settled-is : (c : ℕ) → c < cellsOf s → ranged 0 (settledAt marks off low) marks 0 (length marks) c ≡ settledMark s marks c
-  unfolding settledMark
+  settled-is : (c : ℕ) → c < cellsOf s → ranged 0 (settledAt marks off low) marks 0 (length marks) c ≡ keptMark s marks c
+  unfolding keptMark
   settled-is c h =
       cond-yes (settledAt marks off low c) (getD marks c 0) (and-true (leb 0 c) (ltb c (length marks)) (le-leb 0 c (omega arith)) (lt-ltb c (length marks) (omega (arith, w .count))))
       ∙ cond-cong (eqb (getD marks c 0) 2) (eqb (getD marks c 0) 2) _ _ (getD marks c 0) refl
       (λ t. ap (λ (b : Bool). cond b 0 2) (beside-same o marks 1 c (w .count) (w .inner c (omega (arith, w .count)) (eqb-true (getD marks c 0) 2 t))))
 
-  pub settled : (out : List ℕ) (c : ℕ) → Ranged 0 (settledAt marks off low) marks 0 (length marks) out c → length marks ≤ c → out ≡ tab (cellsOf s) (settledMark s marks)
-  settled out c r h = ranged-all 0 (settledAt marks off low) marks 0 (length marks) out c (cellsOf s) (settledMark s marks) r h (w .count) settled-is
+  pub settled : (out : List ℕ) (c : ℕ) → Ranged 0 (settledAt marks off low) marks 0 (length marks) out c → length marks ≤ c → out ≡ tab (cellsOf s) (keptMark s marks)
+  settled out c r h = ranged-all 0 (settledAt marks off low) marks 0 (length marks) out c (cellsOf s) (keptMark s marks) r h (w .count) settled-is
 
 -- a cell outside that range is wall
 outside : {s : Sides} {flags : List ℕ} → Flagged s flags → (c : ℕ) → c < length flags → inside s c ≡ false → getD flags c 0 ≡ 3

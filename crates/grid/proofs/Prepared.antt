@@ -60,6 +60,35 @@ liquid-body (suc (suc (suc n))) dry b m e l h = absurd (false≢true l)
 interface-mass : (f : ℕ) (dry b m e : Bool) → f ≡ 1 → byFlag f dry (b && m) (b && e) dry ≡ true → m ≡ true
 interface-mass f dry b m e l h = and-right b m (subst (λ (k : ℕ). byFlag k dry (b && m) (b && e) dry ≡ true) l h)
 
+-- ---- a state whose cells keep test 6's rules
+module _ (n : ℕ) (t : State) (cells : (c : ℕ) → c < n → cellGood d3q19 t c ≡ true) where
+  kinds : (c : ℕ) → c < n → byFlag (t .flag c) (dryGood d3q19 t c) (interfaceGood d3q19 t c) (fluidGood d3q19 t c) (dryGood d3q19 t c) ≡ true
+  unfolding cellGood
+  kinds c h = and-left (byFlag (t .flag c) (dryGood d3q19 t c) (interfaceGood d3q19 t c) (fluidGood d3q19 t c) (dryGood d3q19 t c)) (fillGood d3q19 t c) (cells c h)
+
+  -- a liquid cell's parts, density and speed are in their ranges
+  pub cell-body : (c : ℕ) → c < n → liquid (t .flag c) ≡ true → Body (t .part c)
+  unfolding interfaceGood fluidGood
+  cell-body c h l =
+      body (t .part c)
+      (liquid-body (t .flag c) (dryGood d3q19 t c) (bodyGood d3q19 (t .part c)) (massGood (t .mass c)) (eqZ (t .mass c) (density d3q19 (t .part c))) l (kinds c h))
+
+  -- an interface cell's mass too
+  pub cell-mass : (c : ℕ) → c < n → t .flag c ≡ 1 → Within (t .mass c) 2359296
+  unfolding interfaceGood fluidGood
+  cell-mass c h l =
+      record {
+        abs = leb-true (natAbs (t .mass c)) 2359296
+            (interface-mass (t .flag c) (dryGood d3q19 t c) (bodyGood d3q19 (t .part c)) (massGood (t .mass c)) (eqZ (t .mass c) (density d3q19 (t .part c))) l (kinds c h));
+      }
+
+  -- every fill is as document 01 has it
+  pub cell-fill : (c : ℕ) → c < n → t .fill c ≡ fillFor (t .flag c) (t .mass c) (density d3q19 (t .part c))
+  unfolding cellGood fillGood
+  cell-fill c h =
+      eqb-true (t .fill c) (fillFor (t .flag c) (t .mass c) (density d3q19 (t .part c)))
+      (and-right (byFlag (t .flag c) (dryGood d3q19 t c) (interfaceGood d3q19 t c) (fluidGood d3q19 t c) (dryGood d3q19 t c)) (fillGood d3q19 t c) (cells c h))
+
 module _ (s : Sides) (g : Settings) (a : Lent) (r : Ready s g a) where
   pub ready-sound : Sound d3q19 (gridOf s) (stateOf 18 a)
   ready-sound = sound d3q19 (gridOf s) (stateOf 18 a) Done (r .good) .0
@@ -76,35 +105,11 @@ module _ (s : Sides) (g : Settings) (a : Lent) (r : Ready s g a) where
   unfolding gridOf box cellsOf
   ready-cell c h = cell-good d3q19 (gridOf s) (stateOf 18 a) rules c h
 
-  kinds : (c : ℕ) → c < cellsOf s
-      → byFlag (stateOf 18 a .flag c) (dryGood d3q19 (stateOf 18 a) c) (interfaceGood d3q19 (stateOf 18 a) c) (fluidGood d3q19 (stateOf 18 a) c) (dryGood d3q19 (stateOf 18 a) c) ≡ true
-  unfolding cellGood
-  kinds c h =
-      and-left (byFlag (stateOf 18 a .flag c) (dryGood d3q19 (stateOf 18 a) c) (interfaceGood d3q19 (stateOf 18 a) c) (fluidGood d3q19 (stateOf 18 a) c) (dryGood d3q19 (stateOf 18 a) c))
-      (fillGood d3q19 (stateOf 18 a) c) (ready-cell c h)
-
-  -- a liquid cell's parts, density and speed are in their ranges
   pub ready-body : (c : ℕ) → c < cellsOf s → liquid (stateOf 18 a .flag c) ≡ true → Body (stateOf 18 a .part c)
-  unfolding interfaceGood fluidGood
-  ready-body c h l =
-      body (stateOf 18 a .part c)
-      (liquid-body (stateOf 18 a .flag c) (dryGood d3q19 (stateOf 18 a) c) (bodyGood d3q19 (stateOf 18 a .part c)) (massGood (stateOf 18 a .mass c))
-      (eqZ (stateOf 18 a .mass c) (density d3q19 (stateOf 18 a .part c))) l (kinds c h))
+  ready-body = cell-body (cellsOf s) (stateOf 18 a) ready-cell
 
-  -- an interface cell's mass too
   pub ready-mass : (c : ℕ) → c < cellsOf s → stateOf 18 a .flag c ≡ 1 → Within (stateOf 18 a .mass c) 2359296
-  unfolding interfaceGood fluidGood
-  ready-mass c h l =
-      record {
-        abs = leb-true (natAbs (stateOf 18 a .mass c)) 2359296
-            (interface-mass (stateOf 18 a .flag c) (dryGood d3q19 (stateOf 18 a) c) (bodyGood d3q19 (stateOf 18 a .part c)) (massGood (stateOf 18 a .mass c))
-            (eqZ (stateOf 18 a .mass c) (density d3q19 (stateOf 18 a .part c))) l (kinds c h));
-      }
+  ready-mass = cell-mass (cellsOf s) (stateOf 18 a) ready-cell
 
-  -- every fill is as document 01 has it
   pub ready-fill : (c : ℕ) → c < cellsOf s → stateOf 18 a .fill c ≡ fillFor (stateOf 18 a .flag c) (stateOf 18 a .mass c) (density d3q19 (stateOf 18 a .part c))
-  unfolding cellGood fillGood
-  ready-fill c h =
-      eqb-true (stateOf 18 a .fill c) (fillFor (stateOf 18 a .flag c) (stateOf 18 a .mass c) (density d3q19 (stateOf 18 a .part c)))
-      (and-right (byFlag (stateOf 18 a .flag c) (dryGood d3q19 (stateOf 18 a) c) (interfaceGood d3q19 (stateOf 18 a) c) (fluidGood d3q19 (stateOf 18 a) c) (dryGood d3q19 (stateOf 18 a) c))
-      (fillGood d3q19 (stateOf 18 a) c) (ready-cell c h))
+  ready-fill = cell-fill (cellsOf s) (stateOf 18 a) ready-cell

@@ -1,8 +1,8 @@
 -- What the passes of a step ask, and what they hold on the way, in terms of the stages' definitions. Assumes nothing.
 use mathlib.Core.Path.{_≡_}
 use mathlib.Core.Bool.{Bool, true, cond}
-use mathlib.Core.List.{List}
-use Prim.Native.Nat.{ℕ, _*_}
+use mathlib.Core.List.{List, []}
+use Prim.Native.Nat.{ℕ, _*_, _<_}
 use lib.IntN.{ℤ, pos, _+ℤ_}
 use lib.Dec.{eqb}
 use lib.ListN.{length}
@@ -14,7 +14,9 @@ use Rattle.grid.specs.declared.Answer.the-variants.{Done}
 use Rattle.grid.specs.Grid.{cellsOf, sidesGood, gridOf}
 use Rattle.grid.specs.State.{Lent, Scene, byFlag, stateOf}
 use Rattle.grid.specs.Step.{flagAt, tradedMass, newDensity, collided, filled, emptied, besideFilled, born, newFlag, received}
+use Rattle.grid.specs.Good.{cellGood}
 use Rattle.grid.specs.Outcome.{settingsGood, goodAnswer}
+use Rattle.grid.specs.Demands.{Walled, Closed}
 
 -- a set's slices are of their exact lengths
 pub record Sized (n : ℕ) (a : Lent) : Type 0 where
@@ -30,6 +32,23 @@ pub record Ready (s : Sides) (g : Settings) (a : Lent) : Type 0 where
   pub sized : Sized (cellsOf s) a
   pub settings : settingsGood g ≡ true
   pub good : goodAnswer d3q19 (gridOf s) (stateOf 18 a) Done ≡ Done
+
+-- a set with no carry, for a pass that is not lent one: no stage but the last sum of stage 6 reads it
+abbrev pub uncarried : List ℕ → List ℤ → List ℤ → List ℕ → Lent
+uncarried flags parts masses fills = record { flags = flags; parts = parts; masses = masses; fills = fills; carry = [] }
+
+-- the same as Ready, cell by cell and without the carry: what a pass over all cells asks
+pub record Poised (s : Sides) (g : Settings) (a : Lent) : Type 0 where
+  pub sides : sidesGood s ≡ true
+  pub settings : settingsGood g ≡ true
+  pub flags : length (a .flags) ≡ cellsOf s
+  pub parts : length (a .parts) ≡ 19 * cellsOf s
+  pub masses : length (a .masses) ≡ cellsOf s
+  pub fills : length (a .fills) ≡ cellsOf s
+  pub flagged : (c : ℕ) → c < cellsOf s → stateOf 18 a .flag c < 4
+  pub walled : Walled (gridOf s) (stateOf 18 a .flag)
+  pub closed : Closed 18 (gridOf s) (stateOf 18 a .flag)
+  pub cells : (c : ℕ) → c < cellsOf s → cellGood d3q19 (stateOf 18 a) c ≡ true
 
 -- ---- after stages 1 to 4: parts, masses, and marks that are 1 where a cell is filled and 2 where it would be emptied
 

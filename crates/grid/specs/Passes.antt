@@ -86,8 +86,8 @@ unfoldable pub openedMark : Sides → List ℕ → List ℕ → ℕ → ℕ
 openedMark s flags marks c = cond (inside s c) (openMark (getD flags c 0) (besideIn s flags 3 c)) (getD marks c 0)
 
 -- pass 2: 1 filled, 2 would be emptied; beside a filled cell it is not
-unfoldable pub settledMark : Sides → List ℕ → ℕ → ℕ
-settledMark s marks c = cond (eqb (getD marks c 0) 2) (cond (besideIn s marks 1 c) 0 2) (getD marks c 0)
+unfoldable pub keptMark : Sides → List ℕ → ℕ → ℕ
+keptMark s marks c = cond (eqb (getD marks c 0) 2) (cond (besideIn s marks 1 c) 0 2) (getD marks c 0)
 
 -- what pass 2 asks: only inner cells are to be emptied
 pub record Emptying (s : Sides) (marks : List ℕ) : Type 0 where
@@ -108,5 +108,5 @@ pub record Marked (s : Sides) (flags marks : List ℕ) : Type 0 where
 
 -- names every definition of this file: whoever unfolds this computes with all of them
 unfoldable pub open-passes : Unit {0}
-unfolding lowOf offsetOf besideAt placeAfter outerAt inside besideIn openedMark settledMark turnedFlag
+unfolding lowOf offsetOf besideAt placeAfter outerAt inside besideIn openedMark keptMark turnedFlag
 open-passes = tt

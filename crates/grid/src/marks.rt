@@ -6,7 +6,7 @@ ghost use mathlib.Core.Bool.{true, cond};
 ghost use lib.ListN.{length};
 ghost use Rattle.whole.specs.Fold.{tab};
 ghost use Rattle.grid.specs.Grid.{sidesGood, cellsOf};
-ghost use Rattle.grid.specs.Passes.{openMark, openedMark, settledMark, Emptying};
+ghost use Rattle.grid.specs.Passes.{openMark, openedMark, keptMark, Emptying};
 
 fn open_mark(f: u8, walled: bool) -> u8
     ensures { λ r. ⌜ r ≡ openMark f walled ⌝ }
@@ -44,7 +44,7 @@ fn kept(filled: bool) -> u8
 // Pass 2: a cell to be emptied beside a filled one is let off.
 pub fn settle_marks(marks: &mut [u8], s: Sides)
     requires { ⌜ Emptying s (now marks) ⌝ }
-    ensures { λ r. ⌜ now (marks .exit) ≡ tab (cellsOf s) (settledMark s (now (marks .entry))) ⌝ }
+    ensures { λ r. ⌜ now (marks .exit) ≡ tab (cellsOf s) (keptMark s (now (marks .entry))) ⌝ }
 {
     let off = neighbours::offsets(s);
     let low = neighbours::low_of(s);

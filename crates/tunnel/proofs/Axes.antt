@@ -1,7 +1,7 @@
 -- One axis of placing: what the ranges bound, and that the code's two ways, a negative difference and an unsigned quotient, are the floor. Assumes nothing.
 use mathlib.Core.Path.{_≡_, refl}
-use mathlib.Core.Bool.{Bool, true, false, _&&_, cond, true≢false, false≢true}
-use Prim.Native.Nat.{ℕ, suc, _/_, _≤_, _<_}
+use mathlib.Core.Bool.{true, false, _&&_, cond, true≢false, false≢true}
+use Prim.Native.Nat.{ℕ, _/_, _<_}
 use native.Mathlib.Omega.{arith}
 use borrow.Author.Tests.{leb-true, ltb-true}
 use lib.Dec.{T, leb, ltb}

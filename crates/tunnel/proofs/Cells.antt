@@ -1,5 +1,5 @@
 -- Cells of good sides: the coordinates of a cell number lie inside the sides, and the number of a cell inside lies below N. Assumes nothing.
-use mathlib.Core.Path.{_≡_, refl, sym, ap, _∙_, subst}
+use mathlib.Core.Path.{_≡_, sym, _∙_, subst}
 use mathlib.Core.Bool.{true}
 use Prim.Native.Nat.{ℕ, _+_, _*_, _/_, _%_, _≤_, _<_}
 use native.Mathlib.Nat.{mul-le-mul, mul-pos, mul-comm, mul-assoc, mul-left-comm, add-comm, mod-lt, div-lt-iff-lt-mul}
@@ -7,7 +7,7 @@ use native.Mathlib.Omega.{arith}
 use lib.Arith.{digits-lt}
 use Rattle.grid.specs.declared.Sides.{Sides}
 use Rattle.grid.specs.Grid.{sidesGood, cellsOf, cellAt}
-use Rattle.grid.proofs.GoodSides.{GoodSides, good-sides}
+use Rattle.grid.proofs.GoodSides.{good-sides}
 use Rattle.tunnel.specs.Asks.{Inside}
 
 -- the coordinates of cell c

@@ -1,8 +1,8 @@
 -- A column's cells lie in the grid; its sums, turn by turn; and its sum of fills stays below 2^24. Assumes nothing.
-use mathlib.Core.Path.{_≡_, sym, ap, _∙_, subst}
+use mathlib.Core.Path.{_≡_, sym, ap, subst}
 use mathlib.Core.Bool.{Bool, true, false, _&&_, cond}
 use mathlib.Core.List.{List}
-use Prim.Native.Nat.{ℕ, _+_, _*_, _≤_, _<_}
+use Prim.Native.Nat.{ℕ, _+_, _≤_, _<_}
 use native.Mathlib.Numerals.{add-one}
 use native.Mathlib.Omega.{arith}
 use borrow.Author.Tests.{ltb-false}
@@ -44,6 +44,7 @@ part-le : (wall : Bool) (fill : ℕ) → ltb 65536 fill ≡ false → cond wall 
 part-le true fill h = omega arith
 part-le false fill h = ltb-false 65536 fill h
 
-pub open-le : (s : Sides) (flags fills : List ℕ) (x y z : ℕ) → s .nz ≤ first (s .nz) (fillBad s fills x y) → z < s .nz → openFill s flags fills x y z ≤ 65536
+pub open-le : (s : Sides) (flags fills : List ℕ) (x y z : ℕ) → s .nz ≤ first (s .nz) (fillBad s fills x y) → z < s .nz
+    → openFill s flags fills x y z ≤ 65536
 unfolding openFill fillBad
 open-le s flags fills x y z e h = part-le (isWall s flags x y z) (columnAt s fills x y z) (first-none (s .nz) (fillBad s fills x y) e z h)

@@ -1,6 +1,6 @@
 -- Figures of the readings, computed from the definitions: document 01's three placings, and the readings of case T. Assumes nothing.
 use mathlib.Core.Path.{_≡_, refl}
-use mathlib.Core.Bool.{Bool, cond}
+use mathlib.Core.Bool.{cond}
 use mathlib.Core.List.{List}
 use Prim.Native.Nat.{ℕ}
 use lib.Dec.{eqb}
@@ -11,7 +11,7 @@ use Rattle.grid.specs.Grid.{open-grid}
 use Rattle.tunnel.specs.declared.Point.{Point}
 use Rattle.tunnel.specs.declared.Placed.the-variants.{Refused, Cell}
 use Rattle.tunnel.specs.Place.{axisOf, placeOf, open-place}
-use Rattle.tunnel.specs.Point.{WholePoint, refused, pointOf, open-point}
+use Rattle.tunnel.specs.Point.{refused, pointOf, open-point}
 use Rattle.tunnel.specs.Depth.{solid, dry, deep, depthOf, open-depth}
 use Rattle.tunnel.specs.Depth as depth
 

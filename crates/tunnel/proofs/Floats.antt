@@ -1,13 +1,12 @@
 -- Exact floats: no second `f32` has the same value, and a whole number below 2^24 that is cast and divided by a power of two is exact, since rounding
 -- changes nothing there. Assumes nothing.
 use mathlib.Core.Path.{_≡_, refl, sym, ap, _∙_, subst}
-use mathlib.Core.Bool.{Bool, true, false, cond}
-use Prim.Native.Nat.{ℕ, suc, _+_, _-_, _*_, _/_, _^_, _≤_, _<_}
+use mathlib.Core.Bool.{Bool, false, cond}
+use Prim.Native.Nat.{ℕ, _+_, _-_, _*_, _/_, _^_, _≤_, _<_}
 use native.Mathlib.Nat.{mul-right-comm, mul-assoc, mul-comm, one-mul, zero-mul, mul-pos, zero-lt-suc, le-of-lt, lt-of-lt-of-le}
 use native.Mathlib.Omega.{arith}
 use lib.IntN.{pos}
 use lib.Pow.{pow-pos, pow-add, pow-mono, shl-lt}
-use lib.Dec.{T}
 use lib.Ieee.{Float, nan, inf, fin, Format, binary32, prec, low, hid, top, up, down, unlike, size, round, div, ofInt, toBits, ofBits, fits}
 use lib.Ieee.Bits.{ofBits-toBits}
 use lib.Ieee.Exact.{HasValue, round-exact}

@@ -1,8 +1,8 @@
 -- What two definitions of this layer mean, in terms that leave no room: a cell of an axis holds the points from its lower edge up to the next, and the
 -- centre of the cell numbered x + nx(y + ny·z) is that of (x, y, z). Assumes nothing.
-use mathlib.Core.Path.{_≡_, refl, sym, ap, _∙_, subst}
+use mathlib.Core.Path.{_≡_, sym, ap, _∙_, subst}
 use mathlib.Core.Bool.{Bool, true, false, cond}
-use Prim.Native.Nat.{ℕ, _+_, _*_, _/_, _%_, _≤_, _<_}
+use Prim.Native.Nat.{ℕ, _+_, _*_, _/_, _%_, _<_}
 use native.Mathlib.Nat.{zero-add, mod-lt, mod-eq-of-lt, div-eq-of-lt, div-add-mod, add-mul-div-left, add-mul-mod-self-left, div-div-eq-div-mul}
 use native.Mathlib.Omega.{arith}
 use borrow.Author.Tests.{lt-ltb}
@@ -14,7 +14,7 @@ use Rattle.whole.specs.Quot.{floor-only}
 use Rattle.grid.specs.declared.Sides.{Sides}
 use Rattle.grid.specs.Grid.{cellAt}
 use Rattle.tunnel.specs.Place.{inside, axisOf}
-use Rattle.tunnel.specs.Point.{WholePoint, centreOf}
+use Rattle.tunnel.specs.Point.{centreOf}
 
 -- ---- a point from edge·q on, and before edge·q + edge, is in cell q
 holds : (z : ℤ) (edge side q : ℕ) → q < side → pos (edge * q) ≤ℤ z → z <ℤ pos (edge * q + edge) → inside (shrZ z edge) side ≡ q

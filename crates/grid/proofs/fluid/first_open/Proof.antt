@@ -137,10 +137,10 @@ array-read-if2 : tie.Need-array-read-if2 Inv-loop μ-loop Inv-cells μ-cells
 array-read-if2 c = search needs
 
 add-if2 : tie.Need-add-if2 Inv-loop μ-loop Inv-cells μ-cells
-add-if2 c = record { fits = omega (arith, place-low (offs (c .before .before .before .before .before .before)) _ (within (c .before .before)) (c .before .loop .i) (c .loop-test .taken), most (c .before .before .before .before .before .before)) }
+add-if2 c = record { fits = omega (arith, place-low (offs (c .before .before .before .before .before .before)) _ (within (c .before .before)) (c .before .loop .i) (omega arith), most (c .before .before .before .before .before .before)) }
 
 shared-slice-read-if2 : tie.Need-shared-slice-read-if2 Inv-loop μ-loop Inv-cells μ-cells
-shared-slice-read-if2 c = omega (arith, c .before .before .before .before .before .before .before .before .before .before .pre .count, place-low (offs (c .before .before .before .before .before .before .before)) _ (within (c .before .before .before)) (c .before .before .loop .i) (c .before .loop-test .taken))
+shared-slice-read-if2 c = omega (arith, c .before .before .before .before .before .before .before .before .before .before .pre .count, place-low (offs (c .before .before .before .before .before .before .before)) _ (within (c .before .before .before)) (c .before .before .loop .i) (omega arith))
 
 add-i : tie.Need-add-i Inv-loop μ-loop Inv-cells μ-cells
 add-i c = search needs
@@ -184,7 +184,7 @@ returns-2 c =
     let a = l .before .before .before .before in
     let i = c .before .before .before .loop in
     found (a .args .flags .now) (l .before .before .offsets .result) (l .before .low-of .result) (a .pre) (offs (l .before)) (l .cells .c) (c .before .before .before .before .before .before .cells-test .taken) (l .cells .inv .1)
-    (wet (a .args .flags .now) (l .before .before .offsets .result) (l .before .low-of .result) (l .cells .c) (c .before .before .before .before .if1 .taken) (i .i) (i .inv .0) (c .before .before .loop-test .taken) (c .if2 .taken))
+    (wet (a .args .flags .now) (l .before .before .offsets .result) (l .before .low-of .result) (l .cells .c) (c .before .before .before .before .if1 .taken) (i .i) (i .inv .0) (omega arith) (c .if2 .taken))
 
 pub first-open-spec : {M : Type 1} → statement M
 first-open-spec =

@@ -1,11 +1,10 @@
 -- `tunnel::cell::cell_point`: each return is the definition with the tests that led there. Assumes nothing.
 use borrow.Author.Needs.{needs}
 use borrow.Author.Tests.{not-true, not-false, eq-eqb, ne-eqb, lt-ltb, le-ltb, le-leb, lt-leb}
-use mathlib.Core.Path.{_≡_, sym, refl, _∙_, subst}
-use mathlib.Core.Bool.{true, false}
+use mathlib.Core.Path.{_≡_, sym, _∙_, subst}
+use mathlib.Core.Bool.{true}
 use Prim.Native.Nat.{ℕ, _≤_, _<_}
-use native.Mathlib.Omega.{arith}
-use lib.Dec.{eqb, ltb}
+use lib.Dec.{eqb}
 use lib.ListN.{length}
 use denote.Ref.{now}
 use Rattle.grid.specs.Grid.{sidesGood, cellsOf}
@@ -52,7 +51,8 @@ returns-3 : tie.Need-returns-3
 unfolding pointOf
 returns-3 c =
     let d = c .before .before in
-    simp (good (d .before .before), whole d, le-ltb _ _ (subst (λ (n : ℕ). n ≤ d .before .before .before .before .before .args .c) (d .before .cells .ensures) (c .before .if3 .taken)))
+    let h = subst (λ (n : ℕ). n ≤ d .before .before .before .before .before .args .c) (d .before .cells .ensures) (c .before .if3 .taken) in
+    simp (good (d .before .before), whole d, le-ltb _ _ h)
     (c .refusal3 .ensures)
 
 mul-m : tie.Need-mul-m

@@ -1,7 +1,7 @@
 -- `tunnel::cell::number`: the number of a cell inside good sides fits, as does all that leads to it. Assumes nothing.
 use native.Mathlib.Omega.{arith}
 use borrow.Author.Needs.{needs}
-use Rattle.tunnel.proofs.Cells.{Small, small}
+use Rattle.tunnel.proofs.Cells.{small}
 use Rattle.tunnel.proofs.cell.number.Statement.{statement}
 use Rattle.tunnel.proofs.cell.number.Tie as tie
 

@@ -52,7 +52,8 @@ returns : tie.Need-returns Inv-loop μ-loop
 returns c =
     let l = c .before .before .before .before in
     let a = l .before .before .args in
-    sym (first-is (a .s .nz) (fillBad (a .s) (now (a .fills)) (a .x) (a .y)) (l .loop .z) (c .before .before .before .loop-test .taken) (l .loop .inv .1) (tested (c .before) true (lt-ltb _ _ (c .if1 .taken))))
+    let bad = fillBad (a .s) (now (a .fills)) (a .x) (a .y) in
+    sym (first-is (a .s .nz) bad (l .loop .z) (c .before .before .before .loop-test .taken) (l .loop .inv .1) (tested (c .before) true (lt-ltb _ _ (c .if1 .taken))))
 
 add-z : tie.Need-add-z Inv-loop μ-loop
 add-z c = record { fits = omega (arith, c .before .before .before .loop-test .taken, high (c .before .before .before .before .before .before .pre)) }

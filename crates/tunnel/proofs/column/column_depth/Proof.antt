@@ -3,6 +3,7 @@ use borrow.Author.Needs.{needs}
 use borrow.Author.Tests.{not-true, not-false, eq-eqb, ne-eqb, lt-ltb, le-ltb}
 use mathlib.Core.Path.{_≡_, sym, _∙_}
 use mathlib.Core.Bool.{true}
+use Prim.Native.Nat.{ℕ}
 use lib.ListN.{length}
 use denote.Ref.{now}
 use Rattle.grid.specs.Grid.{sidesGood, cellsOf}
@@ -56,18 +57,19 @@ returns-5 c =
     simp (good (d .before .before .before), eq-eqb _ _ (flags-whole (d .before)), eq-eqb _ _ (fills-whole d), lt-ltb _ _ (e .if4 .left), le-ltb _ _ (c .if5 .taken))
     is-refused
 
--- the column lies in the grid, over both slices
-column : (c : tie.Else5)
-    → (let a = c .before .before .before .before .before .before .before .before .before .before .before .args in InColumn (a .s) (length (now (a .flags))) (a .x) (a .y) × InColumn (a .s) (length (now (a .fills))) (a .x) (a .y))
-column c =
+-- the column lies in the grid, over a slice of N
+abbrev start : tie.Else5 → tie.Start
+start c = c .before .before .before .before .before .before .before .before .before .before .before
+
+column : (c : tie.Else5) (n : ℕ) → n ≡ cellsOf (start c .args .s) → (let a = start c .args in InColumn (a .s) n (a .x) (a .y))
+column c n h =
     let e = c .before .before in
-    let d = e .before .before in (
-      record { good = good (d .before .before .before); all = flags-whole (d .before); in-x = e .if4 .left; in-y = c .if5 .left },
-      record { good = good (d .before .before .before); all = fills-whole d; in-x = e .if4 .left; in-y = c .if5 .left },
-    )
+    record { good = good (e .before .before .before .before .before); all = h; in-x = e .if4 .left; in-y = c .if5 .left }
 
 measured-requires : tie.Need-measured-requires
-measured-requires c κs = column c
+measured-requires c κs =
+    let d = c .before .before .before .before in
+    (column c _ (flags-whole (d .before)), column c _ (fills-whole d))
 
 returns-6 : tie.Need-returns-6
 unfolding depthOf

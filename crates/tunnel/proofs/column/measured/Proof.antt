@@ -1,7 +1,7 @@
 -- `tunnel::column::measured`: tests 4 and 6 by their searches, then the reading of the sums. Assumes nothing.
 use borrow.Author.Needs.{needs}
 use borrow.Author.Tests.{le-leb, lt-leb}
-use mathlib.Core.Path.{_≡_, sym, subst}
+use mathlib.Core.Path.{subst}
 use Prim.Native.Nat.{ℕ, _≤_}
 use Rattle.tunnel.specs.Depth.{measuredOf, is-refused}
 use Rattle.tunnel.proofs.column.measured.Statement.{statement}
@@ -43,7 +43,8 @@ unfolding measuredOf
 returns-3 c =
     let d = c .before .before in
     let f = d .before .before in
-    simp (← f .before .bad-flag .ensures, le-leb _ _ (f .if1 .left), ← d .before .bad-fill .ensures, le-leb _ _ (d .if2 .left), ← c .before .summed .ensures .walls, ← c .before .summed .ensures .adds)
+    let h = c .before .summed .ensures in
+    simp (← f .before .bad-flag .ensures, le-leb _ _ (f .if1 .left), ← d .before .bad-fill .ensures, le-leb _ _ (d .if2 .left), ← h .walls, ← h .adds)
     (c .reading .ensures)
 
 pub measured-spec : {M : Type 1} → statement M

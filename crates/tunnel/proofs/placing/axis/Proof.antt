@@ -1,16 +1,16 @@
 -- `tunnel::placing::axis`: ranges keep the difference far below 2^63, so it is itself; then the two laws of Axes. Assumes nothing.
 use borrow.Author.Tests.{lt-ltb, le-ltb}
-use mathlib.Core.Path.{_≡_, sym, _∙_}
-use mathlib.Core.Bool.{true, false}
+use mathlib.Core.Path.{_≡_}
+use mathlib.Core.Bool.{false}
 use Prim.Native.Nat.{_/_, _≤_, _<_}
 use native.Mathlib.Omega.{arith}
-use lib.IntN.{ℤ, pos, _-ℤ_, natAbs}
+use lib.IntN.{pos, _-ℤ_, natAbs}
 use lib.Signed.{ltZ, natAbs-le}
 use mir.Syntax.{w64}
 use mir.Val.{toZ, ofZ}
 use mir.ValLaws.{toZ-ofZ}
 use Rattle.whole.specs.Bounds.{abs-sub}
-use Rattle.whole.specs.Machine.{Within, machine, w64-in, does-fit, reads-as}
+use Rattle.whole.specs.Machine.{machine, w64-in, does-fit, reads-as}
 use Rattle.tunnel.proofs.Axes.{near, edge-some, zero-up, axis-below, axis-from}
 use Rattle.tunnel.proofs.placing.axis.Statement.{statement}
 use Rattle.tunnel.proofs.placing.axis.Tie as tie

@@ -32,60 +32,81 @@ good-origin : (c : tie.Start) → Good (c .args .origin)
 good-origin c = good (c .args .origin) (c .pre .1 .1 .0)
 
 -- ---- what the three axes gave
-x-is : (c : tie.After-axis) → (let a = c .before .before .before .args in c .axis .result ≡ axisOf (a .point .x) (a .origin .x) (natAbs (a .edge)) (a .s .nx))
+-- r is the definition's cell along an axis
+abbrev Is : (point origin edge : ℤ) (side r : ℕ) → Type 0
+Is point origin edge side r = r ≡ axisOf point origin (natAbs edge) side
+
+x-is : (c : tie.After-axis) → (let a = c .before .before .before .args in Is (a .point .x) (a .origin .x) (a .edge) (a .s .nx) (c .axis .result))
 x-is c =
     let s = c .before .before .before in
     let a = s .args in
-    told (a .point .x) (a .origin .x) (a .edge) (c .before .before .struct-told .given .0 .1) (c .before .struct-told2 .given .0 .1) (s .fits .edge) _ _ (c .axis .ensures)
+    told (a .point .x) (a .origin .x) (a .edge) (c .before .before .struct-told .given .0 .1) (c .before .struct-told2 .given .0 .1) (s .fits .edge) _ _
+    (c .axis .ensures)
 
-y-is : (c : tie.After-axis2) → (let a = c .before .before .before .before .before .before .args in c .axis2 .result ≡ axisOf (a .point .y) (a .origin .y) (natAbs (a .edge)) (a .s .ny))
+y-is : (c : tie.After-axis2) → (let a = c .before .before .before .before .before .before .args in Is (a .point .y) (a .origin .y) (a .edge) (a .s .ny) (c .axis2 .result))
 y-is c =
     let s = c .before .before .before .before .before .before in
     let a = s .args in
-    told (a .point .y) (a .origin .y) (a .edge) (c .before .before .struct-told3 .given .1 .0 .1) (c .before .struct-told4 .given .1 .0 .1) (s .fits .edge) _ _ (c .axis2 .ensures)
+    told (a .point .y) (a .origin .y) (a .edge) (c .before .before .struct-told3 .given .1 .0 .1) (c .before .struct-told4 .given .1 .0 .1) (s .fits .edge) _ _
+    (c .axis2 .ensures)
 
-z-is : (c : tie.After-axis3) → (let a = c .before .before .before .before .before .before .before .before .before .args in c .axis3 .result ≡ axisOf (a .point .z) (a .origin .z) (natAbs (a .edge)) (a .s .nz))
+z-is : (c : tie.After-axis3) → (let a = c .before .before .before .before .before .before .before .before .before .args in Is (a .point .z) (a .origin .z) (a .edge) (a .s .nz) (c .axis3 .result))
 z-is c =
     let s = c .before .before .before .before .before .before .before .before .before in
     let a = s .args in
-    told (a .point .z) (a .origin .z) (a .edge) (c .before .before .struct-told5 .given .1 .1 .0 .1) (c .before .struct-told6 .given .1 .1 .0 .1) (s .fits .edge) _ _ (c .axis3 .ensures)
+    told (a .point .z) (a .origin .z) (a .edge) (c .before .before .struct-told5 .given .1 .1 .0 .1) (c .before .struct-told6 .given .1 .1 .0 .1) (s .fits .edge) _ _
+    (c .axis3 .ensures)
+
+-- the first two, seen from the third
+abbrev start : tie.After-axis3 → tie.Start
+start c = c .before .before .before .before .before .before .before .before .before
+
+xs : (c : tie.After-axis3) → (let a = start c .args in Is (a .point .x) (a .origin .x) (a .edge) (a .s .nx) (c .before .before .before .before .before .before .axis .result))
+xs c = x-is (c .before .before .before .before .before .before)
+
+ys : (c : tie.After-axis3) → (let a = start c .args in Is (a .point .y) (a .origin .y) (a .edge) (a .s .ny) (c .before .before .before .axis2 .result))
+ys c = y-is (c .before .before .before)
 
 -- ---- the needs
 axis-requires : tie.Need-axis-requires
 axis-requires c κs =
     let s = c .before .before in
     let a = s .args in
-    asked (a .point .x) (a .origin .x) (a .edge) (c .before .struct-told .given .0 .1) (c .struct-told2 .given .0 .1) (s .fits .edge) (good-point s .x) (good-origin s .x) (s .pre .1 .0)
+    asked (a .point .x) (a .origin .x) (a .edge) (c .before .struct-told .given .0 .1) (c .struct-told2 .given .0 .1) (s .fits .edge)
+    (good-point s .x) (good-origin s .x) (s .pre .1 .0)
 
 axis-requires-2 : tie.Need-axis-requires-2
 axis-requires-2 c κs =
     let s = c .before .before .before .before .before in
     let a = s .args in
-    asked (a .point .y) (a .origin .y) (a .edge) (c .before .struct-told3 .given .1 .0 .1) (c .struct-told4 .given .1 .0 .1) (s .fits .edge) (good-point s .y) (good-origin s .y) (s .pre .1 .0)
+    asked (a .point .y) (a .origin .y) (a .edge) (c .before .struct-told3 .given .1 .0 .1) (c .struct-told4 .given .1 .0 .1) (s .fits .edge)
+    (good-point s .y) (good-origin s .y) (s .pre .1 .0)
 
 axis-requires-3 : tie.Need-axis-requires-3
 axis-requires-3 c κs =
     let s = c .before .before .before .before .before .before .before .before in
     let a = s .args in
-    asked (a .point .z) (a .origin .z) (a .edge) (c .before .struct-told5 .given .1 .1 .0 .1) (c .struct-told6 .given .1 .1 .0 .1) (s .fits .edge) (good-point s .z) (good-origin s .z) (s .pre .1 .0)
+    asked (a .point .z) (a .origin .z) (a .edge) (c .before .struct-told5 .given .1 .1 .0 .1) (c .struct-told6 .given .1 .1 .0 .1) (s .fits .edge)
+    (good-point s .z) (good-origin s .z) (s .pre .1 .0)
 
 returns : tie.Need-returns
 unfolding foundOf
 returns c =
     let d = c .before .before in
-    simp (← x-is (d .before .before .before .before .before .before), le-ltb _ _ (c .if1 .taken))
+    simp (← xs d, le-ltb _ _ (c .if1 .taken))
 
 returns-2 : tie.Need-returns-2
 unfolding foundOf
 returns-2 c =
     let d = c .before .before .before .before in
-    simp (← x-is (d .before .before .before .before .before .before), ← y-is (d .before .before .before), lt-ltb _ _ (c .before .before .if1 .left), le-ltb _ _ (c .if2 .taken))
+    simp (← xs d, ← ys d, lt-ltb _ _ (c .before .before .if1 .left), le-ltb _ _ (c .if2 .taken))
 
 returns-3 : tie.Need-returns-3
 unfolding foundOf
 returns-3 c =
     let d = c .before .before .before .before .before .before in
-    simp (← x-is (d .before .before .before .before .before .before), ← y-is (d .before .before .before), ← z-is d, lt-ltb _ _ (c .before .before .before .before .if1 .left), lt-ltb _ _ (c .before .before .if2 .left), le-ltb _ _ (c .if3 .taken))
+    let e = c .before .before in
+    simp (← xs d, ← ys d, ← z-is d, lt-ltb _ _ (e .before .before .if1 .left), lt-ltb _ _ (e .if2 .left), le-ltb _ _ (c .if3 .taken))
 
 number-requires : tie.Need-number-requires
 number-requires c κs =
@@ -101,7 +122,7 @@ unfolding foundOf
 returns-4 c =
     let e = c .before in
     let d = e .before .before .before .before .before .before in
-    simp (← x-is (d .before .before .before .before .before .before), ← y-is (d .before .before .before), ← z-is d, lt-ltb _ _ (e .before .before .before .before .if1 .left), lt-ltb _ _ (e .before .before .if2 .left), lt-ltb _ _ (e .if3 .left))
+    simp (← xs d, ← ys d, ← z-is d, lt-ltb _ _ (e .before .before .before .before .if1 .left), lt-ltb _ _ (e .before .before .if2 .left), lt-ltb _ _ (e .if3 .left))
     (ap Cell (c .number .ensures))
 
 pub found-spec : {M : Type 1} → statement M

@@ -24,21 +24,25 @@ abbrev μ-loop : tie.MeasureT-loop
 in-flags : (c : tie.After-number Inv-loop μ-loop) → c .number .result < length (now (c .before .before .before .before .before .args .flags))
 in-flags c =
     let s = c .before .before .before .before .before in
-    subst (λ (i : ℕ). i < length (now (s .args .flags))) (sym (c .number .ensures)) (below-length (c .before .before .loop .z) (s .pre .0) (c .before .loop-test .taken))
+    subst (λ (i : ℕ). i < length (now (s .args .flags))) (sym (c .number .ensures))
+    (below-length (c .before .before .loop .z) (s .pre .0) (c .before .loop-test .taken))
 
 in-fills : (c : tie.After-number Inv-loop μ-loop) → c .number .result < length (now (c .before .before .before .before .before .args .fills))
 in-fills c =
     let s = c .before .before .before .before .before in
-    subst (λ (i : ℕ). i < length (now (s .args .fills))) (sym (c .number .ensures)) (below-length (c .before .before .loop .z) (s .pre .1 .0) (c .before .loop-test .taken))
+    subst (λ (i : ℕ). i < length (now (s .args .fills))) (sym (c .number .ensures))
+    (below-length (c .before .before .loop .z) (s .pre .1 .0) (c .before .loop-test .taken))
 
 -- what the cell at height z adds to either
 wall-is : (c : tie.After-number Inv-loop μ-loop)
-    → (let a = c .before .before .before .before .before .args in eqb (getD (now (a .flags)) (c .number .result) 0) 3 ≡ isWall (a .s) (now (a .flags)) (a .x) (a .y) (c .before .before .loop .z))
+    → (let a = c .before .before .before .before .before .args in
+    eqb (getD (now (a .flags)) (c .number .result) 0) 3 ≡ isWall (a .s) (now (a .flags)) (a .x) (a .y) (c .before .before .loop .z))
 unfolding isWall
 wall-is c = ap (λ (i : ℕ). eqb (getD (now (c .before .before .before .before .before .args .flags)) i 0) 3) (c .number .ensures)
 
 part-is : (c : tie.After-open-fill Inv-loop μ-loop)
-    → (let a = c .before .before .before .before .before .before .before .before .args in c .open-fill .result ≡ openFill (a .s) (now (a .flags)) (now (a .fills)) (a .x) (a .y) (c .before .before .before .before .before .loop .z))
+    → (let a = c .before .before .before .before .before .before .before .before .args in
+    c .open-fill .result ≡ openFill (a .s) (now (a .flags)) (now (a .fills)) (a .x) (a .y) (c .before .before .before .before .before .loop .z))
 unfolding openFill isWall
 part-is c =
     let a = c .before .before .before .before .before .before .before .before .args in
@@ -49,7 +53,8 @@ part-le c =
     let s = c .before .before .before .before .before .before .before .before in
     let a = s .args in
     subst (λ (n : ℕ). n ≤ 65536) (sym (part-is c))
-    (open-le (a .s) (now (a .flags)) (now (a .fills)) (a .x) (a .y) (c .before .before .before .before .before .loop .z) (s .pre .1 .1) (c .before .before .before .before .loop-test .taken))
+    (open-le (a .s) (now (a .flags)) (now (a .fills)) (a .x) (a .y)
+    (c .before .before .before .before .before .loop .z) (s .pre .1 .1) (c .before .before .before .before .loop-test .taken))
 
 loop-holds : tie.Need-loop-holds Inv-loop μ-loop
 unfolding all total
