@@ -36,3 +36,4 @@ pub mod Readings
 pub mod Owned
 pub mod Settles
 pub mod Poise
+pub mod Leans

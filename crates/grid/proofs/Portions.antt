@@ -25,7 +25,7 @@ sum-pos zero f = refl
 sum-pos (suc n) f = ap (λ (z : ℤ). z +ℤ pos (f n)) (sum-pos n f)
 
 -- a term of a total is no more than it
-term-le : (n : ℕ) (f : ℕ → ℕ) (a : ℕ) → a < n → f a ≤ total n f
+pub term-le : (n : ℕ) (f : ℕ → ℕ) (a : ℕ) → a < n → f a ≤ total n f
 unfolding total
 term-le zero f a h = absurd (not-suc-le-zero h)
 term-le (suc n) f a h = go (eq-or-lt-of-le (le-of-suc-le-suc h)) (λ k. term-le n f a k)

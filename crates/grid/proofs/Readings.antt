@@ -41,6 +41,13 @@ told f e = toZ-ofZ (sfits-of {w = w32} f) ∙ e
 pub told64 : {x z : ℤ} → mag x < 9223372036854775808 → x ≡ z → toZ w64 (ofZ w64 x) ≡ z
 told64 f e = toZ-ofZ (sfits-of {w = w64} f) ∙ e
 
+-- a test against 0 is made on the bits
+pub bits-zero : {z : ℤ} → mag z < 9223372036854775808 → ofZ w64 z ≡ 0 → z ≡ pos 0
+bits-zero {z} f e = sym (toZ-ofZ (sfits-of {w = w64} {z = z} f)) ∙ ap (toZ w64) e
+
+pub zero-bits : {z : ℤ} → z ≡ pos 0 → ofZ w64 z ≡ 0
+zero-bits e = ap (ofZ w64) e
+
 -- a value that is known to be z, within a bound
 abbrev pub held-in : {x z : ℤ} {k : ℕ} → x ≡ z → Within z k → Val x
 held-in {z = z} {k = k} e h = same e (known z k (h .abs))
