@@ -37,3 +37,4 @@ pub mod Owned
 pub mod Settles
 pub mod Poise
 pub mod Leans
+pub mod Sent

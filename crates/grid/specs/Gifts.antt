@@ -14,11 +14,12 @@ use Rattle.lattice.specs.Lattice.{V3, dot, d3q19, density}
 use Rattle.lattice.specs.Cell.{positive, isPositive, share}
 use Rattle.lattice.specs.declared.Settings.{Settings}
 use Rattle.grid.specs.declared.Sides.{Sides}
-use Rattle.grid.specs.Grid.{cellsOf}
+use Rattle.grid.specs.Grid.{cellsOf, sidesGood}
 use Rattle.grid.specs.State.{Lent}
 use Rattle.grid.specs.Step.{tooFast, newFlag}
 use Rattle.grid.specs.Outcome.{sceneOf}
 use Rattle.grid.specs.Between.{Ready, movedMass, settledMark, bornPart}
+use Rattle.grid.specs.Passes.{lowOf, offsetOf}
 use Rattle.grid.specs.Sight.{Around}
 use Rattle.grid.specs.Pasted.{pasted}
 
@@ -144,15 +145,28 @@ pub record Giver (flags fills : List ℕ) (parts masses : List ℤ) (off : List 
 
 -- marked cells can give; cells of new flag 1 can take, are not marked, and each marked neighbour gives towards them
 pub record Giving (flags fills : List ℕ) (parts masses : List ℤ) (marks off : List ℕ) (low : ℕ) : Type 0 where
-  pub few : length flags ≤ 262144
   pub masses-there : length masses ≡ length flags
   pub marks-there : length marks ≡ length flags
   pub giver : (c : ℕ) → c < length flags → (getD marks c 0 ≡ 0 → ⊥) → Giver flags fills parts masses off low c
   pub taker : (c : ℕ) → c < length flags → getD flags c 0 ≡ 1 → Around (length flags) off low c
-  pub taken : (c : ℕ) → c < length flags → getD flags c 0 ≡ 1 → Within (getD masses c (pos 0)) 44826624
   pub apart : (c : ℕ) → c < length flags → getD flags c 0 ≡ 1 → getD marks c 0 ≡ 0
   pub returns : (c i : ℕ) → c < length flags → getD flags c 0 ≡ 1 → Dir 18 i → (getD marks (c - low + getD off i 0) 0 ≡ 0 → ⊥)
-      → (c - low + getD off i 0) - low + getD off (d3q19 .opp i) 0 ≡ c
+      → c - low + getD off i 0 - low + getD off (d3q19 .opp i) 0 ≡ c
+
+-- what the pass that gathers asks: the grid's offsets, and masses of takers in range
+pub record Gathering (s : Sides) (flags fills : List ℕ) (parts masses : List ℤ) (marks : List ℕ) : Type 0 where
+  pub sides : sidesGood s ≡ true
+  pub count : length flags ≡ cellsOf s
+  pub giving : Giving flags fills parts masses marks (tab 19 (offsetOf s)) (lowOf s)
+  pub taken : (c : ℕ) → c < length flags → getD flags c 0 ≡ 1 → Within (getD masses c (pos 0)) 44826624
+
+-- what the pass that works out the carry asks: marked cells are weighed, with flags all round
+pub record Straying (s : Sides) (flags : List ℕ) (parts masses : List ℤ) (marks : List ℕ) : Type 0 where
+  pub sides : sidesGood s ≡ true
+  pub count : length flags ≡ cellsOf s
+  pub marks-there : length marks ≡ length flags
+  pub around : (c : ℕ) → c < length flags → (getD marks c 0 ≡ 0 → ⊥) → Around (length flags) (tab 19 (offsetOf s)) (lowOf s) c
+  pub weighed : (c : ℕ) → c < length flags → (getD marks c 0 ≡ 0 → ⊥) → Weighed parts masses c
 
 -- marked cells have parts that can be added up
 pub record Settling (parts masses : List ℤ) (marks : List ℕ) : Type 0 where

@@ -10,6 +10,7 @@ pub mod leaning;
 pub mod marks;
 pub mod neighbours;
 pub mod settling;
+pub mod straying;
 
 // The sides of a grid, in cells.
 pub struct Sides {
