@@ -45,3 +45,11 @@ pub mod Rules
 pub mod Checks
 pub mod Poise
 pub mod Onward
+pub mod Portions
+pub mod Amounts
+pub mod Given
+pub mod Readings
+pub mod Owned
+pub mod Settles
+pub mod Leans
+pub mod Sent

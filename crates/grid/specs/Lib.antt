@@ -9,6 +9,7 @@ pub mod Passes
 pub mod Between
 pub mod Sight
 pub mod Trade
+pub mod Gifts
 pub mod Pasted
 pub mod Filled
 pub mod Born
