@@ -16,3 +16,4 @@ pub mod Born
 pub mod Sources
 pub mod PutAt
 pub mod Halfway
+pub mod Flowed

@@ -14,6 +14,7 @@ pub mod lengths;
 pub mod marks;
 pub mod moving;
 pub mod neighbours;
+pub mod passing;
 pub mod sets;
 pub mod settling;
 pub mod straying;
