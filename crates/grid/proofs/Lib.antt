@@ -53,3 +53,4 @@ pub mod Owned
 pub mod Settles
 pub mod Leans
 pub mod Sent
+pub mod Walked
