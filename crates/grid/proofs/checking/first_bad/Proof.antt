@@ -36,7 +36,8 @@ good-cell-requires c κs =
 returns : tie.Need-returns Inv-loop μ-loop
 returns c =
     let l = c .before .before .before in
-    bad-cell (c .before .before .before .before .before .before .args .flags .now) (c .before .before .before .before .before .before .args .parts .now) (c .before .before .before .before .before .before .args .masses .now) (c .before .before .before .before .before .before .args .fills .now) _ (l .loop .c) (l .loop .inv .1) (c .before .before .loop-test .taken) (sym (c .before .good-cell .ensures) ∙ not-true _ (c .if1 .taken))
+    let a = c .before .before .before .before .before .before in
+    bad-cell (a .args .flags .now) (a .args .parts .now) (a .args .masses .now) (a .args .fills .now) _ (l .loop .c) (l .loop .inv .1) (c .before .before .loop-test .taken) (sym (c .before .good-cell .ensures) ∙ not-true _ (c .if1 .taken))
 
 add-c : tie.Need-add-c Inv-loop μ-loop
 add-c c = search needs
@@ -58,12 +59,14 @@ add-result c = omega arith
 returns-2 : tie.Need-returns-2 Inv-loop μ-loop
 returns-2 c =
     let l = c .before .before .before in
-    none-bad (c .before .before .before .before .before .before .args .flags .now) (c .before .before .before .before .before .before .args .parts .now) (c .before .before .before .before .before .before .args .masses .now) (c .before .before .before .before .before .before .args .fills .now) _ (l .loop .c) (l .loop .inv .1) (omega (arith, l .loop .inv .0, c .before .before .loop-test .left)) (ap carryGood (sym (toZ-ofZ {w = w64} (c .before .before .before .before .before .before .fits .carry))) ∙ sym (c .before .fair-carry .ensures) ∙ c .if2 .taken)
+    let a = c .before .before .before .before .before .before in
+    none-bad (a .args .flags .now) (a .args .parts .now) (a .args .masses .now) (a .args .fills .now) _ (l .loop .c) (l .loop .inv .1) (omega (arith, l .loop .inv .0, c .before .before .loop-test .left)) (ap carryGood (sym (toZ-ofZ {w = w64} (a .fits .carry))) ∙ sym (c .before .fair-carry .ensures) ∙ c .if2 .taken)
 
 returns-3 : tie.Need-returns-3 Inv-loop μ-loop
 returns-3 c =
     let l = c .before .before .before in
-    bad-carry (c .before .before .before .before .before .before .args .flags .now) (c .before .before .before .before .before .before .args .parts .now) (c .before .before .before .before .before .before .args .masses .now) (c .before .before .before .before .before .before .args .fills .now) _ (l .loop .c) (l .loop .inv .1) (omega (arith, l .loop .inv .0, c .before .before .loop-test .left)) (ap carryGood (sym (toZ-ofZ {w = w64} (c .before .before .before .before .before .before .fits .carry))) ∙ sym (c .before .fair-carry .ensures) ∙ c .if2 .left)
+    let a = c .before .before .before .before .before .before in
+    bad-carry (a .args .flags .now) (a .args .parts .now) (a .args .masses .now) (a .args .fills .now) _ (l .loop .c) (l .loop .inv .1) (omega (arith, l .loop .inv .0, c .before .before .loop-test .left)) (ap carryGood (sym (toZ-ofZ {w = w64} (a .fits .carry))) ∙ sym (c .before .fair-carry .ensures) ∙ c .if2 .left)
 
 pub first-bad-spec : {M : Type 1} → statement M
 first-bad-spec =
