@@ -1,6 +1,6 @@
 -- Test 6's place: the lowest cell that breaks a rule, N for the carry alone, N + 1 if nothing is broken. Assumes nothing.
-use mathlib.Core.Path.{_≡_, refl, sym, ap, ap₂, _∙_}
-use mathlib.Core.Bool.{Bool, true, false, not, cond, _&&_, _||_, false≢true}
+use mathlib.Core.Path.{_≡_, refl, sym, ap, _∙_}
+use mathlib.Core.Bool.{Bool, true, false, not, cond, _&&_, false≢true}
 use mathlib.Core.List.{List, [], _∷_}
 use Prim.Native.Nat.{ℕ, zero, suc, _+_, _*_, _≤_, _<_}
 use native.Mathlib.Decide.{ℕ-discrete}
@@ -78,14 +78,6 @@ module _ (flags : List ℕ) (parts masses : List ℤ) (fills : List ℕ) (carry 
             less j n k f = omega arith
 
 -- ---- one cell
-
--- the code's test of a kind
-pub liquid-is : (f : ℕ) → (eqb f 1 || eqb f 2) ≡ liquid f
-liquid-is zero = refl
-liquid-is (suc zero) = refl
-liquid-is (suc (suc zero)) = refl
-liquid-is (suc (suc (suc m))) =
-    ap₂ (λ (x y : Bool). x || y) (ne-eqb (suc (suc (suc m))) 1 (λ e. absurd (omega arith))) (ne-eqb (suc (suc (suc m))) 2 (λ e. absurd (omega arith)))
 
 -- a number that is 0 by its bits
 zero-bits : (z : ℤ) → SFits w32 z → eqb (ofZ w32 z) 0 ≡ eqZ z (pos 0)

@@ -4,6 +4,7 @@ use crate::Sides;
 use crate::cells;
 use crate::extent;
 use crate::fluid;
+use crate::kinds;
 use crate::layer;
 use crate::lengths;
 use lattice::limits;
@@ -15,17 +16,11 @@ ghost use Prim.Native.Nat.{_<_};
 ghost use lib.ListN.{length};
 ghost use Rattle.lattice.specs.Lattice.{d3q19};
 ghost use Rattle.grid.specs.Grid.{sidesGood, cellsOf, gridOf};
-ghost use Rattle.grid.specs.State.{stateOf, liquid};
+ghost use Rattle.grid.specs.State.{stateOf};
 ghost use Rattle.grid.specs.Good.{cellGood, badRule};
 ghost use Rattle.grid.specs.Outcome.{goodAnswer, checkAnswer};
 ghost use Rattle.grid.specs.Between.{Sized};
 ghost use Rattle.grid.specs.Passes.{carryless};
-
-fn liquid(f: u8) -> bool
-    ensures { λ r. ⌜ r ≡ liquid f ⌝ }
-{
-    (f == 1) | (f == 2)
-}
 
 // Whether cell c keeps test 6's rules.
 fn good_cell(flags: &[u8], parts: &[i32], masses: &[i32], fills: &[u32], c: usize) -> bool
@@ -34,7 +29,7 @@ fn good_cell(flags: &[u8], parts: &[i32], masses: &[i32], fills: &[u32], c: usiz
 {
     let f = flags[c];
     let v = cells::own(parts, c);
-    if liquid(f) {
+    if kinds::is_liquid(f) {
         return rules::good_liquid(f, v, masses[c], fills[c]);
     }
     rules::all_zero(v) & (masses[c] == 0) & (fills[c] == 0)

@@ -19,8 +19,8 @@ shared-slice-read-f c = search needs
 own-requires : tie.Need-own-requires
 own-requires c κs = search needs
 
-liquid-requires : tie.Need-liquid-requires
-liquid-requires c κs = search needs
+is-liquid-requires : tie.Need-is-liquid-requires
+is-liquid-requires c κs = search needs
 
 mul-good-liquid : tie.Need-mul-good-liquid
 mul-good-liquid c = search needs
@@ -42,7 +42,7 @@ returns c =
     let a = c .before .before .before .before .before .before .before .before .before in
     rw (toZ-ofZ {w = w32} (sfits-of {w = w32} (c .before .before .good-liquid-arg .given))) at (c .good-liquid .ensures)
     ∙ wet-cell (a .args .flags .now) (a .args .parts .now) (a .args .masses .now) (a .args .fills .now) (a .args .c) (a .pre .0) _ (c .before .before .before .before .before .own .ensures)
-    (sym (c .before .before .before .before .liquid .ensures) ∙ c .before .before .before .if1 .taken)
+    (sym (c .before .before .before .before .is-liquid .ensures) ∙ c .before .before .before .if1 .taken)
 
 all-zero-requires : tie.Need-all-zero-requires
 all-zero-requires c κs = search needs
@@ -64,7 +64,7 @@ returns-2 c =
     let a = c .before .before .before .before .before .before .before .before .before in
     ap (λ (b : Bool). b && eqb (ofZ w32 (getD (a .args .masses .now) (a .args .c) (pos 0))) 0 && eqb (getD (a .args .fills .now) (a .args .c) 0) 0) (c .before .before .all-zero .ensures)
     ∙ dry-cell (a .args .flags .now) (a .args .parts .now) (a .args .masses .now) (a .args .fills .now) (a .args .c) (a .pre .0) _ (c .before .before .before .before .before .own .ensures)
-    (sym (c .before .before .before .before .liquid .ensures) ∙ c .before .before .before .if1 .left) (sfits-of {w = w32} (c .before .result .given))
+    (sym (c .before .before .before .before .is-liquid .ensures) ∙ c .before .before .before .if1 .left) (sfits-of {w = w32} (c .before .result .given))
 
 pub good-cell-spec : {M : Type 1} → statement M
 good-cell-spec =
@@ -72,7 +72,7 @@ good-cell-spec =
     (tie.spec
     shared-slice-read-f
     own-requires
-    liquid-requires
+    is-liquid-requires
     mul-good-liquid
     shared-slice-copy-out-good-liquid
     mul-good-liquid-2
