@@ -6,6 +6,7 @@ use lattice::collide::collided;
 use lattice::gravity::pulled;
 use lattice::moments::flow_of;
 use lattice::moments::steady;
+use lattice::rules::fair_parts;
 ghost use mathlib.Core.Path.{_≡_};
 ghost use mathlib.Core.Bool.{true};
 ghost use mathlib.Core.List.{List};
@@ -50,7 +51,7 @@ fn put_moved(f: [i32; 19], parts2: &mut [i32], c: usize, g: Settings) -> Put
     paste(parts2, 19 * c, r);
     Put {
         ok: true,
-        fair: true,
+        fair: fair_parts(r),
         rho: v.rho,
     }
 }
