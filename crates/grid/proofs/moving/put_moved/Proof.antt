@@ -69,21 +69,24 @@ mul-paste c = search needs
 paste-requires : tie.Need-paste-requires
 paste-requires c κs = search needs
 
+fair-parts-requires : tie.Need-fair-parts-requires
+fair-parts-requires c κs = search needs
+
 same-length : tie.Need-same-length
 same-length c = search needs
 
 returns-2 : tie.Need-returns-2
 returns-2 c flags parts off low l e =
-    let k = c .before .before .before .before in
+    let k = c .before .before .before .before .before in
     let a = k .before .before .before in
     let s = a .before .before .before in
     let u = a .before .before .flow-of .ensures in
     put-accepted flags parts off low _ _ _ e _ _ (u .0) (u .1) (a .before .pulled .ensures) l (k .collided .result)
     (subst (λ (p : ℤ). k .collided .result ≡ tab 19 (collidedPart d3q19 (a .before .pulled .result .rho) (vec (a .before .pulled .result)) p (partsOf (s .args .f)))) (relaxation (k .before)) (k .collided .ensures .0))
-    _ _ _ (s .pre .2) (c .before .before .paste .ensures) refl
+    _ _ _ (s .pre .2) (c .before .before .before .paste .ensures) refl
     (sym (a .steady .ensures) ∙ not-false _ (k .before .before .if1 .left))
     (toZ-ofZ (record { sfits = c .struct-told2 .given .0 .1 }))
-    ?
+    (c .before .fair-parts .ensures)
 
 pub put-moved-spec : {M : Type 1} → statement M
 put-moved-spec =
@@ -96,5 +99,6 @@ put-moved-spec =
     collided-requires
     mul-paste
     paste-requires
+    fair-parts-requires
     same-length
     returns-2)
