@@ -34,6 +34,7 @@ use Rattle.grid.specs.Halfway.{Moved}
 use Rattle.grid.specs.Pasted.{pasted}
 use Rattle.grid.specs.PutAt.{PutAt}
 use Rattle.grid.specs.Sight.{flowing, noSettings, sight}
+use Rattle.grid.specs.Trade.{markFor}
 use Rattle.grid.proofs.Beside.{Offsets}
 use Rattle.grid.proofs.Blocks.{Blocks, blocks-zero, blocks-more, blocks-all}
 use Rattle.grid.proofs.Onward.{fast-seen, part-seen, mass-seen, mark-seen, collided-seen}
@@ -77,8 +78,8 @@ module _ (flags : List ℕ) (parts masses : List ℤ) (fills off : List ℕ) (lo
     marks-done = upto-zero 0 markOf marks₀;
     marks-left = λ j h. refl;
     fair-tells = λ e j h. absurd (not-suc-le-zero h);
-    still-tells = λ e j h. absurd (not-suc-le-zero h)
-    }
+    still-tells = λ e j h. absurd (not-suc-le-zero h);
+  }
 
   module _ (marks₀ : List ℕ) (parts2 after masses2 : List ℤ) (marks : List ℕ) (fair still : Bool) (c : ℕ) (w : Walked marks₀ parts2 masses2 marks fair still c)
       (o : Put) (put : PutAt seen c parts2 after o) (ok : o .ok ≡ true) where
@@ -116,8 +117,19 @@ module _ (flags : List ℕ) (parts masses : List ℤ) (fills off : List ℕ) (lo
       marks-done = upto-more 0 markOf marks c k hk (w .marks-done) ek;
       marks-left = λ j h. getD-set-other marks c j k 0 (λ e. absurd (omega arith)) ∙ w .marks-left j (omega arith);
       fair-tells = λ e. below-more (λ (j : ℕ). fairOf j ≡ true) c (w .fair-tells (and-left fair (o .fair) e)) (sym fair-is ∙ and-right fair (o .fair) e);
-      still-tells = λ e. below-more (λ (j : ℕ). markOf j ≡ 0) c (w .still-tells (and-left still (eqb k 0) e)) (sym ek ∙ eqb-true k 0 (and-right still (eqb k 0) e))
-      }
+      still-tells = λ e. below-more (λ (j : ℕ). markOf j ≡ 0) c (w .still-tells (and-left still (eqb k 0) e)) (sym ek ∙ eqb-true k 0 (and-right still (eqb k 0) e));
+    }
+
+    -- one turn of the code: the density as it is handed on twice, the mass as it is stored and handed on
+    pub walked-turn : (m stored m′ r r′ : ℤ) (k f : ℕ) → f ≡ getD flags c 3 → 19 * c + 19 ≤ length parts2 → c < length masses2 → c < length marks
+        → m ≡ byFlag (getD flags c 3) r (tradedMass trader c) r r → r ≡ o .rho → stored ≡ m → k ≡ markFor f m′ r′ → m′ ≡ m → r′ ≡ o .rho
+        → Walked marks₀ after (set masses2 c stored) (set marks c k) (fair && o .fair) (still && eqb k 0) (c + 1)
+    unfolding markFor
+    walked-turn m stored m′ r r′ k f ef hp hm hk em er es ek em′ er′ =
+        let e : m ≡ massOf c = mass-is m (em ∙ ap (λ (x : ℤ). byFlag (getD flags c 3) x (tradedMass trader c) x x) er) in
+        walked-more stored k hp hm hk (es ∙ e)
+        (mark-is m k e (ek ∙ ap (λ (x : ℕ). byFlag x 0 (cond (over m′ r′) 1 (cond (under m′ r′) 2 0)) 0 0) ef ∙ ap (λ (x : ℤ). byFlag (getD flags c 3) 0 (cond (over x r′) 1 (cond (under x r′) 2 0)) 0 0) em′
+        ∙ ap (λ (x : ℤ). byFlag (getD flags c 3) 0 (cond (over m x) 1 (cond (under m x) 2 0)) 0 0) er′))
 
 -- ---- to the step's scene
 module _ (s : Sides) (g : Settings) (flags : List ℕ) (parts masses : List ℤ) (fills : List ℕ) (p : Poised s g (uncarried flags parts masses fills))
@@ -165,5 +177,5 @@ module _ (s : Sides) (g : Settings) (flags : List ℕ) (parts masses : List ℤ)
     masses-are = upto-all (pos 0) (movedMass step) masses2 (cellsOf s) lm (λ j h. w .masses-done j h ∙ mass-same j h);
     marks-are = upto-all 0 (firstMark step) marks (cellsOf s) lk (λ j h. w .marks-done j h ∙ mark-same j h);
     fair-tells = λ e c h l. body-is c h l (w .fair-tells e c h);
-    still-tells = λ e c h. sym (mark-same c h) ∙ w .still-tells e c h
-    }
+    still-tells = λ e c h. sym (mark-same c h) ∙ w .still-tells e c h;
+  }

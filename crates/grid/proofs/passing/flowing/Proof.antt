@@ -17,19 +17,20 @@ use Rattle.grid.specs.declared.Sides.{Sides}
 use Rattle.grid.specs.Grid.{cellsOf}
 use Rattle.lattice.specs.Cell.{fillOf}
 use Rattle.grid.specs.State.{byFlag, liquid, stateOf}
-use Rattle.grid.specs.Step.{fillFor, tradedMass}
+use Rattle.grid.specs.Step.{fillFor}
 use Rattle.grid.specs.Between.{Poised, uncarried}
 use Rattle.grid.specs.Flowed.{Flowable, Flowed, Went, stopped, through}
 use Rattle.grid.specs.Passes.{lowOf, offsetOf}
 use Rattle.grid.specs.PutAt.{PutAt, Putting}
 use Rattle.grid.specs.Sight.{Around}
 use Rattle.grid.specs.Sources.{Mirrored, sourceOf}
-use Rattle.grid.specs.Trade.{Traders, markFor}
+use Rattle.grid.specs.Trade.{Traders}
 use Rattle.grid.proofs.Beside.{Offsets}
+use Rattle.grid.proofs.Lists.{getD-there}
 use Rattle.grid.proofs.Marking.{room}
 use Rattle.grid.proofs.Mirrored.{mirrored, around, immersed}
 use Rattle.grid.proofs.Poise.{few, liquid-inner, poised-bodied, poised-mass, poised-fill}
-use Rattle.grid.proofs.Walked.{Walked, trader, massOf, markOf, walked-first, walked-more, walked-stopped, walked-moved, mass-is, mark-is}
+use Rattle.grid.proofs.Walked.{Walked, walked-first, walked-turn, walked-stopped, walked-moved}
 use Rattle.grid.proofs.passing.flowing.Statement.{statement}
 use Rattle.grid.proofs.passing.flowing.Tie as tie
 
@@ -107,8 +108,8 @@ module _ (d : tie.In-loop Inv-loop μ-loop) where
         immersed offs cell (liquid-inner (start .args .s) (start .args .g) _ poise cell is-cell l) (start .args .flags .now)
         (start .pre .marked cell is-cell l (sym (walked .marks-left cell (le-refl cell)) ∙ e));
     settings = poise .settings;
-    size = d .before .loop .inv .1 ∙ start .pre .parts-room ∙ sym (poise .parts)
-    }
+    size = d .before .loop .inv .1 ∙ start .pre .parts-room ∙ sym (poise .parts);
+  }
 
   traders : Traders (start .args .flags .now) (start .args .parts .now) (start .args .mass .now) (start .args .fill .now)
   unfolding stateOf
@@ -116,13 +117,13 @@ module _ (d : tie.In-loop Inv-loop μ-loop) where
     bodies = poised-bodied (start .args .s) (start .args .g) _ poise;
     masses-good = record {
       count = poise .masses ∙ sym (poise .flags);
-      low = λ c h f. poised-mass (start .args .s) (start .args .g) _ poise c (subst (λ (n : ℕ). c < n) (poise .flags) h) f
-      };
+      low = λ c h f. poised-mass (start .args .s) (start .args .g) _ poise c (subst (λ (n : ℕ). c < n) (poise .flags) h) f;
+    };
     fills-good = record {
       count = poise .fills ∙ sym (poise .flags);
-      low = λ c h. fill-most _ _ _ (poised-fill (start .args .s) (start .args .g) _ poise c (subst (λ (n : ℕ). c < n) (poise .flags) h))
-      }
-    }
+      low = λ c h. fill-most _ _ _ (poised-fill (start .args .s) (start .args .g) _ poise c (subst (λ (n : ℕ). c < n) (poise .flags) h));
+    };
+  }
 
 offsets-requires : tie.Need-offsets-requires Inv-loop μ-loop
 offsets-requires c κs = c .before .before .before .pre .poised .sides
@@ -162,10 +163,10 @@ returns c =
     let o = c .before .before .before .put-parts in
     record {
       went = stopped (is-cell d) (walked-stopped (t .args .s) (t .args .g) _ _ _ _ (poise d) (off d) (low d) (offs d) _ _ _ _ _ _ (cell d) (is-cell d) (walked d)
-        (too-fast (o .ensures .ok) (not-true _ (c .if1 .taken))));
+          (too-fast (o .ensures .ok) (not-true _ (c .if1 .taken))));
       parts-kept = o .ensures .kept ∙ d .before .loop .inv .1 ∙ t .pre .parts-room;
       masses-kept = d .before .loop .inv .2 ∙ t .pre .masses-room;
-      marks-kept = d .before .loop .inv .3 ∙ t .pre .marks-room
+      marks-kept = d .before .loop .inv .3 ∙ t .pre .marks-room;
     }
 
 new-mass-requires : tie.Need-new-mass-requires Inv-loop μ-loop
@@ -196,20 +197,23 @@ loop-again : tie.Need-loop-again Inv-loop μ-loop
 loop-again c =
     let d = c .before .before .before .before .before .before .before .before .before .before .before .before .before .before .before in
     let t = d .before .before .before .before .before .before .before .before in
+    let l = d .before .loop in
     let put = c .before .before .before .before .before .before .before .before .before .before .put-parts in
     let gained = c .before .before .before .before .new-mass in
-    let ok = not-false _ (c .before .before .before .before .before .before .before .if1 .left) in
-    let h = is-cell d in
-    let rho = toZ-ofZ {w = w32} (record { sfits = c .before .before .before .before .before .struct-told .given .1 .1 .0 .1 }) in
-    let rho-too = toZ-ofZ {w = w32} (record { sfits = c .before .before .struct-told2 .given .1 .1 .0 .1 }) in
-    let kept = toZ-ofZ {w = w32} (record { sfits = gained .ok }) in
-    let m = mass-is _ _ _ _ _ _ _ _ _ _ _ _ _ _ _ (walked d) _ (put .ensures) ok (gained .result)
-        (gained .ensures ∙ ap (λ (r : ℤ). byFlag (getD (t .args .flags .now) (cell d) 3) r (tradedMass (trader _ _ _ _ (off d) (low d) (t .args .g)) (cell d)) r r) rho) in
-    (omega arith,
-     put .ensures .kept ∙ d .before .loop .inv .1,
-     simp length-set (d .before .loop .inv .2),
-     simp length-set (d .before .loop .inv .3),
-     ?)
+    let mark = c .before .new-mark in
+    let h = is-cell d in (
+      omega arith,
+      put .ensures .kept ∙ l .inv .1,
+      simp length-set (l .inv .2),
+      simp length-set (l .inv .3),
+      walked-turn (t .args .flags .now) (t .args .parts .now) (t .args .mass .now) (t .args .fill .now) (off d) (low d) (t .args .g) (t .args .marks .now)
+          (l .parts2) (put .last .1 .1 .0) (l .mass2) (l .marks) (l .fair) (l .still) (l .c) (walked d) (put .result) (put .ensures) (not-false _ (c .before .before .before .before .before .before .before .if1 .left))
+          (gained .result) _ _ _ _ (mark .result) _ (getD-there (t .args .flags .now) (l .c) 0 3 (d .loop-test .taken))
+          (omega (arith, l .inv .1, t .pre .parts-room)) (omega (arith, l .inv .2, t .pre .masses-room)) (omega (arith, l .inv .3, t .pre .marks-room))
+          (gained .ensures) (toZ-ofZ {w = w32} (record { sfits = c .before .before .before .before .before .struct-told .given .1 .1 .0 .1 }))
+          (toZ-ofZ {w = w32} (record { sfits = gained .ok })) (mark .ensures) (toZ-ofZ {w = w32} (record { sfits = gained .ok }))
+          (toZ-ofZ {w = w32} (record { sfits = c .before .before .struct-told2 .given .1 .1 .0 .1 })),
+    )
 
 same-length-4 : tie.Need-same-length-4 Inv-loop μ-loop
 same-length-4 c = c .before .loop .inv .1
@@ -228,11 +232,13 @@ returns-2 c =
     let o : Offsets (t .args .s) (c .before .before .before .before .offsets .result) (c .before .before .before .low-of .result) = record { table = c .before .before .before .before .offsets .ensures; lowest = c .before .before .before .low-of .ensures } in
     let e : l .c ≡ cellsOf (t .args .s) = omega (arith, p .flags, l .inv .0) in
     record {
-      went = through (walked-moved (t .args .s) (t .args .g) _ _ _ _ p _ _ o _ _ _ _ _ _ (l .inv .1 ∙ t .pre .parts-room) (l .inv .2 ∙ t .pre .masses-room) (l .inv .3 ∙ t .pre .marks-room)
-        (subst (λ (n : ℕ). Walked _ _ _ _ _ _ _ _ _ _ _ _ _ n) e (l .inv .4)));
+      went = through (walked-moved (t .args .s) (t .args .g) (t .args .flags .now) (t .args .parts .now) (t .args .mass .now) (t .args .fill .now) p
+          (c .before .before .before .before .offsets .result) (c .before .before .before .low-of .result) o (t .args .marks .now) (l .parts2) (l .mass2) (l .marks) (l .fair) (l .still)
+          (l .inv .1 ∙ t .pre .parts-room) (l .inv .2 ∙ t .pre .masses-room) (l .inv .3 ∙ t .pre .marks-room)
+          (subst (λ (n : ℕ). Walked (t .args .flags .now) (t .args .parts .now) (t .args .mass .now) (t .args .fill .now) (c .before .before .before .before .offsets .result) (c .before .before .before .low-of .result) (t .args .g) (t .args .marks .now) (l .parts2) (l .mass2) (l .marks) (l .fair) (l .still) n) e (l .inv .4)));
       parts-kept = l .inv .1 ∙ t .pre .parts-room;
       masses-kept = l .inv .2 ∙ t .pre .masses-room;
-      marks-kept = l .inv .3 ∙ t .pre .marks-room
+      marks-kept = l .inv .3 ∙ t .pre .marks-room;
     }
 
 pub flowing-spec : {M : Type 1} → statement M
