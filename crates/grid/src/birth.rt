@@ -10,8 +10,9 @@ use lattice::moments::flow_of;
 use lattice::rules::fair_parts;
 use whole::wide;
 ghost use mathlib.Core.Path.{_≡_};
-ghost use mathlib.Core.Bool.{true};
+ghost use mathlib.Core.Bool.{true, _&&_};
 ghost use Prim.Native.Nat.{_+_, _*_, _<_, _≤_};
+ghost use lib.Dec.{eqb};
 ghost use lib.IntN.{pos, _+ℤ_};
 ghost use lib.ListN.{length, getD};
 ghost use lib.Signed.{_<ℤ_, quotZ};
@@ -19,7 +20,7 @@ ghost use Rattle.whole.specs.Machine.{Within};
 ghost use Rattle.grid.specs.State.{liquid};
 ghost use Rattle.grid.specs.Step.{liquidNear};
 ghost use Rattle.grid.specs.Sight.{Around};
-ghost use Rattle.grid.specs.Born.{Tested, Roomy, NewFlow, Joined, Added, Countable, Meant, Begins, Placed, flowSight};
+ghost use Rattle.grid.specs.Born.{Tested, Roomy, NewFlow, Joined, Added, Countable, Meant, Begins, Placed, Fertile, Visited, newlyBorn, flowSight};
 
 // How many cells, and the sums of their density and momentum.
 pub struct Sum {
@@ -149,4 +150,30 @@ fn put_born(
     let v = equilibrium(mean_flow(flags, parts, off, low, c, g));
     paste(parts2, 19 * c, v);
     fair_parts(v)
+}
+
+fn is_newborn(old: u8, new: u8) -> bool
+    ensures { λ r. ⌜ r ≡ (eqb old 0 && eqb new 1) ⌝ }
+{
+    (old == 0) & (new == 1)
+}
+
+// Cell c's parts, where it was empty and is interface; any other cell is fair as it is.
+fn visit(
+    flags: &[u8],
+    parts: &[i32],
+    flags2: &[u8],
+    parts2: &mut [i32],
+    off: &[usize; 19],
+    low: usize,
+    c: usize,
+    g: Settings,
+) -> bool
+    requires { ⌜ Fertile (now flags) (now parts) (now off) low g (now flags2) × (c < length (now flags)) × (length (now parts2) ≡ 19 * length (now flags)) ⌝ }
+    ensures { λ r. ⌜ Visited (flowSight (now (flags .entry)) (now (parts .entry)) (now (off .entry)) low g) (newlyBorn (now (flags .entry)) (now (flags2 .entry))) c (now (parts2 .entry)) (now (parts2 .exit)) r ⌝ }
+{
+    if is_newborn(flags[c], flags2[c]) {
+        return put_born(flags, parts, parts2, off, low, c, g);
+    }
+    true
 }
