@@ -33,6 +33,7 @@ pub mod Stores
 pub mod Spans
 pub mod Arrivals
 pub mod Mirrored
+pub mod Collisions
 pub mod Moved
 pub mod Quiet
 pub mod Fair
@@ -45,3 +46,11 @@ pub mod Rules
 pub mod Checks
 pub mod Poise
 pub mod Onward
+pub mod Portions
+pub mod Amounts
+pub mod Given
+pub mod Readings
+pub mod Owned
+pub mod Settles
+pub mod Leans
+pub mod Sent

@@ -6,12 +6,18 @@ pub mod copying;
 pub mod extent;
 pub mod filling;
 pub mod fluid;
+pub mod giving;
 pub mod kinds;
 pub mod layer;
+pub mod leaning;
 pub mod lengths;
 pub mod marks;
+pub mod moving;
 pub mod neighbours;
+pub mod passing;
 pub mod sets;
+pub mod settling;
+pub mod straying;
 pub mod streaming;
 pub mod trading;
 

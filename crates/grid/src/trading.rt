@@ -63,7 +63,7 @@ fn traded_mass(
 }
 
 // The mass after stage 2: an interface cell's is traded, any other's is its density, which is 0 where there is no liquid.
-fn new_mass(
+pub(crate) fn new_mass(
     flags: &[u8],
     parts: &[i32],
     mass: &[i32],
@@ -83,7 +83,7 @@ fn new_mass(
 }
 
 // The mark that stage 5 gives a cell of flag f: 1 filled, 2 to be emptied, else 0.
-fn new_mark(f: u8, m: i32, rho: i32) -> u8
+pub(crate) fn new_mark(f: u8, m: i32, rho: i32) -> u8
     ensures { λ r. ⌜ r ≡ markFor f m rho ⌝ }
 {
     if f == 1 {
