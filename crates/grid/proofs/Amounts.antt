@@ -137,16 +137,23 @@ module _ (s : Sides) (g : Settings) (a : Lent) (r : Ready s g a) where
   unfolding d3q19
   difference-in c i h f d l =
       let n : gridOf s .near c i < cellsOf s = near-cell c i h (λ e. omega arith) (omega (arith, d .most)) in
-      omega (arith, abs-sub (stateOf 18 a .part (gridOf s .near c i) (d3q19 .opp i)) (stateOf 18 a .part c i),
+      omega (
+        arith,
+        abs-sub (stateOf 18 a .part (gridOf s .near c i) (d3q19 .opp i)) (stateOf 18 a .part c i),
         ready-body s g a r (gridOf s .near c i) n l .parts (d3q19 .opp i) (paired19 .dir i d .most) .abs,
-        ready-body s g a r c h (ap liquid f) .parts i (d .most) .abs)
+        ready-body s g a r c h (ap liquid f) .parts i (d .most) .abs,
+      )
 
   pub traded-mass-in : (c : ℕ) → c < cellsOf s → flag c ≡ 1 → Within (tradedMass S c) 44826624
   unfolding tradedMass traded difference sceneOf d3q19
   traded-mass-in c h f =
       record {
-        abs = omega (arith, abs-add (S .old .mass c) (dirs 18 (traded S c)), ready-mass s g a r c h f .abs,
-            sum-abs 18 (λ b. traded S c (suc b)) 2359296 (λ b k. each (suc b) (as-dir k)));
+        abs = omega (
+          arith,
+          abs-add (S .old .mass c) (dirs 18 (traded S c)),
+          ready-mass s g a r c h f .abs,
+          sum-abs 18 (λ b. traded S c (suc b)) 2359296 (λ b k. each (suc b) (as-dir k)),
+        );
       }
     where
       each : (i : ℕ) → Dir 18 i → natAbs (traded S c i) ≤ 2359296

@@ -78,8 +78,14 @@ dot-in : (n : V3) → Leaning n → (i : ℕ) → Dir 18 i → natAbs (dot (d3q1
 unfolding d3q19
 dot-in n l i d =
     let e = d3q19 .e i in
-    omega (arith, abs-add (e .x *ℤ n .x +ℤ e .y *ℤ n .y) (e .z *ℤ n .z), abs-add (e .x *ℤ n .x) (e .y *ℤ n .y),
-      small (e .x) (n .x) (paired19 .ex i d .small) (l .x .abs), small (e .y) (n .y) (paired19 .ey i d .small) (l .y .abs), small (e .z) (n .z) (paired19 .ez i d .small) (l .z .abs))
+    omega (
+      arith,
+      abs-add (e .x *ℤ n .x +ℤ e .y *ℤ n .y) (e .z *ℤ n .z),
+      abs-add (e .x *ℤ n .x) (e .y *ℤ n .y),
+      small (e .x) (n .x) (paired19 .ex i d .small) (l .x .abs),
+      small (e .y) (n .y) (paired19 .ey i d .small) (l .y .abs),
+      small (e .z) (n .z) (paired19 .ez i d .small) (l .z .abs),
+    )
 
 positive-in : (z : ℤ) (k : ℕ) → natAbs z ≤ k → natAbs (positive z) ≤ k
 positive-in (pos n) k h = h

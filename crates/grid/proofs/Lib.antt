@@ -28,6 +28,7 @@ pub mod Picked
 pub mod Births
 pub mod Means
 pub mod Newborns
+pub mod Offspring
 pub mod Blocks
 pub mod Stores
 pub mod Spans

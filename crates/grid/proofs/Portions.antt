@@ -115,7 +115,7 @@ module _ (q : ℕ) (x : ℤ) (w u : ℕ → ℤ) (same : (a : ℕ) → a < q →
   share-cong a h i =
       cut-cong a h i
       +ℤ cond (eqb (suc a) (suc (first-cong q 0 (λ b. isPositive (w (suc b))) (λ b. isPositive (u (suc b))) (λ b k. ap isPositive (at b k)) i)))
-          (x -ℤ sum-cong q (λ b. cutShare q x w (suc b)) (λ b. cutShare q x u (suc b)) cut-cong i) (pos 0)
+      (x -ℤ sum-cong q (λ b. cutShare q x w (suc b)) (λ b. cutShare q x u (suc b)) cut-cong i) (pos 0)
     where
       at : (b : ℕ) → b < q → w (suc (0 + b)) ≡ u (suc (0 + b))
       at b k = same (0 + b) (omega arith)

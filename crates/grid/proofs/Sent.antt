@@ -56,9 +56,12 @@ module _ (flags fills : List ℕ) (parts masses : List ℤ) (off : List ℕ) (lo
   gift-in c m zero g d = absurd (omega (arith, d .some))
   gift-in c m (suc a) g d =
       record {
-        abs = omega (arith, excess-in parts masses m c (g .weighed) .abs,
-            share-le 18 (λ b. natAbs (weightAt flags fills off (c - low) m (suc b))) (weightAt flags fills off (c - low) m) (λ b l. weight-counted flags fills off (c - low) m (suc b))
-            (excessAt parts masses m c) a (d .most));
+        abs = omega (
+          arith,
+          excess-in parts masses m c (g .weighed) .abs,
+          share-le 18 (λ b. natAbs (weightAt flags fills off (c - low) m (suc b))) (weightAt flags fills off (c - low) m) (λ b l. weight-counted flags fills off (c - low) m (suc b))
+              (excessAt parts masses m c) a (d .most),
+        );
       }
 
   -- the shares of an array of weights are those of the weights

@@ -55,9 +55,13 @@ loop-again : tie.Need-loop-again Inv-loop μ-loop
 loop-again c =
     let l = c .before .before .before .before in
     let s = l .before .before in
-    let f = byFlags (s .args .flags .now) (s .args .off .now) (s .args .k) in
-    (omega arith, omega arith, simp length-set (l .loop .inv .2), upto-more (pos 0) (ofDir f) (l .loop .w) (l .loop .i) _ (omega (arith, l .loop .inv .2, c .before .before .before .loop-test .taken)) (l .loop .inv .3)
-      (told64 (c .even .ok) (c .even .ensures) ∙ sym (of-dir f (l .loop .i) (omega arith))))
+    let f = byFlags (s .args .flags .now) (s .args .off .now) (s .args .k) in (
+      omega arith,
+      omega arith,
+      simp length-set (l .loop .inv .2),
+      upto-more (pos 0) (ofDir f) (l .loop .w) (l .loop .i) _ (omega (arith, l .loop .inv .2, c .before .before .before .loop-test .taken)) (l .loop .inv .3)
+          (told64 (c .even .ok) (c .even .ensures) ∙ sym (of-dir f (l .loop .i) (omega arith))),
+    )
 
 returns : tie.Need-returns Inv-loop μ-loop
 returns c =

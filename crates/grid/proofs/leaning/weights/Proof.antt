@@ -76,9 +76,13 @@ loop-again c =
     let l = c .before .before .before .before .before in
     let s = l .before .before .before in
     let d = l .before .dots .result in
-    let f = byDots (s .args .flags .now) (s .args .off .now) (s .args .k) d in
-    (omega arith, omega arith, simp length-set (l .loop .inv .2), upto-more (pos 0) (ofDir f) (l .loop .w) (l .loop .i) _ (omega (arith, l .loop .inv .2, c .before .before .before .before .loop-test .taken)) (l .loop .inv .3)
-      (told64 (c .weight .ok) (c .weight .ensures ∙ ap (λ (z : ℤ). cond (eqb (getD (s .args .flags .now) (s .args .k + getD (s .args .off .now) (l .loop .i) 0) 0) 1) (positive z) (pos 0)) (told {x = getD d (l .loop .i) (pos 0)} (c .before .weight-arg2 .given) refl)) ∙ sym (of-dir f (l .loop .i) (omega arith))))
+    let f = byDots (s .args .flags .now) (s .args .off .now) (s .args .k) d in (
+      omega arith,
+      omega arith,
+      simp length-set (l .loop .inv .2),
+      upto-more (pos 0) (ofDir f) (l .loop .w) (l .loop .i) _ (omega (arith, l .loop .inv .2, c .before .before .before .before .loop-test .taken)) (l .loop .inv .3)
+          (told64 (c .weight .ok) (c .weight .ensures ∙ ap (λ (z : ℤ). cond (eqb (getD (s .args .flags .now) (s .args .k + getD (s .args .off .now) (l .loop .i) 0) 0) 1) (positive z) (pos 0)) (told {x = getD d (l .loop .i) (pos 0)} (c .before .weight-arg2 .given) refl)) ∙ sym (of-dir f (l .loop .i) (omega arith))),
+    )
 
 returns : tie.Need-returns Inv-loop μ-loop
 returns c =

@@ -30,9 +30,10 @@ settle-cell-requires : tie.Need-settle-cell-requires Inv-loop μ-loop
 settle-cell-requires c κs =
     let l = c .before .before .before .before .before in
     let s = l .before .before in
-    let h : l .loop .c < length (s .args .marks .now) = omega (arith, l .loop .inv .marks-size, c .before .before .before .before .loop-test .taken) in
-    (parts-still _ _ _ _ _ _ _ (l .loop .inv) h (s .pre .each (l .loop .c) h (λ e. c .before .before .if1 .taken (l .loop .inv .marks-rest (l .loop .c) (omega arith) ∙ e))),
-      omega (arith, l .loop .inv .masses-size, s .pre .masses-there))
+    let h : l .loop .c < length (s .args .marks .now) = omega (arith, l .loop .inv .marks-size, c .before .before .before .before .loop-test .taken) in (
+      parts-still _ _ _ _ _ _ _ (l .loop .inv) h (s .pre .each (l .loop .c) h (λ e. c .before .before .if1 .taken (l .loop .inv .marks-rest (l .loop .c) (omega arith) ∙ e))),
+      omega (arith, l .loop .inv .masses-size, s .pre .masses-there),
+    )
 
 slice-write-marks : tie.Need-slice-write-marks Inv-loop μ-loop
 slice-write-marks c = search needs
