@@ -56,3 +56,4 @@ pub mod Settles
 pub mod Leans
 pub mod Sent
 pub mod Walked
+pub mod Turns
