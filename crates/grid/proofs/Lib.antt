@@ -38,3 +38,4 @@ pub mod Settles
 pub mod Poise
 pub mod Leans
 pub mod Sent
+pub mod Takes
