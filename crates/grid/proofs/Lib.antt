@@ -39,3 +39,4 @@ pub mod Poise
 pub mod Leans
 pub mod Sent
 pub mod Takes
+pub mod Strays
