@@ -20,6 +20,13 @@ pub mod Lists
 pub mod Walls
 pub mod Beside
 pub mod Prepared
+pub mod Held
+pub mod Trades
+pub mod Arrays
+pub mod Weighed
+pub mod Picked
+pub mod Births
+pub mod Means
 pub mod Blocks
 pub mod Stores
 pub mod Spans
@@ -38,3 +45,11 @@ pub mod Rules
 pub mod Checks
 pub mod Poise
 pub mod Onward
+pub mod Portions
+pub mod Amounts
+pub mod Given
+pub mod Readings
+pub mod Owned
+pub mod Settles
+pub mod Leans
+pub mod Sent
