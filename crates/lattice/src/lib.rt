@@ -8,6 +8,7 @@ pub mod fill;
 pub mod gravity;
 pub mod limits;
 pub mod moments;
+pub mod rules;
 pub mod stream;
 
 // The relaxation and the gravity of a step, as document 01's settings have them.

@@ -1,2 +1,6 @@
 pub mod Numbers
 pub mod Gathered
+pub mod Assembled
+pub mod Answers
+pub mod Shaped
+pub mod Flags

@@ -86,31 +86,38 @@ whole r number from n size rest =
     (orRefuse (eqb (u32At r from) n) 11 number
     (orRefuse (leb (from + 4 + size * n) (length r)) 10 from rest))
 
--- test 2: the reader's set lacks the flags
-unfoldable pub slicesGood : ℕ → Lent → Bool
-slicesGood n a = eqb (length (a .parts)) (19 * n) && eqb (length (a .masses)) n && eqb (length (a .fills)) n && eqb (length (a .carry)) 1
+-- test 2, by the lengths of parts, masses, fills and carry: the reader's set lacks the flags
+unfoldable pub slicesFit : ℕ → ℕ → ℕ → ℕ → ℕ → Bool
+slicesFit n parts masses fills carry = eqb parts (19 * n) && eqb masses n && eqb fills n && eqb carry 1
 
--- after section 1 test 1 and 2, after section 5 test 4; left-over bytes after section 7, then 3, 5, 6
-unfoldable pub readAnswer : List ℕ → Lent → Answer
-readAnswer r a =
+-- the sections, after section 1 test 1 and 2, after section 5 test 4, and left-over bytes after section 7
+unfoldable pub shapeAnswer : List ℕ → ℕ → ℕ → ℕ → ℕ → Answer → Answer
+shapeAnswer r parts masses fills carry rest =
     let n = cellsIn r in
     let i = interfacesIn r in
     let l = liquidsIn r in
-    let G = gridOf (sidesIn r) in
     whole r 1 0 3 4
     (orRefuse (sidesGood (sidesIn r)) 1 0
-    (orRefuse (slicesGood n a) 2 0
+    (orRefuse (slicesFit n parts masses fills carry) 2 0
     (whole r 2 16 5 4
     (whole r 3 40 3 8
     (whole r 4 68 1 8
     (whole r 5 80 n 1
-    (ifNone n 4 (badFlag G (flagIn r))
+    (ifNone n 4 (badFlag (gridOf (sidesIn r)) (flagIn r))
     (whole r 6 (massesFrom n) i 4
     (whole r 7 (partsFrom n i) (19 * l) 4
-    (orRefuse (leb (length r) (lengthOf n i l)) 10 (lengthOf n i l)
-    (orRefuse (siteGood (settingsIn r) (siteIn r)) 3 0
-    (ifNone n 5 (badFluid 18 G (flagIn r))
-    (ifNone (suc n) 6 (badRule d3q19 n (stateIn r)) Done)))))))))))))
+    (orRefuse (leb (length r) (lengthOf n i l)) 10 (lengthOf n i l) rest))))))))))
+
+-- then 3, 5, 6
+unfoldable pub contentAnswer : List ℕ → Answer
+contentAnswer r =
+    let n = cellsIn r in
+    orRefuse (siteGood (settingsIn r) (siteIn r)) 3 0
+    (ifNone n 5 (badFluid 18 (gridOf (sidesIn r)) (flagIn r))
+    (ifNone (suc n) 6 (badRule d3q19 n (stateIn r)) Done))
+
+unfoldable pub readAnswer : List ℕ → Lent → Answer
+readAnswer r a = shapeAnswer r (length (a .parts)) (length (a .masses)) (length (a .fills)) (length (a .carry)) (contentAnswer r)
 
 -- ---- the outcome
 
@@ -143,5 +150,5 @@ readSet r a = cond (accepted (readAnswer r a)) (lentOf 18 (cellsIn r) (stateIn r
 
 -- names every definition of this file: whoever unfolds this computes with all of them
 unfoldable pub open-reading : Unit {0}
-unfolding sidesIn settingsIn siteIn carryIn cellsIn flagsIn flagIn interfacesIn liquidsIn massAt partAt partIn massIn stateIn whole slicesGood readAnswer readHead flagsFrom readFlags readSet
+unfolding sidesIn settingsIn siteIn carryIn cellsIn flagsIn flagIn interfacesIn liquidsIn massAt partAt partIn massIn stateIn whole slicesFit shapeAnswer contentAnswer readAnswer readHead flagsFrom readFlags readSet
 open-reading = tt

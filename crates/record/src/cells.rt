@@ -50,3 +50,18 @@ pub fn record_length(flags: &[u8]) -> usize
 {
     92 + flags.len() + 4 * interface_cells(flags) + 76 * liquid_cells(flags)
 }
+
+// Sections 5 to 7, from byte 80 on.
+pub fn put_cells(room: &mut [u8], flags: &[u8], parts: &[i32], masses: &[i32])
+    requires { ⌜ lengthOf (length (now flags)) (interfaces (length (now flags)) (flagOf (now flags))) (liquids (length (now flags)) (flagOf (now flags))) ≤ length (now room) ⌝ }
+    requires { ⌜ length (now flags) ≤ 262144 ⌝ }
+    requires { ⌜ length (now parts) ≡ 19 * length (now flags) ⌝ }
+    requires { ⌜ length (now masses) ≡ length (now flags) ⌝ }
+    ensures { λ _. ⌜ now (room .exit) ≡ sets (now (room .entry)) 80 (cellsBytes (length (now (flags .entry))) (now (flags .entry)) (λ c. getD (now (masses .entry)) c (pos 0)) (λ c k. getD (now (parts .entry)) (19 * c + k) (pos 0))) ⌝ }
+{
+    let n = flags.len();
+    let at = 88 + n + 4 * interface_cells(flags);
+    put_flag_section(room, 80, flags);
+    put_mass_section(room, 84 + n, flags, masses);
+    put_part_section(room, at, flags, parts);
+}

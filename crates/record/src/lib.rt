@@ -2,8 +2,12 @@
 mod cells;
 mod count;
 mod front;
+mod given;
 mod number;
 mod put;
+mod section;
+mod shape;
+pub mod writer;
 
 use grid::Answer;
 use grid::Sides;

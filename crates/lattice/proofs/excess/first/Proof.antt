@@ -13,7 +13,7 @@ use Rattle.whole.specs.Order.{ltZ-true, ltZ-false}
 use Rattle.whole.specs.Tests.{lt-test}
 use Rattle.lattice.specs.Cell.{isPositive}
 use Rattle.lattice.specs.Body.{partsOf}
-use Rattle.lattice.proofs.Weighing.{is-positive-yes, is-positive-no, lowest-is, lowest-none}
+use Rattle.lattice.proofs.Weights.{is-positive-yes, is-positive-no, lowest-is, lowest-none}
 use Rattle.lattice.proofs.excess.first.Statement.{statement}
 use Rattle.lattice.proofs.excess.first.Tie as tie
 

@@ -12,7 +12,7 @@ use Rattle.whole.specs.Machine.{Val, Within, same, v64, within-by, does-fit, re
 use Rattle.lattice.specs.Cell.{cutShare, remainder, lowestDir, share}
 use Rattle.lattice.specs.Body.{partsOf, Weights}
 use Rattle.lattice.proofs.Reading.{reading, inside}
-use Rattle.lattice.proofs.Weighing.{total-in}
+use Rattle.lattice.proofs.Weights.{total-in}
 use borrow.Author.Needs.{needs}
 use Rattle.lattice.proofs.excess.given.Statement.{statement}
 use Rattle.lattice.proofs.excess.given.Tie as tie

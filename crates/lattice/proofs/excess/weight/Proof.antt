@@ -8,7 +8,7 @@ use Rattle.whole.specs.Order.{ltZ-true, ltZ-false}
 use Rattle.whole.specs.Machine.{Val, machine, any, same, reads-as}
 use Rattle.whole.specs.Tests.{lt-test}
 use Rattle.lattice.proofs.Reading.{whole32}
-use Rattle.lattice.proofs.Weighing.{positive-yes, positive-no}
+use Rattle.lattice.proofs.Weights.{positive-yes, positive-no}
 use borrow.Author.Needs.{needs}
 use Rattle.lattice.proofs.excess.weight.Statement.{statement}
 use Rattle.lattice.proofs.excess.weight.Tie as tie

@@ -11,36 +11,25 @@ use Rattle.record.specs.Layout.{interfaces, massBytes}
 use Rattle.record.proofs.Gathered.{interfaces-most, section-put}
 use Rattle.record.proofs.cells.put_mass_section.Statement.{statement}
 use Rattle.record.proofs.cells.put_mass_section.Tie as tie
-use Rattle.record.proofs.cells.put_mass_section.Reads as reads
-use Rattle.record.proofs.cells.put_mass_section.Lts as lts
-use Rattle.record.proofs.count.interface_cells.Reads as interface-cells-reads
-use Rattle.record.proofs.front.put_count.Reads as put-count-reads
-use Rattle.record.proofs.put.put_masses.Reads as put-masses-reads
 
--- src/cells.rt:32:25
 interface-cells-requires : tie.Need-interface-cells-requires
 interface-cells-requires c κs = search needs
 
--- src/cells.rt:32:5
 put-count-requires : tie.Need-put-count-requires
 put-count-requires c κs =
     let d = c .before .before .before .before in
     let s = now (d .args .flags) in
     (omega (arith, d .pre .0), omega (arith, d .pre .1, c .interface-cells .ensures, interfaces-most (length s) (flagOf s)))
 
--- src/cells.rt:33:22
 add-put-masses : tie.Need-add-put-masses
 add-put-masses c = search needs
 
--- src/cells.rt:33:5
 put-masses-requires : tie.Need-put-masses-requires
 put-masses-requires c κs = search needs
 
--- src/cells.rt:26:1
 same-length : tie.Need-same-length
 same-length c = search needs
 
--- src/cells.rt:26:1
 returns : tie.Need-returns
 returns c =
     let a = c .before .before .before .before .before .before .before .before .before .before .before .args in

@@ -11,40 +11,28 @@ use Rattle.record.specs.Layout.{liquids, partBytes}
 use Rattle.record.proofs.Gathered.{liquids-most, section-put}
 use Rattle.record.proofs.cells.put_part_section.Statement.{statement}
 use Rattle.record.proofs.cells.put_part_section.Tie as tie
-use Rattle.record.proofs.cells.put_part_section.Reads as reads
-use Rattle.record.proofs.cells.put_part_section.Lts as lts
-use Rattle.record.proofs.count.liquid_cells.Reads as liquid-cells-reads
-use Rattle.record.proofs.front.put_count.Reads as put-count-reads
-use Rattle.record.proofs.put.put_parts.Reads as put-parts-reads
 
--- src/cells.rt:42:30
 liquid-cells-requires : tie.Need-liquid-cells-requires
 liquid-cells-requires c κs = search needs
 
--- src/cells.rt:42:25
 mul-put-count : tie.Need-mul-put-count
 mul-put-count c = search needs
 
--- src/cells.rt:42:5
 put-count-requires : tie.Need-put-count-requires
 put-count-requires c κs =
     let d = c .before .before .before .before in
     let s = now (d .args .flags) in
     (omega (arith, d .pre .0), omega (arith, d .pre .1, c .liquid-cells .ensures, liquids-most (length s) (flagOf s)))
 
--- src/cells.rt:43:21
 add-put-parts : tie.Need-add-put-parts
 add-put-parts c = search needs
 
--- src/cells.rt:43:5
 put-parts-requires : tie.Need-put-parts-requires
 put-parts-requires c κs = search needs
 
--- src/cells.rt:36:1
 same-length : tie.Need-same-length
 same-length c = search needs
 
--- src/cells.rt:36:1
 returns : tie.Need-returns
 returns c =
     let a = c .before .before .before .before .before .before .before .before .before .before .before .args in

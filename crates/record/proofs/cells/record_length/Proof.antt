@@ -7,36 +7,25 @@ use Rattle.grid.specs.Passes.{flagOf}
 use Rattle.record.proofs.Gathered.{interfaces-most, liquids-most}
 use Rattle.record.proofs.cells.record_length.Statement.{statement}
 use Rattle.record.proofs.cells.record_length.Tie as tie
-use Rattle.record.proofs.cells.record_length.Reads as reads
-use Rattle.record.proofs.cells.record_length.Lts as lts
-use Rattle.record.proofs.count.interface_cells.Reads as interface-cells-reads
-use Rattle.record.proofs.count.liquid_cells.Reads as liquid-cells-reads
 
--- src/cells.rt:51:5
 add-result : tie.Need-add-result
 add-result c = search needs
 
--- src/cells.rt:51:28
 interface-cells-requires : tie.Need-interface-cells-requires
 interface-cells-requires c κs = search needs
 
--- src/cells.rt:51:24
 mul-result : tie.Need-mul-result
 mul-result c = record { fits = omega (arith, c .before .before .pre, c .interface-cells .ensures, interfaces-most (length (now (c .before .before .args .flags))) (flagOf (now (c .before .before .args .flags)))) }
 
--- src/cells.rt:51:5
 add-result-2 : tie.Need-add-result-2
 add-result-2 c = record { fits = omega (arith, c .before .before .pre, c .interface-cells .ensures, interfaces-most (length (now (c .before .before .args .flags))) (flagOf (now (c .before .before .args .flags)))) }
 
--- src/cells.rt:51:58
 liquid-cells-requires : tie.Need-liquid-cells-requires
 liquid-cells-requires c κs = search needs
 
--- src/cells.rt:51:53
 mul-result-2 : tie.Need-mul-result-2
 mul-result-2 c = record { fits = omega (arith, c .before .before .before .pre, c .liquid-cells .ensures, liquids-most (length (now (c .before .before .before .args .flags))) (flagOf (now (c .before .before .before .args .flags)))) }
 
--- src/cells.rt:51:5
 add-result-3 : tie.Need-add-result-3
 add-result-3 c =
     let d = c .before .before .before in
@@ -45,7 +34,6 @@ add-result-3 c =
       fits = omega (arith, d .pre, c .before .interface-cells .ensures, c .liquid-cells .ensures, interfaces-most (length s) (flagOf s), liquids-most (length s) (flagOf s));
     }
 
--- src/cells.rt:47:1
 returns : tie.Need-returns
 returns c = search needs
 

@@ -10,24 +10,16 @@ use Rattle.record.specs.Bytes.{bytesOf, join, i64Of, u32Of}
 use Rattle.record.proofs.Numbers.{then-put}
 use Rattle.record.proofs.front.put_carry.Statement.{statement}
 use Rattle.record.proofs.front.put_carry.Tie as tie
-use Rattle.record.proofs.front.put_carry.Reads as reads
-use Rattle.record.proofs.front.put_carry.Lts as lts
-use Rattle.record.proofs.front.put_count.Reads as put-count-reads
-use Rattle.record.proofs.number.put_i64.Reads as put-i64-reads
 
--- src/front.rt:74:5
 put-count-requires : tie.Need-put-count-requires
 put-count-requires c κs = search needs
 
--- src/front.rt:75:5
 put-i64-requires : tie.Need-put-i64-requires
 put-i64-requires c κs = search needs
 
--- src/front.rt:70:1
 same-length : tie.Need-same-length
 same-length c = search needs
 
--- src/front.rt:70:1
 returns : tie.Need-returns
 unfolding bytesOf join
 returns c =

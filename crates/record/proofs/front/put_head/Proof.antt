@@ -12,34 +12,22 @@ use Rattle.record.specs.Layout.{headBytes, section}
 use Rattle.record.proofs.Numbers.{then-put}
 use Rattle.record.proofs.front.put_head.Statement.{statement}
 use Rattle.record.proofs.front.put_head.Tie as tie
-use Rattle.record.proofs.front.put_head.Reads as reads
-use Rattle.record.proofs.front.put_head.Lts as lts
-use Rattle.record.proofs.front.put_carry.Reads as put-carry-reads
-use Rattle.record.proofs.front.put_origin.Reads as put-origin-reads
-use Rattle.record.proofs.front.put_settings.Reads as put-settings-reads
-use Rattle.record.proofs.front.put_sides.Reads as put-sides-reads
 
--- src/front.rt:85:5
 put-sides-requires : tie.Need-put-sides-requires
 put-sides-requires c κs = search needs
 
--- src/front.rt:86:5
 put-settings-requires : tie.Need-put-settings-requires
 put-settings-requires c κs = search needs
 
--- src/front.rt:87:5
 put-origin-requires : tie.Need-put-origin-requires
 put-origin-requires c κs = search needs
 
--- src/front.rt:88:5
 put-carry-requires : tie.Need-put-carry-requires
 put-carry-requires c κs = search needs
 
--- src/front.rt:79:1
 same-length : tie.Need-same-length
 same-length c = search needs
 
--- src/front.rt:79:1
 returns : tie.Need-returns
 unfolding bytesOf join headBytes
 returns c =

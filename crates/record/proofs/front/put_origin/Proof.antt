@@ -8,32 +8,22 @@ use Rattle.record.specs.Bytes.{bytesOf, join, u32Of, i64Of}
 use Rattle.record.proofs.Numbers.{then-signed}
 use Rattle.record.proofs.front.put_origin.Statement.{statement}
 use Rattle.record.proofs.front.put_origin.Tie as tie
-use Rattle.record.proofs.front.put_origin.Reads as reads
-use Rattle.record.proofs.front.put_origin.Lts as lts
-use Rattle.record.proofs.front.put_count.Reads as put-count-reads
-use Rattle.record.proofs.number.put_i64.Reads as put-i64-reads
 
--- src/front.rt:64:5
 put-count-requires : tie.Need-put-count-requires
 put-count-requires c κs = search needs
 
--- src/front.rt:65:5
 put-i64-requires : tie.Need-put-i64-requires
 put-i64-requires c κs = search needs
 
--- src/front.rt:66:5
 put-i64-requires-2 : tie.Need-put-i64-requires-2
 put-i64-requires-2 c κs = search needs
 
--- src/front.rt:67:5
 put-i64-requires-3 : tie.Need-put-i64-requires-3
 put-i64-requires-3 c κs = search needs
 
--- src/front.rt:60:1
 same-length : tie.Need-same-length
 same-length c = search needs
 
--- src/front.rt:60:1
 returns : tie.Need-returns
 unfolding bytesOf join
 returns c =

@@ -10,23 +10,16 @@ use Rattle.whole.specs.Machine.{machine, w64-in, does-fit, reads-as}
 use Rattle.record.specs.Bytes.{i32Of}
 use Rattle.record.proofs.front.put_setting.Statement.{statement}
 use Rattle.record.proofs.front.put_setting.Tie as tie
-use Rattle.record.proofs.front.put_setting.Reads as reads
-use Rattle.record.proofs.front.put_setting.Lts as lts
-use Rattle.record.proofs.number.put_i32.Reads as put-i32-reads
 
--- src/front.rt:33:23
 cast-put-i32 : tie.Need-cast-put-i32
 cast-put-i32 c = does-fit (search (machine, w64-in) depth 30 fits 5000) tt
 
--- src/front.rt:33:5
 put-i32-requires : tie.Need-put-i32-requires
 put-i32-requires c κs = search needs
 
--- src/front.rt:28:1
 same-length : tie.Need-same-length
 same-length c = search needs
 
--- src/front.rt:28:1
 returns : tie.Need-returns
 returns c =
     let d = c .before .before .before .before .before in

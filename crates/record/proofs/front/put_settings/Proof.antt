@@ -12,32 +12,22 @@ use Rattle.record.specs.Bytes.{bytesOf, join, u32Of, i32Of}
 use Rattle.record.proofs.Numbers.{then-signed}
 use Rattle.record.proofs.front.put_settings.Statement.{statement}
 use Rattle.record.proofs.front.put_settings.Tie as tie
-use Rattle.record.proofs.front.put_settings.Reads as reads
-use Rattle.record.proofs.front.put_settings.Lts as lts
-use Rattle.record.proofs.front.put_count.Reads as put-count-reads
-use Rattle.record.proofs.front.put_setting.Reads as put-setting-reads
 
--- src/front.rt:52:5
 put-count-requires : tie.Need-put-count-requires
 put-count-requires c κs = search needs
 
--- src/front.rt:53:5
 put-setting-requires : tie.Need-put-setting-requires
 put-setting-requires c κs = search needs
 
--- src/front.rt:54:5
 put-setting-requires-2 : tie.Need-put-setting-requires-2
 put-setting-requires-2 c κs = search needs
 
--- src/front.rt:55:5
 put-setting-requires-3 : tie.Need-put-setting-requires-3
 put-setting-requires-3 c κs = search needs
 
--- src/front.rt:56:5
 put-setting-requires-4 : tie.Need-put-setting-requires-4
 put-setting-requires-4 c κs = search needs
 
--- src/front.rt:57:5
 put-setting-requires-5 : tie.Need-put-setting-requires-5
 put-setting-requires-5 c κs =
     let d = c .before .before .before .before .before .before .before .before .before .before .before .before .before .before .before .before .before .before .before .before .before .before .before .before .before .before .before in (
@@ -53,11 +43,9 @@ put-setting-requires-5 c κs =
       subst (λ (z : ℤ). Within z 2147483647) (sym (toZ-ofZ w64 (d .args .t .edge) (record { sfits = c .struct-told5 .given .0 .1 }))) (d .pre .1 .edge),
     )
 
--- src/front.rt:47:1
 same-length : tie.Need-same-length
 same-length c = search needs
 
--- src/front.rt:47:1
 returns : tie.Need-returns
 unfolding bytesOf join
 returns c =

@@ -9,31 +9,22 @@ use Rattle.record.specs.Bytes.{bytesOf, join, u32Of}
 use Rattle.record.proofs.Numbers.{then-put}
 use Rattle.record.proofs.front.put_sides.Statement.{statement}
 use Rattle.record.proofs.front.put_sides.Tie as tie
-use Rattle.record.proofs.front.put_sides.Reads as reads
-use Rattle.record.proofs.front.put_sides.Lts as lts
-use Rattle.record.proofs.front.put_count.Reads as put-count-reads
 
--- src/front.rt:41:5
 put-count-requires : tie.Need-put-count-requires
 put-count-requires c κs = search needs
 
--- src/front.rt:42:5
 put-count-requires-2 : tie.Need-put-count-requires-2
 put-count-requires-2 c κs = let d = c .before .before .before .before .before .before in (search needs, omega (arith, good-sides (d .args .s) (d .pre .1) .x .high))
 
--- src/front.rt:43:5
 put-count-requires-3 : tie.Need-put-count-requires-3
 put-count-requires-3 c κs = let d = c .before .before .before .before .before .before .before .before .before .before in (search needs, omega (arith, good-sides (d .args .s) (d .pre .1) .y .high))
 
--- src/front.rt:44:5
 put-count-requires-4 : tie.Need-put-count-requires-4
 put-count-requires-4 c κs = let d = c .before .before .before .before .before .before .before .before .before .before .before .before .before .before in (search needs, omega (arith, good-sides (d .args .s) (d .pre .1) .z .high))
 
--- src/front.rt:36:1
 same-length : tie.Need-same-length
 same-length c = search needs
 
--- src/front.rt:36:1
 returns : tie.Need-returns
 unfolding bytesOf join
 returns c =

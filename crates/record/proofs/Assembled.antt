@@ -1,0 +1,85 @@
+-- The length of a record is 92 + N + 4I + 76L, and sections written one after the other are the record. Assumes nothing.
+use mathlib.Core.Path.{_≡_, refl, sym, ap, ap₂, _∙_, subst}
+use mathlib.Core.List.{List, [], _∷_, _++_, append-assoc, append-nil}
+use Prim.Native.Nat.{ℕ, zero, suc, _+_, _*_, _≤_, _<_}
+use native.Mathlib.Omega.{arith}
+use lib.IntN.{ℤ}
+use lib.ListN.{length, drop, length-append}
+use lib.Seq.{sets, sets-eq}
+use Rattle.lattice.specs.declared.Settings.{Settings}
+use Rattle.grid.specs.declared.Sides.{Sides}
+use Rattle.grid.specs.Grid.{cellsOf}
+use Rattle.grid.specs.State.{Lent, stateOf}
+use Rattle.grid.specs.Passes.{flagOf}
+use Rattle.record.specs.declared.Site.{Site}
+use Rattle.record.specs.Bytes.{bytesOf, join, u32Of}
+use Rattle.record.specs.Layout.{section, interfaces, liquids, massBytes, partBytes, lengthOf, headBytes, cellsBytes, recordOf, recordLength}
+use Rattle.record.proofs.Numbers.{length-bytesOf, then-put}
+use Rattle.record.proofs.Gathered.{length-masses, length-parts}
+
+-- the claim
+abbrev pub Length : Type 0
+Length = (s : Sides) (g : Settings) (t : Site) (a : Lent) → length (a .flags) ≡ cellsOf s → length (recordOf s g t a) ≡ recordLength s a
+
+-- ---- a section, and the three that go by cell number
+pub length-section : (n : ℕ) (x : List ℕ) → length (section n (x ∷ [])) ≡ 4 + length x
+unfolding join
+length-section n x =
+    length-append (u32Of n) (x ++ []) ∙ ap₂ (λ (i j : ℕ). i + j) (length-bytesOf 4 n) (ap length (append-nil x))
+
+pub length-cells : (n : ℕ) (flags : List ℕ) (mass : ℕ → ℤ) (part : ℕ → ℕ → ℤ) → length flags ≡ n
+    → 80 + length (cellsBytes n flags mass part) ≡ lengthOf n (interfaces n (flagOf flags)) (liquids n (flagOf flags))
+unfolding cellsBytes join
+length-cells n flags mass part e =
+    let f = flagOf flags in
+    let five = section n (flags ∷ []) in
+    let six = section (interfaces n f) (massBytes n f mass ∷ []) in
+    let seven = section (19 * liquids n f) (partBytes n f part ∷ []) in
+    omega (
+      arith,
+      length-append five (six ++ (seven ++ [])),
+      length-append six (seven ++ []),
+      length-append seven [],
+      length-section n flags,
+      length-section (interfaces n f) (massBytes n f mass),
+      length-section (19 * liquids n f) (partBytes n f part),
+      length-masses n f mass,
+      length-parts n f part,
+    )
+
+pub length-head : (s : Sides) (g : Settings) (t : Site) (carry : ℤ) → length (headBytes s g t carry) ≡ 80
+unfolding headBytes join bytesOf
+length-head s g t carry = refl
+
+pub length-record : Length
+unfolding recordOf recordLength stateOf
+length-record s g t a e =
+    let h = stateOf 18 a in
+    length-append (headBytes s g t (h .carry)) (cellsBytes (cellsOf s) (a .flags) (h .mass) (h .part))
+    ∙ ap (λ (i : ℕ). i + length (cellsBytes (cellsOf s) (a .flags) (h .mass) (h .part))) (length-head s g t (h .carry))
+    ∙ length-cells (cellsOf s) (a .flags) (h .mass) (h .part) e
+
+-- ---- what the writer's calls leave, one after the other
+pub cells-put : (l flags : List ℕ) (mass : ℕ → ℤ) (part : ℕ → ℕ → ℤ) (n at : ℕ) {r q o : List ℕ} → length flags ≡ n
+    → at ≡ 88 + n + 4 * interfaces n (flagOf flags)
+    → r ≡ sets l 80 (section n (flags ∷ []))
+    → q ≡ sets r (84 + n) (section (interfaces n (flagOf flags)) (massBytes n (flagOf flags) mass ∷ []))
+    → o ≡ sets q at (section (19 * liquids n (flagOf flags)) (partBytes n (flagOf flags) part ∷ []))
+    → o ≡ sets l 80 (cellsBytes n flags mass part)
+unfolding cellsBytes join
+cells-put l flags mass part n at e h x y z =
+    let f = flagOf flags in
+    let five = section n (flags ∷ []) in
+    let six = section (interfaces n f) (massBytes n f mass ∷ []) in
+    let seven = section (19 * liquids n f) (partBytes n f part ∷ []) in
+    then-put l 80 at (five ++ six) seven
+    (then-put l 80 (84 + n) five six x y (omega (arith, length-section n flags)))
+    z
+    (omega (arith, length-append five six, length-section n flags, length-section (interfaces n f) (massBytes n f mass), length-masses n f mass))
+    ∙ ap (sets l 80) (append-assoc five six seven ∙ ap (λ (t : List ℕ). five ++ (six ++ t)) (sym (append-nil seven)))
+
+-- written from the front, the record stands before what the room held past it
+pub front-put : (l x : List ℕ) → length x ≤ length l → sets l 0 x ≡ x ++ drop (length x) l
+front-put l x h =
+    let z : 0 + length x ≡ length x = omega arith in
+    sets-eq x l 0 (omega arith) ∙ ap (λ (k : ℕ). x ++ drop k l) z

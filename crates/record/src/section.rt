@@ -1,0 +1,82 @@
+// The reader's tests of a section, and of the sections in a row.
+use crate::number::u32_at;
+use grid::Answer;
+ghost use mathlib.Core.Path.{_≡_};
+ghost use Prim.Native.Nat.{_≤_};
+ghost use Rattle.grid.specs.Outcome.{accepted, orRefuse};
+ghost use Rattle.grid.specs.declared.Answer.the-variants.{Done};
+ghost use Rattle.record.specs.Layout.{massesFrom, partsFrom, lengthOf};
+ghost use lib.Dec.{leb};
+ghost use lib.ListN.{length};
+ghost use Prim.Native.Nat.{_*_};
+ghost use Rattle.record.specs.Reading.{whole};
+
+pub fn passed(a: Answer) -> bool
+    ensures { λ r. ⌜ r ≡ accepted a ⌝ }
+{
+    match a {
+        Answer::Done => true,
+        Answer::Refused(_, _) => false,
+    }
+}
+
+// A section of n numbers, from its count on.
+pub fn section(rec: &[u8], number: usize, from: usize, n: usize, size: usize) -> Answer
+    requires { ⌜ from ≤ 4294967296 ⌝ }
+    requires { ⌜ n ≤ 4294967296 ⌝ }
+    requires { ⌜ size ≤ 8 ⌝ }
+    ensures { λ r. ⌜ r ≡ whole (now (rec .entry)) number from n size Done ⌝ }
+{
+    if rec.len() < from + 4 {
+        return Answer::Refused(10, from);
+    }
+    if u32_at(rec, from) as usize != n {
+        return Answer::Refused(11, number);
+    }
+    if rec.len() < from + 4 + size * n {
+        return Answer::Refused(10, from);
+    }
+    Answer::Done
+}
+
+// Sections 2 to 5: settings, origin, carry and flags.
+pub fn front_sections(rec: &[u8], n: usize) -> Answer
+    requires { ⌜ n ≤ 262144 ⌝ }
+    ensures { λ r. ⌜ r ≡ whole (now (rec .entry)) 2 16 5 4 (whole (now (rec .entry)) 3 40 3 8 (whole (now (rec .entry)) 4 68 1 8 (whole (now (rec .entry)) 5 80 n 1 Done))) ⌝ }
+{
+    let settings = section(rec, 2, 16, 5, 4);
+    if !passed(settings) {
+        return settings;
+    }
+    let origin = section(rec, 3, 40, 3, 8);
+    if !passed(origin) {
+        return origin;
+    }
+    let carry = section(rec, 4, 68, 1, 8);
+    if !passed(carry) {
+        return carry;
+    }
+    section(rec, 5, 80, n, 1)
+}
+
+// Sections 6 and 7, masses and parts, and that nothing follows.
+pub fn cell_sections(rec: &[u8], n: usize, i: usize, l: usize) -> Answer
+    requires { ⌜ n ≤ 262144 ⌝ }
+    requires { ⌜ i ≤ 262144 ⌝ }
+    requires { ⌜ l ≤ 262144 ⌝ }
+    ensures { λ r. ⌜ r ≡ whole (now (rec .entry)) 6 (massesFrom n) i 4 (whole (now (rec .entry)) 7 (partsFrom n i) (19 * l) 4 (orRefuse (leb (length (now (rec .entry))) (lengthOf n i l)) 10 (lengthOf n i l) Done)) ⌝ }
+{
+    let masses = section(rec, 6, 84 + n, i, 4);
+    if !passed(masses) {
+        return masses;
+    }
+    let parts = section(rec, 7, 88 + n + 4 * i, 19 * l, 4);
+    if !passed(parts) {
+        return parts;
+    }
+    let end = 92 + n + 4 * i + 76 * l;
+    if rec.len() > end {
+        return Answer::Refused(10, end);
+    }
+    Answer::Done
+}
