@@ -23,7 +23,7 @@ use Rattle.grid.specs.Grid.{cellsOf, gridOf, box}
 use Rattle.grid.specs.State.{Lent, Scene, byFlag, liquid, stateOf}
 use Rattle.grid.specs.Step.{flagAt, tradedMass, newDensity, collided, filled, emptied, besideFilled, newFlag, seen, normal, target, anyTarget, lean, leanWeight, shareWeight, excess, converted, gift, toCarry, received, newCarry}
 use Rattle.grid.specs.Outcome.{sceneOf}
-use Rattle.grid.specs.Between.{Ready, movedMass, settledMark, bornPart, gatheredMass}
+use Rattle.grid.specs.Between.{movedMass, settledMark, bornPart, gatheredMass}
 use Rattle.grid.specs.Passes.{Inner}
 use Rattle.grid.specs.Gifts.{fillAt, normalAt, back, leaningAt, targetAt, leanWeightAt, evenAt, weightAt, densityAt, excessAt, giftAt, giftFrom, receivedAt, gatheredAt, lostAt, strayAt, Midway}
 use Rattle.grid.proofs.Amounts.{taker-unmarked, marked-interface, outer-not, inner-cell, near-cell, seen-fill}
@@ -134,7 +134,7 @@ module _ {s : Sides} {g : Settings} {a : Lent} {flags fills : List ℕ} {parts m
     fill-seen i h =
         ap (λ (j : ℕ). pos (getD fills j 0)) (place-is o c n i h)
         ∙ ap (λ (l : List ℕ). pos (getD l (gridOf s .near c i) 0)) (w .fills-are)
-        ∙ sym (seen-fill s g a (w .ready) (gridOf s .near c i) (near-low i h))
+        ∙ sym (seen-fill s g a (w .poised) (gridOf s .near c i) (near-low i h))
 
     normal-is : normalAt fills off (c - low) ≡ normal S c
     unfolding normalAt normal sceneOf d3q19
@@ -198,7 +198,7 @@ module _ {s : Sides} {g : Settings} {a : Lent} {flags fills : List ℕ} {parts m
     unfolding giftAt
     given-is b zero h t d = absurd (omega (arith, d .some))
     given-is b (suc j) h t d =
-        let n : Inner s b = inner-cell s g a (w .ready) b h (λ f. omega (arith, converted-interface b t)) in
+        let n : Inner s b = inner-cell s g a (w .poised) b h (λ f. omega (arith, converted-interface b t)) in
         ap (λ (x : ℤ). share 18 x (weightAt flags fills off (b - low) (getD marks b 0)) (suc j)) (excess-is b h t)
         ∙ share-cong 18 (excess S b) (weightAt flags fills off (b - low) (getD marks b 0)) (shareWeight S b) (λ i l. weight-is o b n h (suc i) (omega arith)) j (d .most)
 
@@ -219,7 +219,7 @@ module _ {s : Sides} {g : Settings} {a : Lent} {flags fills : List ℕ} {parts m
 
     pub there-back : (c i : ℕ) → c < cellsOf s → newFlag S c ≡ 1 → Dir 18 i → gridOf s .near (gridOf s .near c i) (d3q19 .opp i) ≡ c
     unfolding d3q19 gridOf box cellsOf
-    there-back c i h e d = grid-laid s .back c i h (outer-not s g a (w .ready) c h (taker-inner c e)) d
+    there-back c i h e d = grid-laid s .back c i h (outer-not s g a (w .poised) c h (taker-inner c e)) d
 
     comes-back : (c i : ℕ) → c < cellsOf s → newFlag S c ≡ 1 → Dir 18 i → target S (gridOf s .near c i) (d3q19 .opp i) ≡ true
     unfolding target sceneOf
@@ -232,7 +232,7 @@ module _ {s : Sides} {g : Settings} {a : Lent} {flags fills : List ℕ} {parts m
         (λ b. gift S (gridOf s .near c (suc b)) (d3q19 .opp (suc b))) (λ b k. one (suc b) (as-dir k))
       where
         n : Inner s c
-        n = inner-cell s g a (w .ready) c h (taker-inner c e)
+        n = inner-cell s g a (w .poised) c h (taker-inner c e)
 
         one : (i : ℕ) → Dir 18 i → giftFrom flags fills parts masses marks off low (c - low + getD off i 0) (d3q19 .opp i) ≡ gift S (gridOf s .near c i) (d3q19 .opp i)
         one i d =
@@ -259,7 +259,7 @@ module _ {s : Sides} {g : Settings} {a : Lent} {flags fills : List ℕ} {parts m
         by : (b : Bool) → converted S c ≡ b
             → cond (not b) (pos 0) (cond (anyDir 18 (targetAt flags off (c - low))) (pos 0) (excessAt parts masses (getD marks c 0) c)) ≡ cond (b && not (anyTarget S c)) (excess S c) (pos 0)
         by true t =
-            let n : Inner s c = inner-cell s g a (w .ready) c h (λ f. omega (arith, converted-interface c t)) in
+            let n : Inner s c = inner-cell s g a (w .poised) c h (λ f. omega (arith, converted-interface c t)) in
             ap₂ (λ (x : Bool) (y : ℤ). cond x (pos 0) y) (any-target-is o c n) (excess-is c h t) ∙ stray-cases true (anyTarget S c) (excess S c) (excess S c) (λ e. refl)
         by false t = refl
 

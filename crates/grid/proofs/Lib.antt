@@ -55,3 +55,4 @@ pub mod Leans
 pub mod Sent
 pub mod Takes
 pub mod Strays
+pub mod Impacts

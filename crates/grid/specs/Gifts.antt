@@ -18,7 +18,7 @@ use Rattle.grid.specs.Grid.{cellsOf, sidesGood}
 use Rattle.grid.specs.State.{Lent}
 use Rattle.grid.specs.Step.{tooFast, newFlag}
 use Rattle.grid.specs.Outcome.{sceneOf}
-use Rattle.grid.specs.Between.{Ready, movedMass, settledMark, bornPart}
+use Rattle.grid.specs.Between.{Poised, movedMass, settledMark, bornPart}
 use Rattle.grid.specs.Passes.{lowOf, offsetOf}
 use Rattle.grid.specs.Sight.{Around}
 use Rattle.grid.specs.Pasted.{pasted}
@@ -188,7 +188,7 @@ pub record Settled (parts masses : List ℤ) (marks : List ℕ) (parts′ masses
 
 -- ---- where stage 6 begins: from a good state that passed test 7, with flags, newborn parts, masses and settled marks in their places
 pub record Midway (s : Sides) (g : Settings) (a : Lent) (flags fills : List ℕ) (parts masses : List ℤ) (marks : List ℕ) : Type 0 where
-  pub ready : Ready s g a
+  pub poised : Poised s g a
   pub steady : cellsOf s ≤ first (cellsOf s) (tooFast (sceneOf s g a))
   pub fills-are : fills ≡ a .fills
   pub flags-are : flags ≡ tab (cellsOf s) (newFlag (sceneOf s g a))
