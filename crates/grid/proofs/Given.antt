@@ -99,15 +99,15 @@ module _ {s : Sides} {g : Settings} {a : Lent} {flags fills : List ℕ} {parts m
   part-is c k h l = rw (w .parts-are) (part-at 18 (cellsOf s) c k h l (bornPart S))
 
   -- ---- marks
-  filled-is : (c : ℕ) → c < cellsOf s → eqb (getD marks c 0) 1 ≡ filled S c
+  pub filled-is : (c : ℕ) → c < cellsOf s → eqb (getD marks c 0) 1 ≡ filled S c
   unfolding settledMark
   filled-is c h = ap (λ (m : ℕ). eqb m 1) (mark-is c h) ∙ mark-filled (filled S c) (emptied S c)
 
-  none-is : (c : ℕ) → c < cellsOf s → eqb (getD marks c 0) 0 ≡ not (converted S c)
+  pub none-is : (c : ℕ) → c < cellsOf s → eqb (getD marks c 0) 0 ≡ not (converted S c)
   unfolding settledMark
   none-is c h = ap (λ (m : ℕ). eqb m 0) (mark-is c h) ∙ mark-none (filled S c) (emptied S c)
 
-  converted-interface : (c : ℕ) → converted S c ≡ true → stateOf 18 a .flag c ≡ 1
+  pub converted-interface : (c : ℕ) → converted S c ≡ true → stateOf 18 a .flag c ≡ 1
   unfolding settledMark sceneOf
   converted-interface c h = marked-interface S c (λ e. marked (filled S c) (emptied S c) h e)
     where
@@ -115,6 +115,13 @@ module _ {s : Sides} {g : Settings} {a : Lent} {flags fills : List ℕ} {parts m
       marked true em h e = omega arith
       marked false true h e = omega arith
       marked false false h e = false≢true h
+
+  pub marked-converted : (c : ℕ) → c < cellsOf s → (getD marks c 0 ≡ 0 → ⊥) → converted S c ≡ true
+  marked-converted c h n = go (converted S c) refl
+    where
+      go : (b : Bool) → converted S c ≡ b → converted S c ≡ true
+      go true e = e
+      go false e = absurd (n (eqb-true (getD marks c 0) 0 (none-is c h ∙ ap not e)))
 
   -- ---- a cell that is inner
   module _ {off : List ℕ} {low : ℕ} (o : Offsets s off low) (c : ℕ) (n : Inner s c) where
@@ -166,11 +173,11 @@ module _ {s : Sides} {g : Settings} {a : Lent} {flags fills : List ℕ} {parts m
 
   -- ---- a converted cell's density, mass and excess
   module _ (c : ℕ) (h : c < cellsOf s) (t : converted S c ≡ true) where
-    born-is : (k : ℕ) → bornPart S c k ≡ collided S c k
+    pub born-is : (k : ℕ) → bornPart S c k ≡ collided S c k
     unfolding bornPart sceneOf
     born-is k = rw (converted-interface c t) refl
 
-    density-is : densityAt parts c ≡ newDensity S c
+    pub density-is : densityAt parts c ≡ newDensity S c
     unfolding densityAt sceneOf d3q19
     density-is = density-same d3q19 (λ k. getD parts (19 * c + k) (pos 0)) (collided S c) (λ k l. part-is c k h l ∙ born-is k) ∙ density-collided S c
 
@@ -209,7 +216,7 @@ module _ {s : Sides} {g : Settings} {a : Lent} {flags fills : List ℕ} {parts m
         ∙ given-cases (converted S b) (anyTarget S b) (giftAt flags fills parts masses off low b (getD marks b 0) k) (share 18 (excess S b) (shareWeight S b) k)
         (some-target b k d e) (λ t. given-is b k h t d)
 
-    taker-inner : (c : ℕ) → newFlag S c ≡ 1 → stateOf 18 a .flag c ≡ 3 → ⊥
+    pub taker-inner : (c : ℕ) → newFlag S c ≡ 1 → stateOf 18 a .flag c ≡ 3 → ⊥
     unfolding sceneOf
     taker-inner c e f = absurd (omega (arith, wall-stays S c f))
 

@@ -56,3 +56,4 @@ pub mod Sent
 pub mod Takes
 pub mod Strays
 pub mod Impacts
+pub mod Handed

@@ -1,0 +1,184 @@
+-- From where stage 6 begins: what its passes ask holds, and what they leave is the step's. Assumes nothing.
+use mathlib.Core.Path.{_≡_, refl, sym, ap, ap₂, _∙_, subst}
+use mathlib.Core.Bool.{Bool, true, false, _&&_, _||_, not, cond, false≢true}
+use mathlib.Core.List.{List, [], _∷_}
+use Prim.Native.Nat.{ℕ, zero, suc, _+_, _-_, _*_, _/_, _%_, _≤_, _<_}
+use native.Mathlib.Decide.{decLt}
+use native.Mathlib.Nat.{add-zero, mod-lt, div-add-mod, le-of-suc-le-suc, not-suc-le-zero}
+use native.Mathlib.Omega.{arith}
+use lib.IntN.{ℤ, pos, negℤ, natAbs, _+ℤ_, _-ℤ_, _*ℤ_, +ℤ-idr}
+use lib.Signed.{_≤ℤ_, _<ℤ_, ltZ}
+use lib.Dec.{eqb}
+use lib.ListN.{length, getD, replicate}
+use borrow.Author.Tests.{eq-eqb, eqb-true}
+use Rattle.whole.specs.Bools.{cond-yes, cond-no, and-left, and-right}
+use Rattle.whole.specs.Fold.{dirs, tab}
+use Rattle.whole.specs.Machine.{Within}
+use Rattle.whole.specs.Order.{ltZ-true, of<, leZ-true}
+use Rattle.whole.specs.Parts.{≤-parts}
+use Rattle.whole.specs.Ring.{quotes}
+use Rattle.whole.specs.Search.{Dir}
+use Rattle.whole.specs.Tab.{length-tab, getD-tab, tab-cong}
+use Rattle.lattice.specs.Lattice.{d3q19}
+use Rattle.lattice.specs.Cell.{over, under, dense}
+use Rattle.lattice.specs.declared.Settings.{Settings}
+use Rattle.lattice.proofs.Paired.{paired19}
+use Rattle.grid.specs.declared.Sides.{Sides}
+use Rattle.grid.specs.Grid.{cellsOf, sidesGood, gridOf}
+use Rattle.grid.specs.State.{Lent, Scene, byFlag, liquid, stateOf}
+use Rattle.grid.specs.Step.{tradedMass, newDensity, collided, born, filled, emptied, besideFilled, besideEmptied, newFlag, flagAfter, converted, received, baseMass, newMass, newPart}
+use Rattle.grid.specs.Outcome.{sceneOf}
+use Rattle.grid.specs.Between.{movedMass, bornPart, gatheredMass}
+use Rattle.grid.specs.Passes.{Inner, lowOf, offsetOf}
+use Rattle.grid.specs.Sight.{Around}
+use Rattle.grid.specs.Gifts.{densityAt, settledMass, settledPart, Filled, Parts, Weighed, Giver, Giving, Gathering, Straying, Settling, Settled, Midway}
+use Rattle.grid.proofs.Amounts.{taker-unmarked, inner-cell, fill-in, moved-mass-in, new-density-in, new-dense}
+use Rattle.grid.proofs.Beside.{Offsets, above, place-is, place-low}
+use Rattle.grid.proofs.Given.{flag-is, mark-is, mass-is, part-is, none-is, filled-is, converted-interface, marked-converted, born-is, density-is, taker-inner, there-back}
+use Rattle.grid.proofs.GoodSides.{good-sides}
+use Rattle.grid.proofs.Impacts.{collided-rest, collided-at}
+use Rattle.grid.proofs.Offsets.{near-below}
+
+-- past its end a list has nothing
+getD-past : (xs : List ℕ) (j d : ℕ) → length xs ≤ j → getD xs j d ≡ d
+getD-past [] j d h = refl
+getD-past (x ∷ xs) zero d h = absurd (not-suc-le-zero h)
+getD-past (x ∷ xs) (suc j) d h = getD-past xs j d (le-of-suc-le-suc h)
+
+few : (s : Sides) → sidesGood s ≡ true → cellsOf s ≤ 262144
+unfolding cellsOf
+few s h = good-sides s h .all
+
+opp-low : (i : ℕ) → Dir 18 i → d3q19 .opp i < 19
+unfolding d3q19
+opp-low i d = omega (arith, paired19 .dir i d .most)
+
+-- the grid's offsets
+pub grid-offsets : (s : Sides) → Offsets s (tab 19 (offsetOf s)) (lowOf s)
+grid-offsets s = record { table = refl; lowest = refl }
+
+module _ {s : Sides} {g : Settings} {a : Lent} {flags fills : List ℕ} {parts masses : List ℤ} {marks : List ℕ} (w : Midway s g a flags fills parts masses marks) where
+  abbrev S : Scene
+  S = sceneOf s g a
+
+  o : Offsets s (tab 19 (offsetOf s)) (lowOf s)
+  o = grid-offsets s
+
+  -- ---- lengths
+  flags-count : length flags ≡ cellsOf s
+  flags-count = ap length (w .flags-are) ∙ length-tab (cellsOf s) _
+
+  marks-count : length marks ≡ cellsOf s
+  marks-count = ap length (w .marks-are) ∙ length-tab (cellsOf s) _
+
+  masses-count : length masses ≡ cellsOf s
+  masses-count = ap length (w .masses-are) ∙ length-tab (cellsOf s) _
+
+  parts-count : length parts ≡ 19 * cellsOf s
+  parts-count = ap length (w .parts-are) ∙ length-tab (19 * cellsOf s) _
+
+  cell : {c : ℕ} → c < length flags → c < cellsOf s
+  cell {c} h = subst (λ (n : ℕ). c < n) flags-count h
+
+  -- ---- cells that convert and cells that take are inner
+  around : (c : ℕ) → Inner s c → c < cellsOf s → Around (length flags) (tab 19 (offsetOf s)) (lowOf s) c
+  around c n h =
+      subst (λ (m : ℕ). Around m (tab 19 (offsetOf s)) (lowOf s) c) (sym flags-count) (record { is-cell = h; from = above o c n; each = place-low o c n })
+
+  giver-inner : (c : ℕ) → c < cellsOf s → (getD marks c 0 ≡ 0 → ⊥) → Inner s c
+  giver-inner c h m = inner-cell s g a (w .poised) c h (λ f. omega (arith, converted-interface w c (marked-converted w c h m)))
+
+  taker-cell : (c : ℕ) → c < cellsOf s → getD flags c 0 ≡ 1 → Inner s c
+  taker-cell c h f = inner-cell s g a (w .poised) c h (taker-inner w o c (sym (flag-is w c h) ∙ f))
+
+  -- ---- a marked cell's amounts
+  module _ (c : ℕ) (h : c < cellsOf s) (m : getD marks c 0 ≡ 0 → ⊥) where
+    t : converted S c ≡ true
+    t = marked-converted w c h m
+
+    wet : liquid (stateOf 18 a .flag c) ≡ true
+    wet = ap liquid (converted-interface w c t)
+
+    part-kept : (k : ℕ) → k ≤ 18 → getD parts (19 * c + k) (pos 0) ≡ collided S c k
+    part-kept k l = part-is w c k h l ∙ born-is w c h t k
+
+    parts-of : Parts parts c
+    parts-of = record {
+      there = omega (arith, parts-count);
+      rest = subst (λ (z : ℤ). Within z 1073741824) (sym (ap (λ (j : ℕ). getD parts j (pos 0)) (sym (add-zero (19 * c))) ∙ part-kept 0 (omega arith)))
+          (collided-rest s g a (w .poised) (w .steady) c h wet);
+      at = λ k z l. subst (λ (x : ℤ). Within x 33554432) (sym (part-kept k (omega arith))) (collided-at s g a (w .poised) (w .steady) c h wet k z l);
+    }
+
+    weighed-of : Weighed parts masses c
+    weighed-of = record {
+      there = omega (arith, masses-count);
+      parts-in = parts-of;
+      mass-in = subst (λ (z : ℤ). Within z 44826624) (sym (mass-is w c h)) (moved-mass-in s g a (w .poised) (w .steady) c h);
+      density-in = subst (λ (z : ℤ). Within z 1179648) (sym (density-is w c h t)) (new-density-in s g a (w .poised) (w .steady) c h wet);
+    }
+
+  filled-in : (j : ℕ) → j < cellsOf s → getD (a .fills) j 0 ≤ 65536
+  unfolding stateOf
+  filled-in j h = fill-in s g a (w .poised) j h
+
+  fills-of : Filled fills
+  fills-of j = go (decLt j (cellsOf s))
+    where
+      same : getD fills j 0 ≡ getD (a .fills) j 0
+      same = ap (λ (l : List ℕ). getD l j 0) (w .fills-are)
+
+      go : Dec (j < cellsOf s) → getD fills j 0 ≤ 65536
+      go (yes h) = omega (arith, same, filled-in j h)
+      go (no n) = omega (arith, same, getD-past (a .fills) j 0 (omega (arith, w .poised .fills)))
+
+  -- ---- what the passes ask
+  -- there and back again
+  returning : (c i : ℕ) → c < cellsOf s → getD flags c 0 ≡ 1 → Dir 18 i → (getD marks (c - lowOf s + getD (tab 19 (offsetOf s)) i 0) 0 ≡ 0 → ⊥)
+      → c - lowOf s + getD (tab 19 (offsetOf s)) i 0 - lowOf s + getD (tab 19 (offsetOf s)) (d3q19 .opp i) 0 ≡ c
+  returning c i h f d m =
+      let l : i < 19 = omega (arith, d .most) in
+      let p = place-is o c (taker-cell c h f) i l in
+      let b = gridOf s .near c i in
+      let n : Inner s b = giver-inner b (near-below s i l c (taker-cell c h f)) (λ e. m (ap (λ (j : ℕ). getD marks j 0) p ∙ e)) in
+      ap (λ (j : ℕ). j - lowOf s + getD (tab 19 (offsetOf s)) (d3q19 .opp i) 0) p
+      ∙ place-is o b n (d3q19 .opp i) (opp-low i d)
+      ∙ there-back w o c i h (sym (flag-is w c h) ∙ f) d
+
+  pub gathering : Gathering s flags fills parts masses marks
+  gathering = record {
+    sides = w .poised .sides;
+    count = flags-count;
+    giving = record {
+      masses-there = masses-count ∙ sym flags-count;
+      marks-there = marks-count ∙ sym flags-count;
+      giver = λ c h m. record {
+        around = around c (giver-inner c (cell h) m) (cell h);
+        fills-there = ap length (w .fills-are) ∙ w .poised .fills ∙ sym flags-count;
+        fills-in = fills-of;
+        weighed = weighed-of c (cell h) m;
+      };
+      taker = λ c h f. around c (taker-cell c (cell h) f) (cell h);
+      apart = λ c h f. mark-is w c (cell h) ∙ taker-unmarked S c (sym (flag-is w c (cell h)) ∙ f);
+      returns = λ c i h f d m. returning c i (cell h) f d m;
+    };
+    taken = λ c h f. subst (λ (z : ℤ). Within z 44826624) (sym (mass-is w c (cell h))) (moved-mass-in s g a (w .poised) (w .steady) c (cell h));
+  }
+
+  pub straying : Straying s flags parts masses marks
+  straying = record {
+    sides = w .poised .sides;
+    count = flags-count;
+    marks-there = marks-count ∙ sym flags-count;
+    around = λ c h m. around c (giver-inner c (cell h) m) (cell h);
+    weighed = λ c h m. weighed-of c (cell h) m;
+  }
+
+  -- after the gifts are gathered
+  pub settling : (masses′ : List ℤ) → length masses′ ≡ cellsOf s → Settling parts masses′ marks
+  settling masses′ e = record {
+    few = subst (λ (n : ℕ). n ≤ 262144) (sym marks-count) (few s (w .poised .sides));
+    parts-there = parts-count ∙ ap (λ (n : ℕ). 19 * n) (sym marks-count);
+    masses-there = e ∙ sym marks-count;
+    each = λ c h m. parts-of c (subst (λ (n : ℕ). c < n) marks-count h) m;
+  }
