@@ -7,7 +7,7 @@ use native.Mathlib.Decide.{decLt}
 use native.Mathlib.Nat.{add-zero, mod-lt, div-add-mod, le-of-suc-le-suc, not-suc-le-zero}
 use native.Mathlib.Omega.{arith}
 use lib.IntN.{ℤ, pos, negℤ, natAbs, _+ℤ_, _-ℤ_, _*ℤ_, +ℤ-idr}
-use lib.Signed.{_≤ℤ_, _<ℤ_, ltZ}
+use lib.Signed.{_≤ℤ_, leZ}
 use lib.Dec.{eqb}
 use lib.ListN.{length, getD, replicate}
 use borrow.Author.Tests.{eq-eqb, eqb-true}
@@ -15,7 +15,7 @@ use Rattle.whole.specs.Bools.{cond-yes, cond-no, and-left, and-right}
 use Rattle.whole.specs.Fold.{dirs, tab}
 use Rattle.whole.specs.Machine.{Within}
 use Rattle.whole.specs.Order.{ltZ-true, of<, leZ-true}
-use Rattle.whole.specs.Parts.{≤-parts}
+use Rattle.whole.specs.Parts.{≤-parts, parts-≤}
 use Rattle.whole.specs.Ring.{quotes}
 use Rattle.whole.specs.Search.{Dir}
 use Rattle.whole.specs.Tab.{length-tab, getD-tab, tab-cong}
@@ -45,6 +45,10 @@ getD-past [] j d h = refl
 getD-past (x ∷ xs) zero d h = absurd (not-suc-le-zero h)
 getD-past (x ∷ xs) (suc j) d h = getD-past xs j d (le-of-suc-le-suc h)
 
+dense-up : (ρ : ℤ) → dense ρ ≡ true → pos 0 ≤ℤ ρ
+unfolding dense
+dense-up ρ e = parts-≤ (omega (arith, ≤-parts (leZ-true {a = pos 294912} {b = ρ} (and-left (leZ (pos 294912) ρ) (leZ ρ (pos 1179648)) e))))
+
 few : (s : Sides) → sidesGood s ≡ true → cellsOf s ≤ 262144
 unfolding cellsOf
 few s h = good-sides s h .all
@@ -56,6 +60,65 @@ opp-low i d = omega (arith, paired19 .dir i d .most)
 -- the grid's offsets
 pub grid-offsets : (s : Sides) → Offsets s (tab 19 (offsetOf s)) (lowOf s)
 grid-offsets s = record { table = refl; lowest = refl }
+
+-- ---- by cases on flags and tests alone
+
+-- conversion takes the excess out of the mass
+mass-cases : (f : ℕ) (ov un bf be : Bool) (m ρ x : ℤ)
+    → cond (not (byFlag f false ov false false || byFlag f false un false false))
+    (byFlag f (pos 0) m ρ (pos 0) +ℤ cond (eqb (flagAfter f bf (byFlag f false ov false false) (byFlag f false un false false) be) 1) x (pos 0))
+    (cond (byFlag f false ov false false) ρ (pos 0))
+    ≡ byFlag f (pos 0) (cond (byFlag f false ov false false) ρ (cond (byFlag f false un false false) (pos 0) m)) ρ (pos 0)
+    +ℤ cond (eqb (flagAfter f bf (byFlag f false ov false false) (byFlag f false un false false) be) 1) x (pos 0)
+mass-cases zero ov un bf be m ρ x = refl
+mass-cases (suc zero) true un bf be m ρ x = sym (+ℤ-idr ρ)
+mass-cases (suc zero) false true bf be m ρ x = refl
+mass-cases (suc zero) false false bf be m ρ x = refl
+mass-cases (suc (suc zero)) ov un bf be m ρ x = refl
+mass-cases (suc (suc (suc n))) ov un bf be m ρ x = refl
+
+-- only an emptied cell loses its parts
+part-cases : (f : ℕ) (ov un : Bool) (b x : ℤ) → (byFlag f false ov false false ≡ true → byFlag f false un false false ≡ false)
+    → cond (not (byFlag f false ov false false || byFlag f false un false false)) (byFlag f b x x (pos 0)) (cond (byFlag f false ov false false) (byFlag f b x x (pos 0)) (pos 0))
+    ≡ byFlag f b (cond (byFlag f false un false false) (pos 0) x) x (pos 0)
+part-cases zero ov un b x h = refl
+part-cases (suc zero) true true b x h = absurd (false≢true (sym (h refl)))
+part-cases (suc zero) true false b x h = refl
+part-cases (suc zero) false true b x h = refl
+part-cases (suc zero) false false b x h = refl
+part-cases (suc (suc zero)) ov un b x h = refl
+part-cases (suc (suc (suc n))) ov un b x h = refl
+
+-- a mass above a density that is not negative is not below its negative
+never-both : (m ρ : ℤ) → pos 0 ≤ℤ ρ → over m ρ ≡ true → under m ρ ≡ true → ⊥
+unfolding over under
+never-both m ρ h p q =
+    omega (arith, ≤-parts h,
+      of< (m ∷ ρ ∷ []) (search quotes depth 20) (search quotes depth 20) (ltZ-true {a = pos 1001 *ℤ ρ} {b = pos 1000 *ℤ m} p),
+      of< (m ∷ ρ ∷ []) (search quotes depth 20) (search quotes depth 20) (ltZ-true {a = pos 1000 *ℤ m} {b = negℤ ρ} q))
+
+one-or-other : (f : ℕ) (m ρ : ℤ) (b : Bool) → (f ≡ 1 → pos 0 ≤ℤ ρ) → byFlag f false (over m ρ) false false ≡ true → byFlag f false (under m ρ && b) false false ≡ false
+one-or-other zero m ρ b h e = refl
+one-or-other (suc zero) m ρ b h e = go (under m ρ) refl
+  where
+    go : (u : Bool) → under m ρ ≡ u → (under m ρ && b) ≡ false
+    go true q = absurd (never-both m ρ (h refl) e q)
+    go false q = ap (λ (x : Bool). x && b) q
+one-or-other (suc (suc zero)) m ρ b h e = refl
+one-or-other (suc (suc (suc n))) m ρ b h e = refl
+
+module _ (S : Scene) (c : ℕ) where
+  settled-mass : cond (not (converted S c)) (gatheredMass S c) (cond (filled S c) (newDensity S c) (pos 0)) ≡ newMass S c
+  unfolding gatheredMass movedMass newMass baseMass newFlag filled emptied
+  settled-mass =
+      mass-cases (S .old .flag c) (over (tradedMass S c) (newDensity S c)) (under (tradedMass S c) (newDensity S c) && not (besideFilled S c)) (besideFilled S c) (besideEmptied S c)
+      (tradedMass S c) (newDensity S c) (received S c)
+
+  settled-part : (k : ℕ) → (filled S c ≡ true → emptied S c ≡ false)
+      → cond (not (converted S c)) (bornPart S c k) (cond (filled S c) (bornPart S c k) (pos 0)) ≡ newPart S c k
+  unfolding bornPart newPart filled emptied
+  settled-part k h =
+      part-cases (S .old .flag c) (over (tradedMass S c) (newDensity S c)) (under (tradedMass S c) (newDensity S c) && not (besideFilled S c)) _ (collided S c k) h
 
 module _ {s : Sides} {g : Settings} {a : Lent} {flags fills : List ℕ} {parts masses : List ℤ} {marks : List ℕ} (w : Midway s g a flags fills parts masses marks) where
   abbrev S : Scene
@@ -182,3 +245,44 @@ module _ {s : Sides} {g : Settings} {a : Lent} {flags fills : List ℕ} {parts m
     masses-there = e ∙ sym marks-count;
     each = λ c h m. parts-of c (subst (λ (n : ℕ). c < n) marks-count h) m;
   }
+
+  -- ---- what pass 7 leaves
+  mass-after : (masses′ : List ℤ) → masses′ ≡ tab (cellsOf s) (gatheredMass S) → (c : ℕ) → c < cellsOf s → settledMass parts masses′ marks c ≡ newMass S c
+  unfolding settledMass
+  mass-after masses′ e c h =
+      (λ i. cond (none-is w c h i) (gathered i) (cond (filled-is w c h i) (densityAt parts c) (pos 0)))
+      ∙ by (converted S c) refl ∙ settled-mass S c
+    where
+      gathered : getD masses′ c (pos 0) ≡ gatheredMass S c
+      gathered = ap (λ (l : List ℤ). getD l c (pos 0)) e ∙ getD-tab (cellsOf s) (gatheredMass S) (pos 0) c h
+
+      by : (b : Bool) → converted S c ≡ b
+          → cond (not (converted S c)) (gatheredMass S c) (cond (filled S c) (densityAt parts c) (pos 0)) ≡ cond (not (converted S c)) (gatheredMass S c) (cond (filled S c) (newDensity S c) (pos 0))
+      by true t = ap (λ (z : ℤ). cond (not (converted S c)) (gatheredMass S c) (cond (filled S c) z (pos 0))) (density-is w c h t)
+      by false t = ap₂ (λ (x : Bool) (y : ℤ). cond (not x) (gatheredMass S c) y) t refl ∙ sym (ap (λ (x : Bool). cond (not x) (gatheredMass S c) (cond (filled S c) (newDensity S c) (pos 0))) t)
+
+  -- no cell is both filled and emptied: its density is positive
+  one-way : (c : ℕ) → c < cellsOf s → filled S c ≡ true → emptied S c ≡ false
+  unfolding filled emptied sceneOf
+  one-way c h e =
+      one-or-other (stateOf 18 a .flag c) (tradedMass S c) (newDensity S c) (not (besideFilled S c)) (λ f. dense-up (newDensity S c) (new-dense s g a (w .poised) (w .steady) c h (ap liquid f))) e
+
+  part-after : (c k : ℕ) → c < cellsOf s → k ≤ 18 → settledPart parts marks c k ≡ newPart S c k
+  unfolding settledPart
+  part-after c k h l =
+      (λ i. cond (none-is w c h i) (part-is w c k h l i) (cond (filled-is w c h i) (part-is w c k h l i) (pos 0)))
+      ∙ settled-part S c k (one-way c h)
+
+  parts-after : tab (19 * cellsOf s) (λ m. settledPart parts marks (m / 19) (m % 19)) ≡ tab (19 * cellsOf s) (λ m. newPart S (m / 19) (m % 19))
+  parts-after =
+      tab-cong (19 * cellsOf s) (λ m. settledPart parts marks (m / 19) (m % 19)) (λ m. newPart S (m / 19) (m % 19)) (pos 0)
+      (λ m h. let r : m % 19 < 19 = mod-lt m (omega arith) in part-after (m / 19) (m % 19) (omega (arith, div-add-mod m 19)) (omega arith))
+
+  -- masses, parts and marks of the next state
+  pub settled-is : {masses′ parts″ masses″ : List ℤ} {marks″ : List ℕ} → masses′ ≡ tab (cellsOf s) (gatheredMass S) → Settled parts masses′ marks parts″ masses″ marks″
+      → (parts″ ≡ tab (19 * cellsOf s) (λ m. newPart S (m / 19) (m % 19))) × (masses″ ≡ tab (cellsOf s) (newMass S)) × (marks″ ≡ replicate (cellsOf s) 0)
+  settled-is {masses′} e r = (
+    r .parts-are ∙ ap (λ (n : ℕ). tab (19 * n) (λ m. settledPart parts marks (m / 19) (m % 19))) marks-count ∙ parts-after,
+    r .masses-are ∙ ap (λ (n : ℕ). tab n (settledMass parts masses′ marks)) marks-count ∙ tab-cong (cellsOf s) (settledMass parts masses′ marks) (newMass S) (pos 0) (mass-after masses′ e),
+    r .marks-are ∙ ap (λ (n : ℕ). replicate n 0) marks-count,
+  )
