@@ -1,13 +1,11 @@
 -- The amounts of stage 6, from a good state that passed test 7: a liquid cell's density, an interface cell's mass, and which cells take part. Assumes nothing.
-use mathlib.Core.Path.{_≡_, refl, sym, ap, ap₂, _∙_, subst}
-use mathlib.Core.Logic.{_⊎_, inl, inr}
-use mathlib.Core.Bool.{Bool, true, false, _&&_, _||_, not, cond, false≢true}
-use Prim.Native.Nat.{ℕ, zero, suc, _+_, _*_, _/_, _≤_, _<_}
+use mathlib.Core.Path.{_≡_, refl, sym, ap, subst}
+use mathlib.Core.Bool.{Bool, true, false, _&&_, not, cond}
+use Prim.Native.Nat.{ℕ, zero, suc, _+_, _*_, _≤_, _<_}
 use native.Mathlib.Nat.{div-le-of-le-mul, mul-le-mul-right}
 use native.Mathlib.Omega.{arith}
-use lib.IntN.{ℤ, pos, natAbs, _+ℤ_, _-ℤ_, _*ℤ_}
+use lib.IntN.{ℤ, pos, natAbs, _-ℤ_, _*ℤ_}
 use lib.Signed.{leZ}
-use lib.Dec.{eqb}
 use borrow.Author.Tests.{not-false}
 use Rattle.whole.specs.Bools.{and-left, and-right}
 use Rattle.whole.specs.Bounds.{abs-add, abs-sub, abs-mul, abs-quot, abs-below}
@@ -17,7 +15,7 @@ use Rattle.whole.specs.Order.{leZ-true}
 use Rattle.whole.specs.Search.{Dir, as-dir, first-none}
 use Rattle.whole.specs.Sums.{sum-abs}
 use Rattle.lattice.specs.Lattice.{dot, d3q19, density}
-use Rattle.lattice.specs.Cell.{dense, slow, exchange, over, under, fillOf}
+use Rattle.lattice.specs.Cell.{dense, slow, exchange, over, under}
 use Rattle.lattice.specs.declared.Settings.{Settings}
 use Rattle.lattice.proofs.Fills.{fill-most}
 use Rattle.lattice.proofs.Paired.{paired19}
@@ -28,7 +26,6 @@ use Rattle.grid.specs.Step.{flagAt, difference, traded, tradedMass, newD
 use Rattle.grid.specs.Outcome.{sceneOf}
 use Rattle.grid.specs.Between.{Poised, movedMass, settledMark}
 use Rattle.grid.specs.Passes.{Inner}
-use Rattle.grid.proofs.Closed.{wall-stays}
 use Rattle.grid.proofs.Laid.{inner}
 use Rattle.grid.proofs.Offsets.{near-below}
 use Rattle.grid.proofs.Poise.{poised-body, poised-mass, poised-fill, poised-inner}
@@ -136,16 +133,23 @@ module _ (s : Sides) (g : Settings) (a : Lent) (r : Poised s g a) where
   unfolding d3q19
   difference-in c i h f d l =
       let n : gridOf s .near c i < cellsOf s = near-cell c i h (λ e. omega arith) (omega (arith, d .most)) in
-      omega (arith, abs-sub (stateOf 18 a .part (gridOf s .near c i) (d3q19 .opp i)) (stateOf 18 a .part c i),
+      omega (
+        arith,
+        abs-sub (stateOf 18 a .part (gridOf s .near c i) (d3q19 .opp i)) (stateOf 18 a .part c i),
         poised-body s g a r (gridOf s .near c i) n l .parts (d3q19 .opp i) (paired19 .dir i d .most) .abs,
-        poised-body s g a r c h (ap liquid f) .parts i (d .most) .abs)
+        poised-body s g a r c h (ap liquid f) .parts i (d .most) .abs,
+      )
 
   pub traded-mass-in : (c : ℕ) → c < cellsOf s → flag c ≡ 1 → Within (tradedMass S c) 44826624
   unfolding tradedMass traded difference sceneOf d3q19
   traded-mass-in c h f =
       record {
-        abs = omega (arith, abs-add (S .old .mass c) (dirs 18 (traded S c)), poised-mass s g a r c h f .abs,
-            sum-abs 18 (λ b. traded S c (suc b)) 2359296 (λ b k. each (suc b) (as-dir k)));
+        abs = omega (
+          arith,
+          abs-add (S .old .mass c) (dirs 18 (traded S c)),
+          poised-mass s g a r c h f .abs,
+          sum-abs 18 (λ b. traded S c (suc b)) 2359296 (λ b k. each (suc b) (as-dir k)),
+        );
       }
     where
       each : (i : ℕ) → Dir 18 i → natAbs (traded S c i) ≤ 2359296

@@ -1,32 +1,32 @@
 -- Stage 6 over lists is stage 6 of the step's scene: weights, excess, gifts, what is received, what strays and what settles, one law each. Assumes nothing.
-use mathlib.Core.Path.{_≡_, refl, sym, ap, ap₂, _∙_, subst}
+use mathlib.Core.Path.{_≡_, refl, sym, ap, ap₂, _∙_}
 use mathlib.Core.Bool.{Bool, true, false, _&&_, _||_, not, cond, false≢true}
 use mathlib.Core.List.{List, [], _∷_}
-use Prim.Native.Nat.{ℕ, zero, suc, _+_, _-_, _*_, _/_, _%_, _≤_, _<_}
+use Prim.Native.Nat.{ℕ, zero, suc, _+_, _-_, _*_, _≤_, _<_}
 use native.Mathlib.Omega.{arith}
-use lib.IntN.{ℤ, pos, negℤ, _+ℤ_, _-ℤ_, _*ℤ_, +ℤ-idr}
+use lib.IntN.{ℤ, pos, negℤ, _+ℤ_, _-ℤ_, +ℤ-idr}
 use lib.Dec.{eqb}
-use lib.ListN.{length, getD}
+use lib.ListN.{getD}
 use borrow.Author.Tests.{eq-eqb, eqb-true}
-use Rattle.whole.specs.Bools.{cond-yes, cond-no}
-use Rattle.whole.specs.Fold.{sum, dirs, any, anyDir, tab}
+use Rattle.whole.specs.Bools.{cond-yes}
+use Rattle.whole.specs.Fold.{sum, anyDir, tab}
 use Rattle.whole.specs.Ring.{ring-by, quotes}
 use Rattle.whole.specs.Search.{Dir, as-dir, any-dir}
 use Rattle.whole.specs.Sums.{sum-cong}
-use Rattle.whole.specs.Tab.{length-tab, getD-tab, tab-cong}
+use Rattle.whole.specs.Tab.{getD-tab, tab-cong}
 use Rattle.lattice.specs.Lattice.{V3, dot, d3q19, density}
-use Rattle.lattice.specs.Cell.{positive, isPositive, share, over, under}
+use Rattle.lattice.specs.Cell.{positive, isPositive, share, over}
 use Rattle.lattice.specs.declared.Settings.{Settings}
 use Rattle.lattice.proofs.Paired.{paired19}
 use Rattle.grid.specs.declared.Sides.{Sides}
 use Rattle.grid.specs.Grid.{cellsOf, gridOf, box}
-use Rattle.grid.specs.State.{Lent, Scene, byFlag, liquid, stateOf}
-use Rattle.grid.specs.Step.{flagAt, tradedMass, newDensity, collided, filled, emptied, besideFilled, newFlag, seen, normal, target, anyTarget, lean, leanWeight, shareWeight, excess, converted, gift, toCarry, received, newCarry}
+use Rattle.grid.specs.State.{Lent, Scene, stateOf}
+use Rattle.grid.specs.Step.{tradedMass, newDensity, collided, filled, emptied, newFlag, seen, normal, target, anyTarget, lean, leanWeight, shareWeight, excess, converted, gift, toCarry, received, newCarry}
 use Rattle.grid.specs.Outcome.{sceneOf}
 use Rattle.grid.specs.Between.{movedMass, settledMark, bornPart, gatheredMass}
 use Rattle.grid.specs.Passes.{Inner}
-use Rattle.grid.specs.Gifts.{fillAt, normalAt, back, leaningAt, targetAt, leanWeightAt, evenAt, weightAt, densityAt, excessAt, giftAt, giftFrom, receivedAt, gatheredAt, lostAt, strayAt, Midway}
-use Rattle.grid.proofs.Amounts.{taker-unmarked, marked-interface, outer-not, inner-cell, near-cell, seen-fill}
+use Rattle.grid.specs.Gifts.{fillBeside, normalAt, back, leaningAt, targetAt, leanWeightAt, evenAt, weightAt, densityAt, excessAt, giftAt, giftFrom, receivedAt, gatheredAt, lostAt, strayAt, Midway}
+use Rattle.grid.proofs.Amounts.{marked-interface, outer-not, inner-cell, seen-fill}
 use Rattle.grid.proofs.Beside.{Offsets, any-cong, place-is}
 use Rattle.grid.proofs.Box.{grid-laid}
 use Rattle.grid.proofs.Closed.{wall-stays}
@@ -136,7 +136,7 @@ module _ {s : Sides} {g : Settings} {a : Lent} {flags fills : List ℕ} {parts m
     unfolding anyTarget sceneOf d3q19
     any-target-is = any-cong 18 (λ b. targetAt flags off (c - low) (suc b)) (λ b. target S c (suc b)) (λ b k. target-is (suc b) (omega arith))
 
-    fill-seen : (i : ℕ) → i < 19 → fillAt fills off (c - low) i ≡ seen S c (gridOf s .near c i)
+    fill-seen : (i : ℕ) → i < 19 → fillBeside fills off (c - low) i ≡ seen S c (gridOf s .near c i)
     unfolding seen sceneOf stateOf
     fill-seen i h =
         ap (λ (j : ℕ). pos (getD fills j 0)) (place-is o c n i h)

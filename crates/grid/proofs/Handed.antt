@@ -6,13 +6,12 @@ use Prim.Native.Nat.{ℕ, zero, suc, _+_, _-_, _*_, _/_, _%_, _≤_, _<_}
 use native.Mathlib.Decide.{decLt}
 use native.Mathlib.Nat.{add-zero, mod-lt, div-add-mod, le-of-suc-le-suc, not-suc-le-zero}
 use native.Mathlib.Omega.{arith}
-use lib.IntN.{ℤ, pos, negℤ, natAbs, _+ℤ_, _-ℤ_, _*ℤ_, +ℤ-idr}
+use lib.IntN.{ℤ, pos, negℤ, _+ℤ_, _*ℤ_, +ℤ-idr}
 use lib.Signed.{_≤ℤ_, leZ}
 use lib.Dec.{eqb}
 use lib.ListN.{length, getD, replicate}
-use borrow.Author.Tests.{eq-eqb, eqb-true}
-use Rattle.whole.specs.Bools.{cond-yes, cond-no, and-left, and-right}
-use Rattle.whole.specs.Fold.{dirs, tab}
+use Rattle.whole.specs.Bools.{and-left}
+use Rattle.whole.specs.Fold.{tab}
 use Rattle.whole.specs.Machine.{Within}
 use Rattle.whole.specs.Order.{ltZ-true, of<, leZ-true}
 use Rattle.whole.specs.Parts.{≤-parts, parts-≤}
@@ -26,12 +25,12 @@ use Rattle.lattice.proofs.Paired.{paired19}
 use Rattle.grid.specs.declared.Sides.{Sides}
 use Rattle.grid.specs.Grid.{cellsOf, sidesGood, gridOf}
 use Rattle.grid.specs.State.{Lent, Scene, byFlag, liquid, stateOf}
-use Rattle.grid.specs.Step.{tradedMass, newDensity, collided, born, filled, emptied, besideFilled, besideEmptied, newFlag, flagAfter, converted, received, baseMass, newMass, newPart}
+use Rattle.grid.specs.Step.{tradedMass, newDensity, collided, filled, emptied, besideFilled, besideEmptied, newFlag, flagAfter, converted, received, baseMass, newMass, newPart}
 use Rattle.grid.specs.Outcome.{sceneOf}
 use Rattle.grid.specs.Between.{movedMass, bornPart, gatheredMass}
 use Rattle.grid.specs.Passes.{Inner, lowOf, offsetOf}
 use Rattle.grid.specs.Sight.{Around}
-use Rattle.grid.specs.Gifts.{densityAt, settledMass, settledPart, Filled, Parts, Weighed, Giver, Giving, Gathering, Straying, Settling, Settled, Midway}
+use Rattle.grid.specs.Gifts.{densityAt, settledMass, settledPart, Filled, Parts, Weighed, Gathering, Straying, Settling, Settled, Midway}
 use Rattle.grid.proofs.Amounts.{taker-unmarked, inner-cell, fill-in, moved-mass-in, new-density-in, new-dense}
 use Rattle.grid.proofs.Beside.{Offsets, above, place-is, place-low}
 use Rattle.grid.proofs.Given.{flag-is, mark-is, mass-is, part-is, none-is, filled-is, converted-interface, marked-converted, born-is, density-is, taker-inner, there-back}
@@ -93,9 +92,12 @@ part-cases (suc (suc (suc n))) ov un b x h = refl
 never-both : (m ρ : ℤ) → pos 0 ≤ℤ ρ → over m ρ ≡ true → under m ρ ≡ true → ⊥
 unfolding over under
 never-both m ρ h p q =
-    omega (arith, ≤-parts h,
+    omega (
+      arith,
+      ≤-parts h,
       of< (m ∷ ρ ∷ []) (search quotes depth 20) (search quotes depth 20) (ltZ-true {a = pos 1001 *ℤ ρ} {b = pos 1000 *ℤ m} p),
-      of< (m ∷ ρ ∷ []) (search quotes depth 20) (search quotes depth 20) (ltZ-true {a = pos 1000 *ℤ m} {b = negℤ ρ} q))
+      of< (m ∷ ρ ∷ []) (search quotes depth 20) (search quotes depth 20) (ltZ-true {a = pos 1000 *ℤ m} {b = negℤ ρ} q),
+    )
 
 one-or-other : (f : ℕ) (m ρ : ℤ) (b : Bool) → (f ≡ 1 → pos 0 ≤ℤ ρ) → byFlag f false (over m ρ) false false ≡ true → byFlag f false (under m ρ && b) false false ≡ false
 one-or-other zero m ρ b h e = refl

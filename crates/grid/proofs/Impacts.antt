@@ -1,22 +1,20 @@
 -- What a collision leaves of a cell that passed test 7 is in range: each part of a direction far below 2^25, and part 0 far below 2^30. Assumes nothing.
-use mathlib.Core.Path.{_≡_, refl, sym, ap, _∙_, subst}
+use mathlib.Core.Path.{_≡_, refl, sym, subst}
 use mathlib.Core.Bool.{Bool, true, false, _&&_, not}
-use Prim.Native.Nat.{ℕ, zero, suc, _+_, _*_, _/_, _≤_, _<_}
-use native.Mathlib.Nat.{mul-le-mul, mul-le-mul-left, le-trans}
+use Prim.Native.Nat.{ℕ, zero, suc, _*_, _≤_, _<_}
+use native.Mathlib.Nat.{mul-le-mul}
 use native.Mathlib.Omega.{arith}
 use lib.IntN.{ℤ, pos, natAbs, _+ℤ_, _-ℤ_, _*ℤ_}
-use lib.Signed.{_≤ℤ_, quotZ}
-use lib.Dec.{T, leb, leb→le}
+use lib.Signed.{quotZ}
 use borrow.Author.Tests.{not-false}
-use Rattle.whole.specs.Bools.{and-left, and-right}
 use Rattle.whole.specs.Bounds.{abs-add, abs-sub, abs-mul, abs-above}
 use Rattle.whole.specs.Fold.{dirs, first, tab}
 use Rattle.whole.specs.Machine.{Within}
 use Rattle.whole.specs.Search.{Dir, as-dir, first-none}
 use Rattle.whole.specs.Sums.{sum-abs}
 use Rattle.lattice.specs.Lattice.{V3, dot, d3q19}
-use Rattle.lattice.specs.Cell.{dense, slow, quad, relaxed, relaxationGood}
-use Rattle.lattice.specs.Body.{vec, Tame, steadyFlow}
+use Rattle.lattice.specs.Cell.{dense, slow, quad, relaxed}
+use Rattle.lattice.specs.Body.{Tame, steadyFlow}
 use Rattle.lattice.specs.declared.Flow.{Flow}
 use Rattle.lattice.specs.declared.Settings.{Settings}
 use Rattle.lattice.proofs.Collision.{relaxation-in}
@@ -65,7 +63,7 @@ unfolding relaxed
 relaxed-in p w Q ρ f hp hw hQ low hρ hf =
     let n = pos w *ℤ Q -ℤ pos 72 *ℤ (ρ *ℤ f) in
     let inner : natAbs n ≤ 230120883699712 =
-        omega (arith, abs-sub (pos w *ℤ Q) (pos 72 *ℤ (ρ *ℤ f)), times-in (pos w) Q 2 26000000000000 hw hQ, abs-mul (pos 72) (ρ *ℤ f), times-in ρ f 1179648 2097152 hρ hf) in
+    omega (arith, abs-sub (pos w *ℤ Q) (pos 72 *ℤ (ρ *ℤ f)), times-in (pos w) Q 2 26000000000000 hw hQ, abs-mul (pos 72) (ρ *ℤ f), times-in ρ f 1179648 2097152 hρ hf) in
     let top : natAbs (p *ℤ n) ≤ 468756240096313344 = omega (arith, times-in p n 2037 230120883699712 hp inner) in
     let bottom : 21743271936 ≤ natAbs (pos 73728 *ℤ ρ) = omega (arith, abs-mul (pos 73728) ρ) in
     let q : natAbs (quotZ (p *ℤ n) (pos 73728 *ℤ ρ)) ≤ 21558679 = quot-abs (p *ℤ n) (pos 73728 *ℤ ρ) 468756240096313344 21743271936 top (omega arith) bottom in

@@ -1,19 +1,19 @@
 -- What is sent in stage 6: how large an excess and a gift can be, what a cell with no mark sends, and when a cell has no target. Assumes nothing.
-use mathlib.Core.Path.{_≡_, refl, sym, ap, ap₂, _∙_, subst}
-use mathlib.Core.Logic.{_⊎_, inl, inr, ⊎-elim}
-use mathlib.Core.Bool.{Bool, true, false, _||_, cond, false≢true}
+use mathlib.Core.Path.{_≡_, refl, sym, ap, ap₂, _∙_}
+use mathlib.Core.Logic.{⊎-elim}
+use mathlib.Core.Bool.{Bool, true, false, _||_, cond}
 use mathlib.Core.List.{List}
-use Prim.Native.Nat.{ℕ, zero, suc, _+_, _-_, _*_, _%_, _≤_, _<_}
+use Prim.Native.Nat.{ℕ, zero, suc, _+_, _-_, _%_}
 use native.Mathlib.Omega.{arith}
-use lib.IntN.{ℤ, pos, natAbs, _+ℤ_, _-ℤ_}
+use lib.IntN.{ℤ, pos, natAbs, _-ℤ_}
 use lib.Dec.{eqb}
-use lib.ListN.{length, getD}
+use lib.ListN.{getD}
 use borrow.Author.Tests.{eq-eqb, ne-eqb, eqb-true, eqb-false}
 use Rattle.whole.specs.Bools.{cond-yes, cond-no, or-cases, or-left, or-right}
 use Rattle.whole.specs.Bounds.{abs-sub}
 use Rattle.whole.specs.Fold.{dirs, total, all, any, anyDir, tab, open-fold}
 use Rattle.whole.specs.Machine.{Within}
-use Rattle.whole.specs.Search.{Dir, as-dir, all-at}
+use Rattle.whole.specs.Search.{Dir, all-at}
 use Rattle.whole.specs.Sums.{sum-cong}
 use Rattle.lattice.specs.Lattice.{d3q19, open-lattice}
 use Rattle.lattice.specs.Cell.{share}
@@ -56,9 +56,12 @@ module _ (flags fills : List ℕ) (parts masses : List ℤ) (off : List ℕ) (lo
   gift-in c m zero g d = absurd (omega (arith, d .some))
   gift-in c m (suc a) g d =
       record {
-        abs = omega (arith, excess-in parts masses m c (g .weighed) .abs,
-            share-le 18 (λ b. natAbs (weightAt flags fills off (c - low) m (suc b))) (weightAt flags fills off (c - low) m) (λ b l. weight-counted flags fills off (c - low) m (suc b))
-            (excessAt parts masses m c) a (d .most));
+        abs = omega (
+          arith,
+          excess-in parts masses m c (g .weighed) .abs,
+          share-le 18 (λ b. natAbs (weightAt flags fills off (c - low) m (suc b))) (weightAt flags fills off (c - low) m) (λ b l. weight-counted flags fills off (c - low) m (suc b))
+              (excessAt parts masses m c) a (d .most),
+        );
       }
 
   -- the shares of an array of weights are those of the weights

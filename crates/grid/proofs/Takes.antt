@@ -1,27 +1,25 @@
 -- What an interface cell takes in stage 6: each neighbour that is marked can give towards it, the sum fits, and it does not turn on the masses of cells
 -- that take. Assumes nothing.
-use mathlib.Core.Path.{_≡_, refl, sym, ap, ap₂, _∙_, subst}
+use mathlib.Core.Path.{_≡_, refl, sym, ap, _∙_, subst}
 use mathlib.Core.Bool.{Bool, true, false, _&&_, cond}
 use mathlib.Core.List.{List}
-use Prim.Native.Nat.{ℕ, zero, suc, _+_, _-_, _*_, _≤_, _<_}
-use native.Mathlib.Decide.{ℕ-discrete, decLt}
+use Prim.Native.Nat.{ℕ, suc, _+_, _-_, _≤_, _<_}
+use native.Mathlib.Decide.{decLt}
 use native.Mathlib.Nat.{mul-le-mul-right}
 use native.Mathlib.Omega.{arith}
-use lib.IntN.{ℤ, pos, natAbs, _+ℤ_, _-ℤ_}
+use lib.IntN.{ℤ, pos, _+ℤ_, _-ℤ_}
 use lib.Dec.{eqb, leb, ltb}
 use lib.ListN.{length, getD}
 use borrow.Author.Tests.{eq-eqb, ne-eqb, eqb-false, le-leb, lt-ltb}
 use Rattle.whole.specs.Bools.{cond-yes, cond-no, and-true}
-use Rattle.whole.specs.Bounds.{abs-add}
-use Rattle.whole.specs.Fold.{sum, dirs, tab}
+use Rattle.whole.specs.Fold.{sum}
 use Rattle.whole.specs.Machine.{Within}
 use Rattle.whole.specs.Search.{Dir, as-dir}
 use Rattle.whole.specs.Sums.{sum-cong, sum-abs}
 use Rattle.lattice.specs.Lattice.{d3q19}
 use Rattle.lattice.specs.Cell.{share}
 use Rattle.lattice.proofs.Paired.{paired19}
-use Rattle.grid.specs.Gifts.{targetAt, weightAt, densityAt, excessAt, giftAt, giftFrom, receivedAt, gatheredAt, Weighed, Giver, Giving}
-use Rattle.grid.specs.Sight.{Around}
+use Rattle.grid.specs.Gifts.{targetAt, weightAt, densityAt, excessAt, giftAt, giftFrom, receivedAt, gatheredAt, Giver, Giving}
 use Rattle.grid.proofs.Ranges.{Ranged, ranged}
 use Rattle.grid.proofs.Sent.{from-in}
 

@@ -99,7 +99,17 @@ fn gifts(
     let mut t: i64 = 0;
     let mut i = 1;
     while i < 19 {
-        t += gift_from(flags, fill, parts, masses, marks, off, low, k + off[i], opposite(i));
+        t += gift_from(
+            flags,
+            fill,
+            parts,
+            masses,
+            marks,
+            off,
+            low,
+            k + off[i],
+            opposite(i),
+        );
         i += 1;
     }
     t

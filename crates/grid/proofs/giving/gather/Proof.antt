@@ -1,14 +1,14 @@
 -- `grid::giving::gather` is pass 6. It writes cells whose new flag is interface and reads masses of marked cells, which never are; so what it reads is what
 -- was there at first. Assumes nothing.
 use borrow.Author.Needs.{needs}
-use mathlib.Core.Path.{_≡_, refl, sym, ap, ap₂, subst, _∙_}
+use mathlib.Core.Path.{_≡_, refl, sym, ap₂, subst, _∙_}
 use mathlib.Core.Logic.{⊎-elim}
 use mathlib.Core.List.{List}
 use Prim.Native.Nat.{ℕ, _+_, _-_, _≤_, _<_}
 use native.Mathlib.Omega.{arith}
 use lib.IntN.{ℤ, pos, _+ℤ_}
 use lib.ListN.{length, getD}
-use mir.Syntax.{w32, w64}
+use mir.Syntax.{w64}
 use mir.Val.{toZ, ofZ}
 use Rattle.whole.specs.Machine.{Val, does-fit, reads-as, v+, v64, v32}
 use Rattle.grid.specs.Gifts.{gatheredAt, receivedAt, Giving}
@@ -18,11 +18,6 @@ use Rattle.grid.proofs.Readings.{told, told64, held-in}
 use Rattle.grid.proofs.giving.gather.Statement.{statement}
 use Rattle.grid.proofs.giving.gather.Tie as tie
 use Rattle.grid.proofs.giving.gather.Reads as reads
-use Rattle.grid.proofs.giving.gather.Lts as lts
-use Rattle.grid.proofs.giving.gifts.Reads as gifts-reads
-use Rattle.grid.proofs.neighbours.low_of.Reads as low-of-reads
-use Rattle.grid.proofs.neighbours.offsets.Reads as offsets-reads
-use Rattle.whole.proofs.wide.Reads as wide-reads
 
 abbrev Inv-loop : tie.InvT-loop
 Inv-loop flags fill parts masses₀ marks off low c₀ masses c = Ranged (pos 0) (gatheredAt flags fill parts masses₀ marks off low) masses₀ 0 (length flags) masses c

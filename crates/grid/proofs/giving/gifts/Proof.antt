@@ -1,25 +1,20 @@
 -- `grid::giving::gifts` adds up what the neighbours give, direction by direction. Assumes nothing.
 use borrow.Author.Needs.{needs}
-use mathlib.Core.Path.{_≡_, refl, sym, ap, ap₂, subst, _∙_}
-use Prim.Native.Nat.{ℕ, suc, _+_, _-_, _≤_, _<_}
+use mathlib.Core.Path.{_≡_, refl, sym, ap, subst, _∙_}
+use Prim.Native.Nat.{ℕ, _+_, _-_, _≤_}
 use native.Mathlib.Omega.{arith}
-use lib.IntN.{ℤ, pos, _+ℤ_}
-use lib.ListN.{length, getD}
+use lib.ListN.{getD}
 use mir.Syntax.{w64}
 use mir.Val.{toZ, ofZ}
 use Rattle.whole.specs.Fold.{sum}
 use Rattle.whole.specs.Machine.{does-fit, reads-as, v+, v64}
 use Rattle.whole.specs.Search.{Dir}
 use Rattle.lattice.specs.Lattice.{d3q19}
-use Rattle.grid.specs.Gifts.{receivedAt, giftFrom}
+use Rattle.grid.specs.Gifts.{receivedAt}
 use Rattle.grid.proofs.Takes.{sent, Asked, asked, sum-in, sent-in, sum-more, sent-at}
 use Rattle.grid.proofs.Readings.{told64, held-in}
 use Rattle.grid.proofs.giving.gifts.Statement.{statement}
 use Rattle.grid.proofs.giving.gifts.Tie as tie
-use Rattle.grid.proofs.giving.gifts.Reads as reads
-use Rattle.grid.proofs.giving.gifts.Lts as lts
-use Rattle.grid.proofs.giving.gift_from.Reads as gift-from-reads
-use Rattle.grid.proofs.giving.opposite.Reads as opposite-reads
 
 abbrev Inv-loop : tie.InvT-loop
 Inv-loop flags fill parts masses marks off low c k t₀ i₀ t i = (1 ≤ i) × (i ≤ 19) × (toZ w64 t ≡ sum (i - 1) (sent flags fill parts masses marks off low k))
@@ -95,11 +90,13 @@ loop-less c = search needs
 loop-again : tie.Need-loop-again Inv-loop μ-loop
 loop-again c =
     let l = c .before .before .before .before in
-    let s = l .before .before .before .before in
-    (omega arith, omega (arith, c .before .before .before .loop-test .taken),
+    let s = l .before .before .before .before in (
+      omega arith,
+      omega (arith, c .before .before .before .loop-test .taken),
       reads-as (v64 (v+ (held-in (l .loop .inv .2) (sum-in (s .pre .0) (s .args .c) (s .pre .1) (s .pre .2) (l .loop .i - 1) (omega arith)))
-      (held-in (gave c) (sent-in (s .pre .0) (s .args .c) (s .pre .1) (s .pre .2) (l .loop .i - 1) (omega (arith, c .before .before .before .loop-test .taken)))))) tt
-      ∙ sum-more _ (l .loop .i) (omega arith))
+          (held-in (gave c) (sent-in (s .pre .0) (s .args .c) (s .pre .1) (s .pre .2) (l .loop .i - 1) (omega (arith, c .before .before .before .loop-test .taken)))))) tt
+          ∙ sum-more _ (l .loop .i) (omega arith),
+    )
 
 returns : tie.Need-returns Inv-loop μ-loop
 unfolding receivedAt

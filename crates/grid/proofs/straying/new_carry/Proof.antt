@@ -1,12 +1,12 @@
 -- `grid::straying::new_carry` is pass 5: the carry and what strayed from the cells passed. Assumes nothing.
 use borrow.Author.Needs.{needs}
-use mathlib.Core.Path.{_≡_, refl, sym, ap, ap₂, subst, _∙_}
+use mathlib.Core.Path.{_≡_, refl, sym, ap, ap₂, _∙_}
 use mathlib.Core.Logic.{⊎-elim}
 use mathlib.Core.List.{List}
-use Prim.Native.Nat.{ℕ, _+_, _-_, _≤_, _<_}
+use Prim.Native.Nat.{ℕ, _-_, _≤_, _<_}
 use native.Mathlib.Omega.{arith}
-use lib.IntN.{ℤ, pos, _+ℤ_, +ℤ-idr}
-use lib.ListN.{length, getD}
+use lib.IntN.{ℤ, _+ℤ_, +ℤ-idr}
+use lib.ListN.{length}
 use mir.Syntax.{w64}
 use mir.Val.{toZ, ofZ}
 use mir.Facts.{toZ-ofZ}
@@ -19,11 +19,6 @@ use Rattle.grid.proofs.Strays.{around-as, stray-some, stray-in, strays-
 use Rattle.grid.proofs.Readings.{told64, held-in}
 use Rattle.grid.proofs.straying.new_carry.Statement.{statement}
 use Rattle.grid.proofs.straying.new_carry.Tie as tie
-use Rattle.grid.proofs.straying.new_carry.Reads as reads
-use Rattle.grid.proofs.straying.new_carry.Lts as lts
-use Rattle.grid.proofs.neighbours.low_of.Reads as low-of-reads
-use Rattle.grid.proofs.neighbours.offsets.Reads as offsets-reads
-use Rattle.grid.proofs.straying.lost.Reads as lost-reads
 
 abbrev Inv-loop : tie.InvT-loop
 Inv-loop flags parts masses marks carry off low t₀ c₀ t c = (c ≤ length marks) × (toZ w64 t ≡ toZ w64 carry +ℤ sum c (strayAt flags parts masses marks off low))
@@ -52,9 +47,10 @@ lost-requires : tie.Need-lost-requires Inv-loop μ-loop
 lost-requires c κs =
     let i = c .before .before .before in
     let l = i .before in
-    let s = l .before .before .before .before .before in
-    (around-as (l .loop .c) (l .before .before .offsets .ensures) (l .before .low-of .ensures) (s .pre .0 .around (l .loop .c) (inside i) (c .before .if1 .taken)),
-      s .pre .0 .weighed (l .loop .c) (inside i) (c .before .if1 .taken))
+    let s = l .before .before .before .before .before in (
+      around-as (l .loop .c) (l .before .before .offsets .ensures) (l .before .low-of .ensures) (s .pre .0 .around (l .loop .c) (inside i) (c .before .if1 .taken)),
+      s .pre .0 .weighed (l .loop .c) (inside i) (c .before .if1 .taken),
+    )
 
 -- what was lost at a marked cell
 lost-told : (c : tie.After-lost Inv-loop μ-loop)
