@@ -27,6 +27,8 @@ pub mod Weighed
 pub mod Picked
 pub mod Births
 pub mod Means
+pub mod Newborns
+pub mod Offspring
 pub mod Blocks
 pub mod Stores
 pub mod Spans
@@ -57,3 +59,4 @@ pub mod Takes
 pub mod Strays
 pub mod Impacts
 pub mod Handed
+pub mod Walked

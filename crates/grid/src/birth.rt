@@ -1,6 +1,9 @@
 // Stage 5: the parts of new interface cells, from means over the neighbours that were liquid.
+use crate::Sides;
 use crate::cells::paste;
 use crate::kinds::is_liquid;
+use crate::neighbours::low_of;
+use crate::neighbours::offsets;
 use crate::streaming::streamed;
 use lattice::Flow;
 use lattice::Settings;
@@ -10,16 +13,20 @@ use lattice::moments::flow_of;
 use lattice::rules::fair_parts;
 use whole::wide;
 ghost use mathlib.Core.Path.{_≡_};
-ghost use mathlib.Core.Bool.{true};
+ghost use mathlib.Core.Bool.{true, _&&_};
 ghost use Prim.Native.Nat.{_+_, _*_, _<_, _≤_};
+ghost use lib.Dec.{eqb};
 ghost use lib.IntN.{pos, _+ℤ_};
 ghost use lib.ListN.{length, getD};
 ghost use lib.Signed.{_<ℤ_, quotZ};
+ghost use Rattle.whole.specs.Fold.{tab};
 ghost use Rattle.whole.specs.Machine.{Within};
+ghost use Rattle.grid.specs.Grid.{sidesGood};
+ghost use Rattle.grid.specs.Passes.{lowOf, offsetOf};
 ghost use Rattle.grid.specs.State.{liquid};
 ghost use Rattle.grid.specs.Step.{liquidNear};
 ghost use Rattle.grid.specs.Sight.{Around};
-ghost use Rattle.grid.specs.Born.{Tested, Roomy, NewFlow, Joined, Added, Countable, Meant, Begins, Placed, flowSight};
+ghost use Rattle.grid.specs.Born.{Tested, Roomy, NewFlow, Joined, Added, Countable, Meant, Begins, Placed, Fertile, Visited, Peopled, newlyBorn, flowSight};
 
 // How many cells, and the sums of their density and momentum.
 pub struct Sum {
@@ -149,4 +156,53 @@ fn put_born(
     let v = equilibrium(mean_flow(flags, parts, off, low, c, g));
     paste(parts2, 19 * c, v);
     fair_parts(v)
+}
+
+fn is_newborn(old: u8, new: u8) -> bool
+    ensures { λ r. ⌜ r ≡ (eqb old 0 && eqb new 1) ⌝ }
+{
+    (old == 0) & (new == 1)
+}
+
+// Cell c's parts, where it was empty and is interface; any other cell is fair as it is.
+fn visit(
+    flags: &[u8],
+    parts: &[i32],
+    flags2: &[u8],
+    parts2: &mut [i32],
+    off: &[usize; 19],
+    low: usize,
+    c: usize,
+    g: Settings,
+) -> bool
+    requires { ⌜ Fertile (now flags) (now parts) (now off) low g (now flags2) × (c < length (now flags)) × (length (now parts2) ≡ 19 * length (now flags)) ⌝ }
+    ensures { λ r. ⌜ Visited (flowSight (now (flags .entry)) (now (parts .entry)) (now (off .entry)) low g) (newlyBorn (now (flags .entry)) (now (flags2 .entry))) c (now (parts2 .entry)) (now (parts2 .exit)) r ⌝ }
+{
+    if is_newborn(flags[c], flags2[c]) {
+        return put_born(flags, parts, parts2, off, low, c, g);
+    }
+    true
+}
+
+// The parts of every cell that was empty and is interface; whether all of them keep the rules of a liquid cell.
+pub fn newborn(
+    flags: &[u8],
+    parts: &[i32],
+    flags2: &[u8],
+    parts2: &mut [i32],
+    s: Sides,
+    g: Settings,
+) -> bool
+    requires { ⌜ (sidesGood s ≡ true) × Fertile (now flags) (now parts) (tab 19 (offsetOf s)) (lowOf s) g (now flags2) × (length (now parts2) ≡ 19 * length (now flags)) ⌝ }
+    ensures { λ r. ⌜ Peopled (flowSight (now (flags .entry)) (now (parts .entry)) (tab 19 (offsetOf s)) (lowOf s) g) (newlyBorn (now (flags .entry)) (now (flags2 .entry))) (length (now (flags .entry))) (now (parts2 .entry)) (now (parts2 .exit)) r ⌝ }
+{
+    let off = offsets(s);
+    let low = low_of(s);
+    let mut fair = true;
+    let mut c = 0;
+    while c < flags.len() {
+        fair = fair & visit(flags, parts, flags2, parts2, &off, low, c, g);
+        c += 1;
+    }
+    fair
 }

@@ -1,6 +1,7 @@
 // Layer 2, the grid: states, check, step and run. Knows the promises of lattice.
 pub mod birth;
 pub mod cells;
+pub mod checking;
 pub mod convert;
 pub mod copying;
 pub mod extent;
