@@ -55,5 +55,9 @@ pub mod Owned
 pub mod Settles
 pub mod Leans
 pub mod Sent
+pub mod Takes
+pub mod Strays
+pub mod Impacts
+pub mod Handed
 pub mod Walked
 pub mod Turns

@@ -2,7 +2,6 @@
 use crate::cells::own;
 use crate::cells::paste;
 use lattice::moments::density;
-ghost use mathlib.Core.Path.{_≡_};
 ghost use Prim.Native.Nat.{_<_};
 ghost use lib.ListN.{length};
 ghost use Rattle.grid.specs.Gifts.{Parts, CellSettled, Settling, Settled};
