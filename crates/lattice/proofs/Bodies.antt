@@ -2,21 +2,18 @@
 use mathlib.Core.Path.{_≡_, refl, sym, _∙_, ap, ap₂, subst}
 use mathlib.Core.Bool.{Bool, true, false, _&&_, cond}
 use mathlib.Core.List.{List}
-use Prim.Native.Nat.{ℕ, suc, _<_, _≤_}
+use Prim.Native.Nat.{ℕ}
 use native.Mathlib.Omega.{arith}
-use lib.Dec.{eqb}
 use lib.IntN.{ℤ, pos, natAbs}
 use lib.Signed.{_<ℤ_, _≤ℤ_, <ℤ-≤ℤ-trans}
 use borrow.Author.Tests.{leb-true}
-use Rattle.whole.specs.Bools.{and-left}
 use Rattle.whole.specs.Fold.{all}
 use Rattle.whole.specs.Search.{all-at}
-use Rattle.whole.specs.Order.{≤ℤ-trans}
 use Rattle.whole.specs.Machine.{Within}
 use Rattle.lattice.specs.declared.Flow.{Flow}
 use Rattle.lattice.specs.Lattice.{V3, dot, density, momentum, d3q19}
-use Rattle.lattice.specs.Cell.{partGood, massGood, fillOf, dense, slow}
-use Rattle.lattice.specs.Body.{partsOf, Bounded, vec, Tame, steadyFlow, goodBody, goodFluid, goodInterface, eqZ}
+use Rattle.lattice.specs.Cell.{partGood, dense, slow}
+use Rattle.lattice.specs.Body.{partsOf, Bounded, vec, steadyFlow, goodBody, goodFluid, goodInterface}
 use Rattle.lattice.proofs.Momentum.{x-in, y-in, z-in}
 
 -- parts that pass the test are bounded
@@ -52,10 +49,6 @@ unfolding steadyFlow goodBody d3q19
 body-is f v r e =
     ap₂ (λ (ρ : ℤ) (j : V3). all 19 (λ k. partGood (partsOf f k)) && (dense ρ && slow ρ (dot j j))) r e
     ∙ and-assoc (all 19 (λ k. partGood (partsOf f k))) (dense (density d3q19 (partsOf f))) (slow (density d3q19 (partsOf f)) (dot (momentum d3q19 (partsOf f)) (momentum d3q19 (partsOf f))))
-
-pub no-right : (a b : Bool) → b ≡ false → (a && b) ≡ false
-no-right true b e = e
-no-right false b e = refl
 
 -- a cell whose body breaks a rule is bad as fluid and as interface
 pub broken : (t : Bool) (f : ℕ → ℤ) (m : ℤ) (fill : ℕ) → goodBody d3q19 f ≡ false → cond t (goodFluid d3q19 f m fill) (goodInterface d3q19 f m fill) ≡ false

@@ -1,13 +1,13 @@
 -- The momentum by pairs: opposite directions differ in sign, so each pair's difference counts. Assumes nothing.
-use mathlib.Core.Path.{_≡_, refl, sym, _∙_, ap, subst}
+use mathlib.Core.Path.{_≡_, refl, _∙_, ap, subst}
 use mathlib.Core.List.{List, [], _∷_}
-use Prim.Native.Nat.{ℕ, suc, _+_, _*_, _<_, _≤_}
+use Prim.Native.Nat.{ℕ, suc, _+_, _*_, _<_}
 use native.Mathlib.Omega.{arith}
 use lib.Dec.{lit<}
-use lib.IntN.{ℤ, pos, natAbs, _+ℤ_, _-ℤ_, _*ℤ_}
-use Rattle.whole.specs.Fold.{sum, dirs, open-fold}
+use lib.IntN.{ℤ, natAbs, _+ℤ_, _-ℤ_}
+use Rattle.whole.specs.Fold.{sum, open-fold}
 use Rattle.whole.specs.Bounds.{abs-add, abs-sub}
-use Rattle.whole.specs.Ring.{E, var, nth, eval, Code, q+, q*, qneg, qpos, qnegsuc, ring-by}
+use Rattle.whole.specs.Ring.{var, nth, Code, q+, q*, qneg, qpos, qnegsuc, ring-by}
 use Rattle.whole.specs.Sums.{sum-first, sum-abs}
 use Rattle.whole.specs.Machine.{Within, within-by}
 use Rattle.lattice.specs.Lattice.{V3, density, momentum, d3q19, open-lattice}

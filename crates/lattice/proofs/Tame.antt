@@ -1,19 +1,18 @@
 -- Bounds of a flow: what a passed test of stage 3 tells of its fields, and what the table's entries make of e·j. Assumes nothing.
-use mathlib.Core.Path.{_≡_, refl, sym, _∙_, ap, subst}
-use mathlib.Core.Bool.{Bool, true, _&&_}
-use mathlib.Core.List.{List, [], _∷_}
-use Prim.Native.Nat.{ℕ, _+_, _*_, _<_, _≤_}
+use mathlib.Core.Path.{_≡_, subst}
+use mathlib.Core.Bool.{true}
+use mathlib.Core.List.{[], _∷_}
+use Prim.Native.Nat.{ℕ, _*_, _≤_}
 use native.Mathlib.Omega.{arith}
-use lib.IntN.{ℤ, pos, natAbs, _+ℤ_, _*ℤ_}
+use lib.IntN.{ℤ, pos, _+ℤ_, _*ℤ_}
 use lib.Signed.{_≤ℤ_, leZ}
 use Rattle.whole.specs.Bools.{and-left, and-right}
-use Rattle.whole.specs.Parts.{≤-parts, abs-parts}
 use Rattle.whole.specs.Bounds.{abs-below}
 use Rattle.whole.specs.Ring.{ring-by, quotes}
 use Rattle.whole.specs.Order.{leZ-true, slow-x}
 use Rattle.whole.specs.Machine.{Within, within-by}
 use Rattle.lattice.specs.declared.Flow.{Flow}
-use Rattle.lattice.specs.Lattice.{V3, dot}
+use Rattle.lattice.specs.Lattice.{dot}
 use Rattle.lattice.specs.Cell.{dense, slow, pull}
 use Rattle.lattice.specs.Body.{vec, Tame, steadyFlow}
 use Rattle.lattice.proofs.Reading.{reading}

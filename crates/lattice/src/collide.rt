@@ -7,7 +7,6 @@ use crate::moments::times;
 use whole::wide;
 ghost use mathlib.Core.Path.{_≡_};
 ghost use mathlib.Core.Bool.{true};
-ghost use Prim.Native.Nat.{ℕ};
 ghost use Rattle.whole.specs.Fold.{tab};
 ghost use Rattle.whole.specs.Machine.{Within};
 ghost use Rattle.lattice.specs.Lattice.{d3q19};

@@ -2,7 +2,7 @@
 use crate::Flow;
 use whole::wide;
 ghost use mathlib.Core.Path.{_≡_};
-ghost use Prim.Native.Nat.{ℕ, _+_, _*_, _<_};
+ghost use Prim.Native.Nat.{_+_, _*_, _<_};
 ghost use lib.IntN.{_-ℤ_, _*ℤ_};
 ghost use Rattle.whole.specs.Machine.{Within};
 ghost use Rattle.lattice.specs.Lattice.{dot, d3q19, density, momentum};

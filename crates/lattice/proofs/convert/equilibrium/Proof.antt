@@ -9,17 +9,17 @@ use lib.Seq.{getD-set-same, getD-set-other}
 use lib.IntN.{ℤ, pos, natAbs, _+ℤ_, _-ℤ_, +ℤ-idr}
 use mir.Syntax.{w32, w64}
 use mir.Val.{toZ, ofZ}
-use Rattle.whole.specs.Fold.{sum, dirs, tab}
+use Rattle.whole.specs.Fold.{sum, dirs}
 use Rattle.whole.specs.Sums.{sum-cong}
 use Rattle.whole.specs.Tab.{getD-tab, upto-all}
 use Rattle.whole.specs.Table.{filled}
 use Rattle.whole.specs.Ring.{ring-by, quotes}
 use Rattle.whole.specs.Bounds.{abs-sub}
-use Rattle.whole.specs.Machine.{Val, Within, machine, known, same, v32, v64, within-by, does-fit, reads-as}
+use Rattle.whole.specs.Machine.{Within, machine, known, same, v32, v64, within-by, does-fit, reads-as}
 use Rattle.lattice.specs.declared.collide.Common.{Common}
 use Rattle.lattice.specs.Lattice.{dot, d3q19}
-use Rattle.lattice.specs.Body.{Bounded, vec, Tame, stillDir, stillPart}
-use Rattle.lattice.specs.Post.{CommonIs, Ready, stilled}
+use Rattle.lattice.specs.Body.{Bounded, vec, stillDir, stillPart}
+use Rattle.lattice.specs.Post.{Ready}
 use Rattle.lattice.proofs.Collision.{ready, begun, begun-is}
 use Rattle.lattice.proofs.Pairs.{off-rest, off-one, off-dirs, off-next}
 use Rattle.lattice.proofs.Reading.{reading, inside}

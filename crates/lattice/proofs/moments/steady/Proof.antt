@@ -1,11 +1,11 @@
 -- `lattice::moments::steady`: the density's two tests, then the definition's comparison of products that fit. Assumes nothing.
-use mathlib.Core.Path.{_≡_, refl, sym, _∙_, ap₂}
-use mathlib.Core.Bool.{Bool, true, false, _&&_}
-use lib.IntN.{ℤ, pos}
+use mathlib.Core.Path.{_≡_}
+use mathlib.Core.Bool.{true}
+use lib.IntN.{pos}
 use lib.Signed.{leZ}
 use mir.Syntax.{w32}
-use Rattle.whole.specs.Order.{leZ-true, ltZ-true, ltZ-false, ≤-leZ, <-leZ}
-use Rattle.whole.specs.Machine.{Val, machine, any, same, does-fit, reads-as}
+use Rattle.whole.specs.Order.{ltZ-true, ltZ-false, ≤-leZ, <-leZ}
+use Rattle.whole.specs.Machine.{machine, any, same, does-fit}
 use Rattle.whole.specs.Tests.{flags, flag-as, clean}
 use Rattle.lattice.specs.Cell.{dense, slow}
 use Rattle.lattice.specs.Body.{steadyFlow}

@@ -1,5 +1,5 @@
 -- `lattice::rules::fair_parts`: both tests together are the rule of a liquid cell's body. Assumes nothing.
-use mathlib.Core.Path.{_≡_, _∙_, ap₂}
+use mathlib.Core.Path.{_∙_, ap₂}
 use mathlib.Core.Bool.{_&&_}
 use Rattle.lattice.proofs.Bodies.{flow-x, flow-y, flow-z, body-is}
 use borrow.Author.Needs.{needs}
