@@ -17,7 +17,7 @@ steady-requires c κs =
     let s = c .before .before in
     let v = c .flow-of .result in
     let e = c .flow-of .ensures .1 in
-    (flow-x (s .args .f) (s .pre) v e, flow-y (s .args .f) (s .pre) v e, flow-z (s .args .f) (s .pre) v e)
+    (flow-x (s .args .f) (s .pre) v e 400000000 tt, flow-y (s .args .f) (s .pre) v e 400000000 tt, flow-z (s .args .f) (s .pre) v e 400000000 tt)
 
 returns : tie.Need-returns
 returns c =

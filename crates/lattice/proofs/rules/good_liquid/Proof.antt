@@ -41,7 +41,7 @@ steady-requires c κs =
     let v = c .flow-of .result in
     let e = c .flow-of .ensures .1 in
     let b = inside-bounded f (parts-in (c .before)) in
-    (flow-x f b v e, flow-y f b v e, flow-z f b v e)
+    (flow-x f b v e 400000000 tt, flow-y f b v e 400000000 tt, flow-z f b v e 400000000 tt)
 
 returns-2 : tie.Need-returns-2
 returns-2 c =
