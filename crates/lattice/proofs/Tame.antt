@@ -56,7 +56,7 @@ pub pull-in : {ρ g : ℤ} → Within ρ 1700000000 → Within g 1048 → Within
 unfolding pull
 pull-in {ρ} {g} r h = within-by (search reading depth 20) tt
 
--- a tame component, as `speed2` asks it
+-- a tame component, as `speed_squared` asks it
 pub wider : {a : ℤ} → Within a 393216 → Within a 400000000
 wider h = record { abs = omega (arith, h .abs) }
 

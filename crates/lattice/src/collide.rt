@@ -2,7 +2,7 @@
 use crate::Flow;
 use crate::directions::dots;
 use crate::directions::weight_of;
-use crate::moments::speed2;
+use crate::moments::speed_squared;
 use crate::moments::times;
 use whole::wide;
 ghost use mathlib.Core.Path.{_≡_};
@@ -34,7 +34,7 @@ pub fn common_of(v: Flow, p: i64) -> Common
     ensures { λ r. ⌜ CommonIs v p r ⌝ }
 {
     Common {
-        base: 2 * times(v.rho, v.rho) - 3 * speed2(v),
+        base: 2 * times(v.rho, v.rho) - 3 * speed_squared(v),
         six: -6 * v.rho,
         seventy: -72 * v.rho,
         den: 73728 * wide(v.rho),

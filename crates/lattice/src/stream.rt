@@ -1,6 +1,6 @@
 // Stage 1: what a cell rebuilds beside an empty one.
 use crate::Flow;
-use crate::moments::speed2;
+use crate::moments::speed_squared;
 use crate::moments::times;
 ghost use mathlib.Core.Path.{_≡_};
 ghost use lib.IntN.{pos, natAbs};
@@ -16,5 +16,5 @@ pub fn rebuilt(v: Flow, w: i64, d: i32) -> i64
     ensures { λ r. ⌜ r ≡ gas (natAbs w) (v .rho) d (dot (vec v) (vec v)) ⌝ }
 {
     let r = times(v.rho, v.rho);
-    w * 16384 * (2 * r + 9 * times(d, d) - 3 * speed2(v)) / r
+    w * 16384 * (2 * r + 9 * times(d, d) - 3 * speed_squared(v)) / r
 }

@@ -172,12 +172,12 @@ module _ (c : tie.After-relaxed-pair Inv-loop μ-loop) where
   paired =
       let s = c .before .before .before .before .before .before .before .before .before .before in
       let i = c .before .before .before .before .before .before .loop .i in
-      let e : toZ w32 (ofZ w32 (partsOf own at)) ≡ partsOf own at = reads-as (v32 (inside (s .pre .0 .at i (omega arith) (omega arith)))) tt in
-      let e2 : toZ w32 (ofZ w32 (partsOf own (at + 1))) ≡ partsOf own (at + 1) = reads-as (v32 (inside (s .pre .0 .at (i + 1) (omega arith) (omega arith)))) tt in
+      let ef : toZ w32 (ofZ w32 (partsOf own at)) ≡ partsOf own at = reads-as (v32 (inside (s .pre .0 .at i (omega arith) (omega arith)))) tt in
+      let eg : toZ w32 (ofZ w32 (partsOf own (at + 1))) ≡ partsOf own (at + 1) = reads-as (v32 (inside (s .pre .0 .at (i + 1) (omega arith) (omega arith)))) tt in
       let w = c .before .before .weight-of .ensures in
-      let e3 : toZ w64 (ofZ w64 (c .before .before .weight-of .result)) ≡ pos (d3q19 .weight at) = reads-as (v64 (same w (inside (weight-in i (omega arith) (omega arith))))) tt in
-      let e4 : toZ w32 (ofZ w32 (getD dot-list at (pos 0))) ≡ getD dot-list at (pos 0) = reads-as (v32 (inside (dot-bound (c .before .before .before .before .before .before .before .before) i (omega arith)))) tt in
-      rw (e, e2, e3, e4) at (c .relaxed-pair .ensures)
+      let ew : toZ w64 (ofZ w64 (c .before .before .weight-of .result)) ≡ pos (d3q19 .weight at) = reads-as (v64 (same w (inside (weight-in i (omega arith) (omega arith))))) tt in
+      let ed : toZ w32 (ofZ w32 (getD dot-list at (pos 0))) ≡ getD dot-list at (pos 0) = reads-as (v32 (inside (dot-bound (c .before .before .before .before .before .before .before .before) i (omega arith)))) tt in
+      rw (ef, eg, ew, ed) at (c .relaxed-pair .ensures)
 
   first : c .relaxed-pair .result .a ≡ formed own dot-list shared at
   first = paired .a

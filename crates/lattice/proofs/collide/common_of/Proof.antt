@@ -11,13 +11,13 @@ use Rattle.lattice.proofs.collide.common_of.Tie as tie
 abbrev square-is : (c : tie.After-times) → Val (c .times .result)
 square-is c = let r = v32 (inside (c .before .before .before .pre .0 .rho)) in same (c .times .ensures) (v* r r)
 
-abbrev speed-is : (c : tie.After-speed2) → Val (c .speed2 .result)
+abbrev speed-is : (c : tie.After-speed-squared) → Val (c .speed-squared .result)
 speed-is c =
     let t = c .before .before .before .before .pre .0 in
     let x = inside (t .x) in
     let y = inside (t .y) in
     let z = inside (t .z) in
-    same (c .speed2 .ensures) (v+ (v+ (v* x x) (v* y y)) (v* z z))
+    same (c .speed-squared .ensures) (v+ (v+ (v* x x) (v* y y)) (v* z z))
 
 abbrev wide-is : (c : tie.After-wide) → Val (c .wide .result)
 wide-is c =
@@ -29,8 +29,8 @@ times-requires c κs = search needs
 mul-t4 : tie.Need-mul-t4
 mul-t4 c = let r = square-is c in does-fit (search machine depth 20) tt
 
-speed2-requires : tie.Need-speed2-requires
-speed2-requires c κs = let t = c .before .before .before .pre .0 in (wider (t .x), wider (t .y), wider (t .z))
+speed-squared-requires : tie.Need-speed-squared-requires
+speed-squared-requires c κs = let t = c .before .before .before .pre .0 in (wider (t .x), wider (t .y), wider (t .z))
 
 mul-t6 : tie.Need-mul-t6
 mul-t6 c = let q = speed-is c in does-fit (search machine depth 20) tt
@@ -69,4 +69,4 @@ returns c =
 pub common-of-spec : {M : Type 1} → statement M
 common-of-spec =
     tie.close
-    (tie.spec times-requires mul-t4 speed2-requires mul-t6 sub-t7 mul-t8 mul-t9 wide-requires mul-t11 returns)
+    (tie.spec times-requires mul-t4 speed-squared-requires mul-t6 sub-t7 mul-t8 mul-t9 wide-requires mul-t11 returns)

@@ -116,10 +116,10 @@ begins : (c : tie.After-still Inv-loop μ-loop) → c .still .result ≡ begun (
 begins c =
     let i = c .before .before .before .before .loop .i in
     let w = c .before .before .weight-of .ensures in
-    let e : toZ w64 (ofZ w64 (c .before .before .weight-of .result)) ≡ pos (d3q19 .weight i) = reads-as (v64 (same w (inside (weight-in i (omega arith) (omega arith))))) tt in
-    let e2 : toZ w32 (ofZ w32 (getD (c .before .before .before .before .before .before .dots .result) i (pos 0))) ≡ getD (c .before .before .before .before .before .before .dots .result) i (pos 0) =
+    let ew : toZ w64 (ofZ w64 (c .before .before .weight-of .result)) ≡ pos (d3q19 .weight i) = reads-as (v64 (same w (inside (weight-in i (omega arith) (omega arith))))) tt in
+    let ed : toZ w32 (ofZ w32 (getD (c .before .before .before .before .before .before .dots .result) i (pos 0))) ≡ getD (c .before .before .before .before .before .before .dots .result) i (pos 0) =
     reads-as (v32 (inside (dot-bound (c .before .before .before .before .before .before) i (omega arith)))) tt in
-    rw (e, e2) at (c .still .ensures .0)
+    rw (ew, ed) at (c .still .ensures .0)
 
 taken : (r s x : ℤ) → r -ℤ s -ℤ x ≡ r -ℤ (s +ℤ x)
 taken r s x = ring-by (r ∷ s ∷ x ∷ []) (search quotes depth 20) (search quotes depth 20) tt

@@ -42,35 +42,35 @@ apart-requires-7 c κs = search needs
 add-t10 : tie.Need-add-t10
 add-t10 c =
     let s = c .before .before .before .before .before .before .before .before in
-    let h0 = pair-is s 0 (lit< tt) (c .apart7 .ensures) in
-    let h3 = pair-is s 3 (lit< tt) (c .before .before .before .before .before .before .before .apart .ensures) in
+    let x = pair-is s 0 (lit< tt) (c .apart7 .ensures) in
+    let xy = pair-is s 3 (lit< tt) (c .before .before .before .before .before .before .before .apart .ensures) in
     does-fit (search machine depth 20) tt
 
 add-t11 : tie.Need-add-t11
 add-t11 c =
     let s = c .before .before .before .before .before .before .before .before in
-    let h0 = pair-is s 0 (lit< tt) (c .apart7 .ensures) in
-    let h3 = pair-is s 3 (lit< tt) (c .before .before .before .before .before .before .before .apart .ensures) in
-    let h4 = pair-is s 4 (lit< tt) (c .before .before .before .before .before .before .apart2 .ensures) in
+    let x = pair-is s 0 (lit< tt) (c .apart7 .ensures) in
+    let xy = pair-is s 3 (lit< tt) (c .before .before .before .before .before .before .before .apart .ensures) in
+    let yx = pair-is s 4 (lit< tt) (c .before .before .before .before .before .before .apart2 .ensures) in
     does-fit (search machine depth 20) tt
 
 add-t12 : tie.Need-add-t12
 add-t12 c =
     let s = c .before .before .before .before .before .before .before .before in
-    let h0 = pair-is s 0 (lit< tt) (c .apart7 .ensures) in
-    let h3 = pair-is s 3 (lit< tt) (c .before .before .before .before .before .before .before .apart .ensures) in
-    let h4 = pair-is s 4 (lit< tt) (c .before .before .before .before .before .before .apart2 .ensures) in
-    let h7 = pair-is s 7 (lit< tt) (c .before .before .before .apart5 .ensures) in
+    let x = pair-is s 0 (lit< tt) (c .apart7 .ensures) in
+    let xy = pair-is s 3 (lit< tt) (c .before .before .before .before .before .before .before .apart .ensures) in
+    let yx = pair-is s 4 (lit< tt) (c .before .before .before .before .before .before .apart2 .ensures) in
+    let xz = pair-is s 7 (lit< tt) (c .before .before .before .apart5 .ensures) in
     does-fit (search machine depth 20) tt
 
 add-t13 : tie.Need-add-t13
 add-t13 c =
     let s = c .before .before .before .before .before .before .before .before in
-    let h0 = pair-is s 0 (lit< tt) (c .apart7 .ensures) in
-    let h3 = pair-is s 3 (lit< tt) (c .before .before .before .before .before .before .before .apart .ensures) in
-    let h4 = pair-is s 4 (lit< tt) (c .before .before .before .before .before .before .apart2 .ensures) in
-    let h7 = pair-is s 7 (lit< tt) (c .before .before .before .apart5 .ensures) in
-    let h8 = pair-is s 8 (lit< tt) (c .before .before .apart6 .ensures) in
+    let x = pair-is s 0 (lit< tt) (c .apart7 .ensures) in
+    let xy = pair-is s 3 (lit< tt) (c .before .before .before .before .before .before .before .apart .ensures) in
+    let yx = pair-is s 4 (lit< tt) (c .before .before .before .before .before .before .apart2 .ensures) in
+    let xz = pair-is s 7 (lit< tt) (c .before .before .before .apart5 .ensures) in
+    let zx = pair-is s 8 (lit< tt) (c .before .before .apart6 .ensures) in
     does-fit (search machine depth 20) tt
 
 apart-requires-8 : tie.Need-apart-requires-8
@@ -79,35 +79,35 @@ apart-requires-8 c κs = search needs
 add-t15 : tie.Need-add-t15
 add-t15 c =
     let s = c .before .before .before .before .before .before .before .before .before in
-    let h1 = pair-is s 1 (lit< tt) (c .apart8 .ensures) in
-    let h3 = pair-is s 3 (lit< tt) (c .before .before .before .before .before .before .before .before .apart .ensures) in
+    let y = pair-is s 1 (lit< tt) (c .apart8 .ensures) in
+    let xy = pair-is s 3 (lit< tt) (c .before .before .before .before .before .before .before .before .apart .ensures) in
     does-fit (search machine depth 20) tt
 
 sub-t16 : tie.Need-sub-t16
 sub-t16 c =
     let s = c .before .before .before .before .before .before .before .before .before in
-    let h1 = pair-is s 1 (lit< tt) (c .apart8 .ensures) in
-    let h3 = pair-is s 3 (lit< tt) (c .before .before .before .before .before .before .before .before .apart .ensures) in
-    let h4 = pair-is s 4 (lit< tt) (c .before .before .before .before .before .before .before .apart2 .ensures) in
+    let y = pair-is s 1 (lit< tt) (c .apart8 .ensures) in
+    let xy = pair-is s 3 (lit< tt) (c .before .before .before .before .before .before .before .before .apart .ensures) in
+    let yx = pair-is s 4 (lit< tt) (c .before .before .before .before .before .before .before .apart2 .ensures) in
     does-fit (search machine depth 20) tt
 
 add-t17 : tie.Need-add-t17
 add-t17 c =
     let s = c .before .before .before .before .before .before .before .before .before in
-    let h1 = pair-is s 1 (lit< tt) (c .apart8 .ensures) in
-    let h3 = pair-is s 3 (lit< tt) (c .before .before .before .before .before .before .before .before .apart .ensures) in
-    let h4 = pair-is s 4 (lit< tt) (c .before .before .before .before .before .before .before .apart2 .ensures) in
-    let h5 = pair-is s 5 (lit< tt) (c .before .before .before .before .before .before .apart3 .ensures) in
+    let y = pair-is s 1 (lit< tt) (c .apart8 .ensures) in
+    let xy = pair-is s 3 (lit< tt) (c .before .before .before .before .before .before .before .before .apart .ensures) in
+    let yx = pair-is s 4 (lit< tt) (c .before .before .before .before .before .before .before .apart2 .ensures) in
+    let yz = pair-is s 5 (lit< tt) (c .before .before .before .before .before .before .apart3 .ensures) in
     does-fit (search machine depth 20) tt
 
 add-t18 : tie.Need-add-t18
 add-t18 c =
     let s = c .before .before .before .before .before .before .before .before .before in
-    let h1 = pair-is s 1 (lit< tt) (c .apart8 .ensures) in
-    let h3 = pair-is s 3 (lit< tt) (c .before .before .before .before .before .before .before .before .apart .ensures) in
-    let h4 = pair-is s 4 (lit< tt) (c .before .before .before .before .before .before .before .apart2 .ensures) in
-    let h5 = pair-is s 5 (lit< tt) (c .before .before .before .before .before .before .apart3 .ensures) in
-    let h6 = pair-is s 6 (lit< tt) (c .before .before .before .before .before .apart4 .ensures) in
+    let y = pair-is s 1 (lit< tt) (c .apart8 .ensures) in
+    let xy = pair-is s 3 (lit< tt) (c .before .before .before .before .before .before .before .before .apart .ensures) in
+    let yx = pair-is s 4 (lit< tt) (c .before .before .before .before .before .before .before .apart2 .ensures) in
+    let yz = pair-is s 5 (lit< tt) (c .before .before .before .before .before .before .apart3 .ensures) in
+    let zy = pair-is s 6 (lit< tt) (c .before .before .before .before .before .apart4 .ensures) in
     does-fit (search machine depth 20) tt
 
 apart-requires-9 : tie.Need-apart-requires-9
@@ -116,49 +116,49 @@ apart-requires-9 c κs = search needs
 add-t20 : tie.Need-add-t20
 add-t20 c =
     let s = c .before .before .before .before .before .before .before .before .before .before in
-    let h2 = pair-is s 2 (lit< tt) (c .apart9 .ensures) in
-    let h5 = pair-is s 5 (lit< tt) (c .before .before .before .before .before .before .before .apart3 .ensures) in
+    let z = pair-is s 2 (lit< tt) (c .apart9 .ensures) in
+    let yz = pair-is s 5 (lit< tt) (c .before .before .before .before .before .before .before .apart3 .ensures) in
     does-fit (search machine depth 20) tt
 
 sub-t21 : tie.Need-sub-t21
 sub-t21 c =
     let s = c .before .before .before .before .before .before .before .before .before .before in
-    let h2 = pair-is s 2 (lit< tt) (c .apart9 .ensures) in
-    let h5 = pair-is s 5 (lit< tt) (c .before .before .before .before .before .before .before .apart3 .ensures) in
-    let h6 = pair-is s 6 (lit< tt) (c .before .before .before .before .before .before .apart4 .ensures) in
+    let z = pair-is s 2 (lit< tt) (c .apart9 .ensures) in
+    let yz = pair-is s 5 (lit< tt) (c .before .before .before .before .before .before .before .apart3 .ensures) in
+    let zy = pair-is s 6 (lit< tt) (c .before .before .before .before .before .before .apart4 .ensures) in
     does-fit (search machine depth 20) tt
 
 add-t22 : tie.Need-add-t22
 add-t22 c =
     let s = c .before .before .before .before .before .before .before .before .before .before in
-    let h2 = pair-is s 2 (lit< tt) (c .apart9 .ensures) in
-    let h5 = pair-is s 5 (lit< tt) (c .before .before .before .before .before .before .before .apart3 .ensures) in
-    let h6 = pair-is s 6 (lit< tt) (c .before .before .before .before .before .before .apart4 .ensures) in
-    let h7 = pair-is s 7 (lit< tt) (c .before .before .before .before .before .apart5 .ensures) in
+    let z = pair-is s 2 (lit< tt) (c .apart9 .ensures) in
+    let yz = pair-is s 5 (lit< tt) (c .before .before .before .before .before .before .before .apart3 .ensures) in
+    let zy = pair-is s 6 (lit< tt) (c .before .before .before .before .before .before .apart4 .ensures) in
+    let xz = pair-is s 7 (lit< tt) (c .before .before .before .before .before .apart5 .ensures) in
     does-fit (search machine depth 20) tt
 
 sub-t23 : tie.Need-sub-t23
 sub-t23 c =
     let s = c .before .before .before .before .before .before .before .before .before .before in
-    let h2 = pair-is s 2 (lit< tt) (c .apart9 .ensures) in
-    let h5 = pair-is s 5 (lit< tt) (c .before .before .before .before .before .before .before .apart3 .ensures) in
-    let h6 = pair-is s 6 (lit< tt) (c .before .before .before .before .before .before .apart4 .ensures) in
-    let h7 = pair-is s 7 (lit< tt) (c .before .before .before .before .before .apart5 .ensures) in
-    let h8 = pair-is s 8 (lit< tt) (c .before .before .before .before .apart6 .ensures) in
+    let z = pair-is s 2 (lit< tt) (c .apart9 .ensures) in
+    let yz = pair-is s 5 (lit< tt) (c .before .before .before .before .before .before .before .apart3 .ensures) in
+    let zy = pair-is s 6 (lit< tt) (c .before .before .before .before .before .before .apart4 .ensures) in
+    let xz = pair-is s 7 (lit< tt) (c .before .before .before .before .before .apart5 .ensures) in
+    let zx = pair-is s 8 (lit< tt) (c .before .before .before .before .apart6 .ensures) in
     does-fit (search machine depth 20) tt
 
 returns : tie.Need-returns
 returns c =
     let s = c .before .before .before .before .before .before .before .before .before .before in
-    let h3 = pair-is s 3 (lit< tt) (c .before .before .before .before .before .before .before .before .before .apart .ensures) in
-    let h4 = pair-is s 4 (lit< tt) (c .before .before .before .before .before .before .before .before .apart2 .ensures) in
-    let h5 = pair-is s 5 (lit< tt) (c .before .before .before .before .before .before .before .apart3 .ensures) in
-    let h6 = pair-is s 6 (lit< tt) (c .before .before .before .before .before .before .apart4 .ensures) in
-    let h7 = pair-is s 7 (lit< tt) (c .before .before .before .before .before .apart5 .ensures) in
-    let h8 = pair-is s 8 (lit< tt) (c .before .before .before .before .apart6 .ensures) in
-    let h0 = pair-is s 0 (lit< tt) (c .before .before .apart7 .ensures) in
-    let h1 = pair-is s 1 (lit< tt) (c .before .apart8 .ensures) in
-    let h2 = pair-is s 2 (lit< tt) (c .apart9 .ensures) in
+    let xy = pair-is s 3 (lit< tt) (c .before .before .before .before .before .before .before .before .before .apart .ensures) in
+    let yx = pair-is s 4 (lit< tt) (c .before .before .before .before .before .before .before .before .apart2 .ensures) in
+    let yz = pair-is s 5 (lit< tt) (c .before .before .before .before .before .before .before .apart3 .ensures) in
+    let zy = pair-is s 6 (lit< tt) (c .before .before .before .before .before .before .apart4 .ensures) in
+    let xz = pair-is s 7 (lit< tt) (c .before .before .before .before .before .apart5 .ensures) in
+    let zx = pair-is s 8 (lit< tt) (c .before .before .before .before .apart6 .ensures) in
+    let x = pair-is s 0 (lit< tt) (c .before .before .apart7 .ensures) in
+    let y = pair-is s 1 (lit< tt) (c .before .apart8 .ensures) in
+    let z = pair-is s 2 (lit< tt) (c .apart9 .ensures) in
     let rho = same (c .before .before .before .density .ensures) (inside (density-in (s .args .f) (s .pre))) in
     let f = partsOf (s .args .f) in (
       reads-as (search machine depth 20) tt,

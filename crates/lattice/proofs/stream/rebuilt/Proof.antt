@@ -34,13 +34,13 @@ square-is c = let r = v32 (inside (c .before .before .before .pre .0 .rho)) in s
 abbrev along-is : (c : tie.After-times2) → Val (c .times2 .result)
 along-is c = let d = v32 (inside (c .before .before .before .before .pre .3)) in same (c .times2 .ensures) (v* d d)
 
-abbrev speed-is : (c : tie.After-speed2) → Val (c .speed2 .result)
+abbrev speed-is : (c : tie.After-speed-squared) → Val (c .speed-squared .result)
 speed-is c =
     let t = c .before .before .before .before .before .pre .0 in
     let x = inside (t .x) in
     let y = inside (t .y) in
     let z = inside (t .z) in
-    same (c .speed2 .ensures) (v+ (v+ (v* x x) (v* y y)) (v* z z))
+    same (c .speed-squared .ensures) (v+ (v+ (v* x x) (v* y y)) (v* z z))
 
 times-requires : tie.Need-times-requires
 times-requires c κs = search needs
@@ -60,8 +60,8 @@ mul-result-3 c = let d = along-is c in does-fit (search machine depth 20) tt
 add-result : tie.Need-add-result
 add-result c = let r = square-is (c .before) in let d = along-is c in does-fit (search machine depth 20) tt
 
-speed2-requires : tie.Need-speed2-requires
-speed2-requires c κs = let t = c .before .before .before .before .pre .0 in (wider (t .x), wider (t .y), wider (t .z))
+speed-squared-requires : tie.Need-speed-squared-requires
+speed-squared-requires c κs = let t = c .before .before .before .before .pre .0 in (wider (t .x), wider (t .y), wider (t .z))
 
 mul-result-4 : tie.Need-mul-result-4
 mul-result-4 c = let q = speed-is c in does-fit (search machine depth 20) tt
@@ -113,7 +113,7 @@ rebuilt-spec =
     times-requires-2
     mul-result-3
     add-result
-    speed2-requires
+    speed-squared-requires
     mul-result-4
     sub-result
     mul-result-5

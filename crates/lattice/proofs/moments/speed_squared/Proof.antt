@@ -1,9 +1,9 @@
--- `lattice::moments::speed2`: the squares and their sums fit. Assumes nothing.
+-- `lattice::moments::speed_squared`: the squares and their sums fit. Assumes nothing.
 use borrow.Author.Needs.{needs}
 use Rattle.whole.specs.Machine.{Val, machine, same, v*, v32, does-fit, reads-as}
 use Rattle.lattice.proofs.Reading.{inside}
-use Rattle.lattice.proofs.moments.speed2.Statement.{statement}
-use Rattle.lattice.proofs.moments.speed2.Tie as tie
+use Rattle.lattice.proofs.moments.speed_squared.Statement.{statement}
+use Rattle.lattice.proofs.moments.speed_squared.Tie as tie
 
 abbrev x-is : (c : tie.After-times) → Val (c .times .result)
 x-is c = let x = v32 (inside (c .before .before .before .pre .0)) in same (c .times .ensures) (v* x x)
@@ -32,5 +32,5 @@ add-result-2 c = let x = x-is (c .before .before .before .before .before .before
 returns : tie.Need-returns
 returns c = let x = x-is (c .before .before .before .before .before .before) in let y = y-is (c .before .before .before) in let z = z-is c in reads-as (search machine depth 20) tt
 
-pub speed2-spec : {M : Type 1} → statement M
-speed2-spec = tie.close (tie.spec times-requires times-requires-2 add-result times-requires-3 add-result-2 returns)
+pub speed-squared-spec : {M : Type 1} → statement M
+speed-squared-spec = tie.close (tie.spec times-requires times-requires-2 add-result times-requires-3 add-result-2 returns)
