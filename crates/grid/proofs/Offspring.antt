@@ -75,7 +75,7 @@ module _ (s : Sides) (g : Settings) (flags : List ℕ) (parts masses : List ℤ)
   is-cell {c} h = subst (λ (n : ℕ). c < n) (p .flags) h
 
   -- no wall, so inner
-  within : (c : ℕ) → c < cellsOf s → getD flags c 3 < 3 → Inner s c
+  pub within : (c : ℕ) → c < cellsOf s → getD flags c 3 < 3 → Inner s c
   unfolding stateOf
   within c h f = poised-inner s g (uncarried flags parts masses fills) p c h (λ e. absurd (omega arith))
 
@@ -191,7 +191,7 @@ module _ (s : Sides) (g : Settings) (flags : List ℕ) (parts masses : List ℤ)
     filled-wet (suc (suc zero)) o e = absurd (false≢true e)
     filled-wet (suc (suc (suc n))) o e = absurd (false≢true e)
 
-    fed : (c : ℕ) → c < cellsOf s → newlyBorn flags flags2 c ≡ true → 0 < liquidNear seen c
+    pub fed : (c : ℕ) → c < cellsOf s → newlyBorn flags flags2 c ≡ true → 0 < liquidNear seen c
     unfolding newFlag besideFilled filled liquidNear sceneOf stateOf d3q19
     fed c h e =
         let w = was-empty c e in
@@ -223,11 +223,11 @@ module _ (s : Sides) (g : Settings) (flags : List ℕ) (parts masses : List ℤ)
     pick true b d x h = h refl
     pick false b d x h = refl
 
-    is-born : (c : ℕ) → c < cellsOf s → flagAt step c ≡ 0 → newFlag step c ≡ 1 → newlyBorn flags flags2 c ≡ true
+    pub is-born : (c : ℕ) → c < cellsOf s → flagAt step c ≡ 0 → newFlag step c ≡ 1 → newlyBorn flags flags2 c ≡ true
     unfolding sceneOf stateOf
     is-born c h z n = born-test c h ∙ and-true (eqb (getD flags c 3) 0) (eqb (newFlag step c) 1) (eq-eqb (getD flags c 3) 0 z) (eq-eqb (newFlag step c) 1 n)
 
-    new-part : (c k : ℕ) → flagAt step c ≡ 0 → newFlag step c ≡ 1 → newPart step c k ≡ born step c k
+    pub new-part : (c k : ℕ) → flagAt step c ≡ 0 → newFlag step c ≡ 1 → newPart step c k ≡ born step c k
     unfolding newPart newFlag
     new-part c k z n =
         ap (λ (f : ℕ). byFlag f (cond (besideFilled step c) (born step c k) (pos 0)) (cond (emptied step c) (pos 0) (collided step c k)) (collided step c k) (pos 0)) z
