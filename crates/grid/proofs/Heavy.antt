@@ -1,25 +1,23 @@
 -- How large the parts of the next state can be: 32 bits hold their sum, and an interface cell has a density. This is what stage 7 asks. Assumes nothing.
-use mathlib.Core.Path.{_≡_, refl, sym, ap, ap₂, _∙_, subst}
-use mathlib.Core.Bool.{Bool, true, false, _&&_, cond, false≢true}
-use mathlib.Core.List.{List}
+use mathlib.Core.Path.{_≡_, sym, ap, subst}
 use Prim.Native.Nat.{ℕ, zero, suc, _+_, _-_, _*_, _≤_, _<_}
-use native.Mathlib.Nat.{mul-le-mul, mul-le-mul-left, not-suc-le-zero}
+use native.Mathlib.Nat.{mul-le-mul-left, not-suc-le-zero}
 use native.Mathlib.Omega.{arith}
 use lib.IntN.{ℤ, pos, natAbs, _+ℤ_, _-ℤ_, _*ℤ_}
 use lib.Signed.{_≤ℤ_, _<ℤ_, quotZ}
 use Rattle.whole.specs.Bounds.{abs-add, abs-sub, abs-mul, abs-above}
 use Rattle.whole.specs.Fold.{sum, dirs}
-use Rattle.whole.specs.Machine.{Val, Within, within-by}
+use Rattle.whole.specs.Machine.{Within, within-by}
 use Rattle.whole.specs.Parts.{≤-parts, parts-<}
 use Rattle.whole.specs.Sums.{sum-abs}
-use Rattle.lattice.specs.Lattice.{V3, dot, d3q19, density}
+use Rattle.lattice.specs.Lattice.{dot, d3q19, density}
 use Rattle.lattice.specs.Cell.{quad, relaxed, still}
 use Rattle.lattice.proofs.Reading.{reading, is-least}
 use Rattle.lattice.specs.Body.{vec, Tame}
 use Rattle.lattice.specs.declared.Flow.{Flow}
 use Rattle.grid.specs.Filled.{Weighty}
 use Rattle.grid.proofs.Same.{density-same}
-use Rattle.grid.proofs.Spans.{short, weight-low}
+use Rattle.grid.proofs.Spans.{short}
 
 -- ---- the formulas of stages 4 and 5
 module _ {ρ : ℤ} (low : pos 294912 ≤ℤ ρ) (high : Within ρ 1179648) where

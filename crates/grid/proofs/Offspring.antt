@@ -8,12 +8,12 @@ use Prim.Native.Nat.{ℕ, zero, suc, _+_, _-_, _*_, _/_, _%_, _≤_, _<_}
 use native.Mathlib.Nat.{not-suc-le-zero, lt-suc-self, le-step, eq-or-lt-of-le, le-of-suc-le-suc, mod-lt, div-add-mod}
 use native.Mathlib.Omega.{arith}
 use lib.Dec.{eqb}
-use lib.IntN.{ℤ, pos, _-ℤ_}
+use lib.IntN.{ℤ, pos}
 use lib.ListN.{length, getD}
 use borrow.Author.Tests.{eqb-true, eq-eqb, ne-eqb}
 use Rattle.whole.specs.Bools.{and-left, and-right, and-true, cond-yes, cond-no}
-use Rattle.whole.specs.Fold.{tab, all, any, count, sum, first}
-use Rattle.whole.specs.Search.{Dir, as-dir, all-at, any-where, first-none}
+use Rattle.whole.specs.Fold.{tab, all, count, first}
+use Rattle.whole.specs.Search.{all-at, any-where, first-none}
 use Rattle.whole.specs.Sums.{sum-cong}
 use Rattle.whole.specs.Tab.{getD-tab, length-tab, tab-cong}
 use Rattle.lattice.specs.Lattice.{V3, dot, d3q19}
@@ -29,7 +29,7 @@ use Rattle.grid.specs.Good.{bodyGood}
 use Rattle.grid.specs.Outcome.{settingsGood, sceneOf}
 use Rattle.grid.specs.Between.{Poised, uncarried, movedPart, bornPart}
 use Rattle.grid.specs.Passes.{Inner, lowOf, offsetOf}
-use Rattle.grid.specs.Sight.{Around, flowing, sight}
+use Rattle.grid.specs.Sight.{Around, sight}
 use Rattle.grid.specs.Born.{Tested, Fertile, Peopled, flowSight, newlyBorn, laterPart, laterFair}
 use Rattle.grid.proofs.Beside.{Offsets, place-is, place-low}
 use Rattle.grid.proofs.Listed.{part-at}

@@ -1,21 +1,21 @@
 -- From the next state's flags, parts and masses to what the fills pass asks, and from what it leaves to the next state's fills. Assumes nothing.
 use mathlib.Core.Path.{_≡_, refl, sym, ap, ap₂, _∙_, subst}
-use mathlib.Core.Bool.{Bool, true, false, _&&_, _||_, not, cond, false≢true}
+use mathlib.Core.Bool.{Bool, true, false, _||_, not, cond}
 use mathlib.Core.List.{List}
 use Prim.Native.Nat.{ℕ, zero, suc, _+_, _-_, _*_, _/_, _%_, _≤_, _<_}
 use native.Mathlib.Omega.{arith}
 use lib.Dec.{eqb}
 use lib.IntN.{ℤ, pos}
 use lib.ListN.{length, getD}
-use borrow.Author.Tests.{eqb-true, eq-eqb, ne-eqb}
+use borrow.Author.Tests.{eq-eqb}
 use Rattle.whole.specs.Bools.{and-true, where-then, cond-no}
-use Rattle.whole.specs.Fold.{tab, all, first}
+use Rattle.whole.specs.Fold.{tab, first}
 use Rattle.whole.specs.Machine.{Within}
 use Rattle.whole.specs.Search.{all-at}
 use Rattle.whole.specs.Tab.{getD-tab, length-tab, tab-cong}
-use Rattle.lattice.specs.Lattice.{V3, dot, d3q19, density}
-use Rattle.lattice.specs.Cell.{dense, slow, massGood, relaxationGood, gravityGood}
-use Rattle.lattice.specs.Body.{vec, Tame, steadyFlow}
+use Rattle.lattice.specs.Lattice.{dot, d3q19}
+use Rattle.lattice.specs.Cell.{dense, slow, massGood, relaxationGood}
+use Rattle.lattice.specs.Body.{Tame, steadyFlow}
 use Rattle.lattice.specs.declared.Flow.{Flow}
 use Rattle.lattice.specs.declared.Settings.{Settings}
 use Rattle.lattice.proofs.Collision.{relaxation-in}
@@ -26,11 +26,10 @@ use Rattle.grid.specs.State.{Scene, byFlag, liquid, stateOf}
 use Rattle.grid.specs.Step.{flagAt, newDensity, newMomentum, tooFast, collidedDir, collided, filled, emptied, besideFilled, besideEmptied, flagAfter, newFlag, liquidNear, bornDensity, bornMomentum, bornDir, born, newPart, newMass, fillFor, newFill}
 use Rattle.grid.specs.Outcome.{sceneOf}
 use Rattle.grid.specs.Between.{Poised, uncarried}
-use Rattle.grid.specs.Passes.{Inner, lowOf, offsetOf}
+use Rattle.grid.specs.Passes.{lowOf, offsetOf}
 use Rattle.grid.specs.Sight.{Around, sight}
-use Rattle.grid.specs.Born.{Tested, Begins, flowSight}
+use Rattle.grid.specs.Born.{Tested, flowSight}
 use Rattle.grid.specs.Filled.{Weighty, Fillable, Refilled, partOf, fillAt, fairMass, fairAt}
-use Rattle.grid.proofs.Beside.{Offsets}
 use Rattle.grid.proofs.Births.{wet-low}
 use Rattle.grid.proofs.Collisions.{relaxation-of}
 use Rattle.grid.proofs.Heavy.{still-in, relaxed-in, weighty, weighty-same, quad-of}

@@ -1,9 +1,8 @@
 -- `grid::birth::mean_flow`: the sums over the directions passed, and their means. Assumes nothing.
 use borrow.Author.Needs.{needs}
 use mathlib.Core.Path.{_≡_, subst}
-use Prim.Native.Nat.{ℕ, _+_, _-_, _≤_, _<_}
+use Prim.Native.Nat.{ℕ, _-_, _≤_}
 use native.Mathlib.Omega.{arith}
-use lib.ListN.{length, getD}
 use Rattle.grid.proofs.Means.{Summed, summed-none, summed-more, roomy, countable-all, begins}
 use Rattle.grid.proofs.birth.mean_flow.Statement.{statement}
 use Rattle.grid.proofs.birth.mean_flow.Tie as tie

@@ -1,13 +1,12 @@
 -- `grid::trading::traded_mass`: the mass and what is gained from the directions passed, two a turn. Assumes nothing.
 use borrow.Author.Needs.{needs}
-use mathlib.Core.Path.{_≡_, refl, sym, _∙_, ap}
-use Prim.Native.Nat.{ℕ, suc, _+_, _-_, _%_, _≤_, _<_}
+use mathlib.Core.Path.{_≡_, refl, _∙_, ap}
+use Prim.Native.Nat.{_+_, _-_, _%_, _≤_}
 use native.Mathlib.Omega.{arith}
-use lib.IntN.{ℤ, pos, natAbs, _+ℤ_, +ℤ-idr}
-use lib.ListN.{length, getD}
+use lib.IntN.{pos}
+use lib.ListN.{getD}
 use mir.Syntax.{w64}
-use mir.Val.{toZ, ofZ}
-use Rattle.whole.specs.Fold.{sum}
+use mir.Val.{toZ}
 use Rattle.whole.specs.Machine.{Val, machine, known, same, does-fit, reads-as}
 use Rattle.grid.proofs.Held.{held32, held64}
 use Rattle.grid.proofs.Trades.{gain, gained, gained-none, gained-all, first-is, second-is, gained-pair, gain-within, gained-within}
