@@ -49,7 +49,7 @@ element-copy-out-traded : tie.Need-element-copy-out-traded Inv-loop μ-loop
 element-copy-out-traded c = search needs
 
 add-traded : tie.Need-add-traded Inv-loop μ-loop
-add-traded c = let s = c .before .before .before .before .before .before .before in record { fits = omega (arith, s .pre .1 .each (c .before .before .loop .i) (c .before .loop-test .taken), s .pre .0 .bodies .few) }
+add-traded c = let s = c .before .before .before .before .before .before .before in record { fits = omega (arith, s .pre .1 .each (c .before .before .loop .i) (omega arith), s .pre .0 .bodies .few) }
 
 add-traded-2 : tie.Need-add-traded-2 Inv-loop μ-loop
 add-traded-2 c = search needs
@@ -58,7 +58,7 @@ traded-requires : tie.Need-traded-requires Inv-loop μ-loop
 traded-requires c κs =
     let s = c .before .before .before .before .before .before .before in
     let i = c .before .before .loop .i in
-    (s .pre .0 .bodies, s .pre .0 .fills-good, s .pre .1 .is-cell, s .pre .1 .each i (c .before .loop-test .taken), c .before .loop-test .taken, omega arith)
+    (s .pre .0 .bodies, s .pre .0 .fills-good, s .pre .1 .is-cell, s .pre .1 .each i (omega arith), omega arith, omega arith)
 
 -- what stands in m, and what the two calls give
 abbrev so-far : (c : tie.At-loop Inv-loop μ-loop) → Val (toZ w64 (c .loop .m))
