@@ -18,9 +18,11 @@ pub mod neighbours;
 pub mod passing;
 pub mod sets;
 pub mod settling;
+pub mod stepping;
 pub mod straying;
 pub mod streaming;
 pub mod trading;
+pub mod turning;
 
 // The sides of a grid, in cells.
 pub struct Sides {

@@ -1,0 +1,48 @@
+// What every step in whole numbers offers here: the step and the run of document 01 over the same lent sets.
+
+use oracle::{Set, SetMut};
+
+/// The settings that a step takes.
+#[derive(Clone, Copy, Debug, PartialEq, Eq)]
+pub struct Settings {
+    pub p: i64,
+    pub gravity: [i64; 3],
+}
+
+/// Number and place of a refusal, 0 0 where there is none.
+#[derive(Clone, Copy, Debug, PartialEq, Eq)]
+pub struct Answer {
+    pub number: u8,
+    pub place: usize,
+}
+
+pub const ACCEPTED: Answer = Answer { number: 0, place: 0 };
+
+impl Answer {
+    pub fn refused(number: u8, place: usize) -> Answer {
+        Answer { number, place }
+    }
+}
+
+/// What a run answers: how many steps were accepted, and what stopped it.
+#[derive(Clone, Copy, Debug, PartialEq, Eq)]
+pub struct Ran {
+    pub count: usize,
+    pub answer: Answer,
+}
+
+pub type Step = fn([usize; 3], Settings, Set, SetMut, &mut [u8]) -> Answer;
+pub type Run = fn([usize; 3], Settings, usize, SetMut, SetMut, &mut [u8]) -> Ran;
+
+/// One implementation of document 01's step and run.
+#[derive(Clone, Copy)]
+pub struct Engine {
+    pub name: &'static str,
+    pub step: Step,
+    pub run: Run,
+}
+
+/// Lends a set once more, for a call that takes it by value.
+pub fn lend_again<'a>(set: &'a mut SetMut) -> SetMut<'a> {
+    SetMut { flags: set.flags, parts: set.parts, masses: set.masses, fills: set.fills, carry: set.carry }
+}

@@ -1,0 +1,198 @@
+// The box of cells for the two steps written by hand: its directions, its neighbours, and all that flags alone decide.
+
+use oracle::lattice::DIRECTIONS;
+pub use oracle::state::{EMPTY, FLUID, INTERFACE, WALL};
+
+/// The marks of a cell during a step.
+pub const NOTHING: u8 = 0;
+pub const FILLED: u8 = 1;
+pub const EMPTIED: u8 = 2;
+/// A fluid cell with no wall beside it: every part streams straight in.
+pub const OPEN: u8 = 1;
+
+#[inline(always)]
+pub const fn opposite(k: usize) -> usize {
+    if k % 2 == 1 {
+        k + 1
+    } else {
+        k - 1
+    }
+}
+
+/// A slice's element that is known to be there.
+///
+/// # Safety
+/// `i` lies inside the slice.
+#[inline(always)]
+pub unsafe fn at<T: Copy>(slice: &[T], i: usize) -> T {
+    debug_assert!(i < slice.len());
+    *slice.get_unchecked(i)
+}
+
+/// Writes a slice's element that is known to be there.
+///
+/// # Safety
+/// `i` lies inside the slice.
+#[inline(always)]
+pub unsafe fn put<T>(slice: &mut [T], i: usize, value: T) {
+    debug_assert!(i < slice.len());
+    *slice.get_unchecked_mut(i) = value;
+}
+
+/// Adds to a slice's element that is known to be there.
+///
+/// # Safety
+/// `i` lies inside the slice.
+#[inline(always)]
+pub unsafe fn add<T: std::ops::AddAssign>(slice: &mut [T], i: usize, value: T) {
+    debug_assert!(i < slice.len());
+    *slice.get_unchecked_mut(i) += value;
+}
+
+pub struct Grid {
+    pub sides: [usize; 3],
+    /// N, the number of cells.
+    pub n: usize,
+    /// The furthest neighbour's distance: cells from here to n − low have all theirs in the slice.
+    low: usize,
+    /// A neighbour's cell number less the cell's own, by direction.
+    distance: [isize; 19],
+    /// Where the part lies that streams straight into part k, counted from part 0 of the cell.
+    source: [isize; 19],
+}
+
+impl Grid {
+    /// Test 1.
+    pub fn new(sides: [usize; 3]) -> Option<Grid> {
+        let n = sides.iter().try_fold(1, |n, &side| (3..=128).contains(&side).then_some(n * side))?;
+        let [nx, ny, _] = sides.map(|side| side as i128);
+        let distance = DIRECTIONS.map(|[x, y, z]| (x + nx * (y + ny * z)) as isize);
+        let source = std::array::from_fn(|k| k as isize - 19 * distance[k]);
+        let low = (1 + nx + nx * ny) as usize;
+        (n <= 262_144).then_some(Grid { sides, n, low, distance, source })
+    }
+
+    /// The neighbour of a cell inside the outer layer.
+    #[inline(always)]
+    pub fn near(&self, c: usize, i: usize) -> usize {
+        c.wrapping_add_signed(self.distance[i])
+    }
+
+    /// What streams into part k of an open cell lies here among the parts.
+    #[inline(always)]
+    pub fn source(&self, c: usize, k: usize) -> usize {
+        (19 * c).wrapping_add_signed(self.source[k])
+    }
+
+    /// Is a neighbour's byte this one? Without a way out of the loop, so that the passes below take many cells at a time.
+    ///
+    /// # Safety
+    /// `c` has all its neighbours in the slice.
+    #[inline(always)]
+    unsafe fn beside(&self, bytes: &[u8], c: usize, byte: u8) -> bool {
+        let mut found = false;
+        for i in 1..19 {
+            found |= at(bytes, self.near(c, i)) == byte;
+        }
+        found
+    }
+
+    /// Test 4.
+    pub fn wrong_flag(&self, flags: &[u8]) -> Option<usize> {
+        let [nx, ny, nz] = self.sides;
+        for z in 0..nz {
+            for y in 0..ny {
+                let start = nx * (y + ny * z);
+                let row = &flags[start..start + nx];
+                let wrong = if y == 0 || y == ny - 1 || z == 0 || z == nz - 1 {
+                    row.iter().position(|&flag| flag != WALL)
+                } else if row[0] != WALL {
+                    Some(0)
+                } else {
+                    let wrong = row.iter().position(|&flag| flag > WALL);
+                    wrong.or((row[nx - 1] != WALL).then_some(nx - 1))
+                };
+                if let Some(x) = wrong {
+                    return Some(start + x);
+                }
+            }
+        }
+        None
+    }
+
+    /// Test 5, after test 4.
+    ///
+    /// # Safety
+    /// There are n flags.
+    pub unsafe fn open_fluid(&self, flags: &[u8]) -> Option<usize> {
+        let open = |c: usize| unsafe { (at(flags, c) == FLUID) & self.beside(flags, c, EMPTY) };
+        let mut cells = self.low..self.n - self.low;
+        // The place is looked for only where there is one.
+        let any = cells.clone().fold(false, |any, c| any | open(c));
+        if any {
+            cells.find(|&c| open(c))
+        } else {
+            None
+        }
+    }
+
+    /// Marks the open cells and clears all other marks but those of the outer layer's ends.
+    ///
+    /// # Safety
+    /// There are n flags and marks.
+    pub unsafe fn mark_open(&self, flags: &[u8], marks: &mut [u8]) {
+        for c in self.low..self.n - self.low {
+            let open = (at(flags, c) == FLUID) & !self.beside(flags, c, WALL);
+            put(marks, c, if open { OPEN } else { NOTHING });
+        }
+    }
+
+    /// Stage 5 but for parts and masses: those of the cells marked emptied that stay so, and the new flags.
+    ///
+    /// # Safety
+    /// There are n flags, new flags (a copy of them) and marks; the lists hold the cells so marked, none of the outer layer.
+    pub unsafe fn convert(&self, flags: &[u8], flags2: &mut [u8], marks: &mut [u8], changes: &mut Changes) {
+        changes.emptied.retain(|&c| {
+            let let_off = self.beside(marks, c, FILLED);
+            if let_off {
+                put(marks, c, NOTHING);
+            }
+            !let_off
+        });
+        for &c in &changes.filled {
+            put(flags2, c, FLUID);
+            for i in 1..19 {
+                let b = self.near(c, i);
+                // In the new flags, so that a cell beside two filled ones is born once.
+                if at(flags2, b) == EMPTY {
+                    put(flags2, b, INTERFACE);
+                    changes.born.push(b);
+                }
+            }
+        }
+        for &c in &changes.emptied {
+            put(flags2, c, EMPTY);
+            for i in 1..19 {
+                let b = self.near(c, i);
+                if at(flags, b) == FLUID {
+                    put(flags2, b, INTERFACE);
+                }
+            }
+        }
+    }
+}
+
+/// The cells that convert in a step, each list in any order.
+#[derive(Default)]
+pub struct Changes {
+    pub filled: Vec<usize>,
+    pub emptied: Vec<usize>,
+    /// Empty cells that become interface.
+    pub born: Vec<usize>,
+}
+
+impl Changes {
+    pub fn none(&self) -> bool {
+        self.filled.is_empty() && self.emptied.is_empty()
+    }
+}

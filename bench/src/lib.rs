@@ -1,0 +1,12 @@
+// What the benchmark and its tests share: the scenes, the steps that are compared, and how they are timed.
+
+pub mod engine;
+pub mod float;
+pub mod growth;
+pub mod identical;
+pub mod lattice;
+pub mod measure;
+pub mod native;
+pub mod plain;
+pub mod report;
+pub mod scenes;

@@ -1,0 +1,159 @@
+// The benchmark: the proved step beside the plain one and f32, held to be identical first, then timed in one run.
+
+use std::process::ExitCode;
+
+use oracle::Store;
+
+use bench::engine::{Engine, ACCEPTED};
+use bench::float::{self, FloatStore};
+use bench::growth;
+use bench::identical::{hunt, same_run, same_step, Case, Inputs, ORACLE};
+use bench::measure::{measure, Effort, WARM_UP};
+use bench::native;
+use bench::plain::PLAIN;
+use bench::report::{self, Totals};
+use bench::scenes::{self, Scene};
+
+const USAGE: &str = "bench [--quick] [--sides A,B,..]
+  --quick   little of everything, to see that it works: its times say nothing
+  --sides   of the cubes, 8 to 64; 32,48,64 if not said";
+
+struct Wish {
+    sides: Vec<usize>,
+    effort: Effort,
+    /// Random states on which each engine is held to the oracle.
+    seeds: u64,
+    /// Steps after which the water is counted.
+    steps: usize,
+    growth_sides: Vec<usize>,
+}
+
+fn wish(mut words: impl Iterator<Item = String>) -> Result<Wish, String> {
+    let mut wish = Wish {
+        sides: vec![32, 48, 64],
+        effort: Effort { rounds: 7, seconds: 0.3 },
+        seeds: 500,
+        steps: 1000,
+        growth_sides: vec![24, 32, 40, 48, 56, 64],
+    };
+    while let Some(word) = words.next() {
+        match word.as_str() {
+            "--quick" => {
+                wish.effort = Effort { rounds: 2, seconds: 0.02 };
+                (wish.seeds, wish.steps) = (50, 50);
+                (wish.sides, wish.growth_sides) = (vec![32], vec![16, 24, 32]);
+            }
+            "--sides" => {
+                let given = words.next().unwrap_or_default();
+                let side = |text: &str| text.parse().ok().filter(|side| (8..=64).contains(side));
+                let sides: Option<Vec<usize>> = given.split(',').map(side).collect();
+                wish.sides = sides.ok_or(format!("--sides: '{given}' is no list of sides\n{USAGE}"))?;
+            }
+            _ => return Err(format!("'{word}'?\n{USAGE}")),
+        }
+    }
+    Ok(wish)
+}
+
+/// Holds the engines to the oracle on random states.
+fn compare_random(engines: &[(Engine, Inputs)], seeds: u64) -> Result<(), String> {
+    for &(engine, inputs) in engines {
+        let tally = hunt(engine, 0..seeds, 6, inputs)?;
+        println!(
+            "identical   {} and the oracle: {} random steps accepted, {} refused, {} runs",
+            engine.name,
+            tally.steps[0],
+            tally.refused(),
+            tally.runs
+        );
+    }
+    Ok(())
+}
+
+/// Holds the engines to the oracle on a scene's first step, and on the step from the state that is timed.
+fn compare_scene(engines: &[(Engine, Inputs)], scene: &Scene) -> Result<(), String> {
+    let start = Case::of_scene(scene);
+    let mut warm = start.clone();
+    let ran = warm.run(PLAIN, WARM_UP);
+    if ran.answer != ACCEPTED {
+        return Err(format!("refused before it can be timed: {ran:?}"));
+    }
+    for &(engine, _) in engines {
+        for case in [&start, &Case::of(scene.sides, scene.settings, &warm.first)] {
+            same_step(engine, ORACLE, case)?;
+        }
+    }
+    Ok(())
+}
+
+fn total(store: &Store) -> i128 {
+    store.masses.iter().map(|&mass| i128::from(mass)).sum::<i128>() + i128::from(store.carry[0])
+}
+
+/// Runs a scene in whole numbers, the engines held to each other, and in f32: what water is left.
+fn count_water(engines: &[(Engine, Inputs)], scene: &Scene, steps: usize) -> Result<Totals, String> {
+    let start = Case::of_scene(scene);
+    let (first, _) = engines[0];
+    let (last, _) = engines[engines.len() - 1];
+    let (ran, after) = same_run(first, last, &start, steps)?;
+    let mut float = FloatStore::of(&scene.store);
+    let float_start = float.total();
+    let mut second = float.clone();
+    let mut marks = vec![0; float.flags.len()];
+    let float_ran = float::run(&scene.grid(), scene.settings, steps, &mut float, &mut second, &mut marks);
+    Ok(Totals {
+        scene: scene.name,
+        side: scene.sides[0],
+        start: total(&scene.store),
+        steps: ran.count,
+        lost: total(&scene.store) - total(&after.first),
+        float_steps: float_ran.count,
+        float_start,
+        float_lost: float_start - float.total(),
+    })
+}
+
+fn bench(wish: &Wish) -> Result<(), String> {
+    let proved = native::proved();
+    report::machine(proved.map(|(engine, _)| engine));
+    let engines: Vec<(Engine, Inputs)> = proved.into_iter().chain([(PLAIN, Inputs::Any)]).collect();
+    let names: Vec<Engine> = engines.iter().map(|(engine, _)| *engine).collect();
+
+    compare_random(&engines, wish.seeds)?;
+    let all: Vec<Scene> = wish.sides.iter().flat_map(|&side| scenes::all(side)).collect();
+    let mut totals = Vec::new();
+    for scene in &all {
+        let named = |error: String| format!("{}, side {}: {error}", scene.name, scene.sides[0]);
+        compare_scene(&engines, scene).map_err(named)?;
+        totals.push(count_water(&engines, scene, wish.steps).map_err(named)?);
+    }
+    println!("identical   each of them and the oracle: every scene's first step, and its step from the state that is timed");
+    if names.len() > 1 {
+        println!("identical   {} and {}: every buffer after the runs below", names[0].name, PLAIN.name);
+    }
+    println!();
+    report::totals(&totals);
+
+    let measured: Vec<_> = all.iter().flat_map(|scene| measure(scene, &names, wish.effort)).collect();
+    report::speeds(&measured);
+
+    let largest = wish.growth_sides[wish.growth_sides.len() - 1];
+    let over_cells = growth::over_cells(&names, &wish.growth_sides, wish.effort);
+    let over_share = growth::over_share(&names, largest, wish.effort);
+    report::growth(&names, &over_cells, &over_share);
+
+    match totals.iter().find(|row| row.lost != 0) {
+        Some(row) => Err(format!("{}, side {}: {} units lost", row.scene, row.side, row.lost)),
+        None => Ok(()),
+    }
+}
+
+fn main() -> ExitCode {
+    match wish(std::env::args().skip(1)).and_then(|wish| bench(&wish)) {
+        Ok(()) => ExitCode::SUCCESS,
+        Err(error) => {
+            eprintln!("bench: {error}");
+            ExitCode::FAILURE
+        }
+    }
+}

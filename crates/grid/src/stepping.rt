@@ -1,0 +1,154 @@
+// The step of a set that passed tests 1 to 6: passes in a row, and on refusal 7 or 8 the copy.
+use crate::Answer;
+use crate::Sides;
+use crate::checking;
+use crate::copying;
+use crate::filling;
+use crate::marks;
+use crate::passing;
+use crate::passing::Passed;
+use crate::sets;
+use crate::turning;
+use lattice::Settings;
+ghost use Rattle.grid.specs.Halfway.{Stepping, Advanced};
+
+// Test 8 where something is not fair: test 6's own scan of the second set.
+fn judged(flags2: &[u8], parts2: &[i32], mass2: &[i32], fill2: &[u32], carry2: &[i64]) -> Answer {
+    let d = checking::first_bad(flags2, parts2, mass2, fill2, carry2[0]);
+    if d <= flags2.len() {
+        return Answer::Refused(8, d);
+    }
+    Answer::Done
+}
+
+// Stage 7, and test 8 by what the passes found fair.
+fn finished(
+    flags: &[u8],
+    parts: &[i32],
+    mass: &[i32],
+    fill: &[u32],
+    carry: &[i64],
+    flags2: &mut [u8],
+    parts2: &mut [i32],
+    mass2: &mut [i32],
+    fill2: &mut [u32],
+    carry2: &mut [i64],
+    marks: &mut [u8],
+    fair: bool,
+    still: bool,
+    s: Sides,
+    g: Settings,
+) -> Answer {
+    let a = turning::turned(
+        flags,
+        parts,
+        mass,
+        fill,
+        carry,
+        flags2,
+        parts2,
+        mass2,
+        carry2,
+        marks,
+        still,
+        s,
+        g,
+    );
+    let b = filling::new_fills(flags2, parts2, mass2, fill2);
+    if fair & a & b {
+        return Answer::Done;
+    }
+    judged(flags2, parts2, mass2, fill2, carry2)
+}
+
+fn advanced(
+    flags: &[u8],
+    parts: &[i32],
+    mass: &[i32],
+    fill: &[u32],
+    carry: &[i64],
+    flags2: &mut [u8],
+    parts2: &mut [i32],
+    mass2: &mut [i32],
+    fill2: &mut [u32],
+    carry2: &mut [i64],
+    marks: &mut [u8],
+    s: Sides,
+    g: Settings,
+) -> Answer {
+    marks::mark_open(flags, marks, s);
+    let a = passing::flowing(flags, parts, mass, fill, parts2, mass2, marks, s, g);
+    match a {
+        Passed::Stopped(c) => Answer::Refused(7, c),
+        Passed::Through(fair, still) => finished(
+            flags,
+            parts,
+            mass,
+            fill,
+            carry,
+            flags2,
+            parts2,
+            mass2,
+            fill2,
+            carry2,
+            marks,
+            fair,
+            still,
+            s,
+            g,
+        ),
+    }
+}
+
+// The step of a set that is ready.
+pub(crate) fn stepped(
+    flags: &[u8],
+    parts: &[i32],
+    mass: &[i32],
+    fill: &[u32],
+    carry: &[i64],
+    flags2: &mut [u8],
+    parts2: &mut [i32],
+    mass2: &mut [i32],
+    fill2: &mut [u32],
+    carry2: &mut [i64],
+    marks: &mut [u8],
+    s: Sides,
+    g: Settings,
+) -> Answer
+    requires { ⌜ Stepping s g (record { flags = now flags; parts = now parts; masses = now mass; fills = now fill; carry = now carry }) (record { flags = now flags2; parts = now parts2; masses = now mass2; fills = now fill2; carry = now carry2 }) (now marks) ⌝ }
+    ensures { λ r. ⌜ Advanced s g (record { flags = now (flags .entry); parts = now (parts .entry); masses = now (mass .entry); fills = now (fill .entry); carry = now (carry .entry) }) r (record { flags = now (flags2 .exit); parts = now (parts2 .exit); masses = now (mass2 .exit); fills = now (fill2 .exit); carry = now (carry2 .exit) }) (now (marks .exit)) ⌝ }
+{
+    let a = advanced(
+        flags,
+        parts,
+        mass,
+        fill,
+        carry,
+        flags2,
+        parts2,
+        mass2,
+        fill2,
+        carry2,
+        marks,
+        s,
+        g,
+    );
+    if let Answer::Refused(no, at) = a {
+        sets::copied(
+            flags,
+            parts,
+            mass,
+            fill,
+            carry,
+            flags2,
+            parts2,
+            mass2,
+            fill2,
+            carry2,
+        );
+        copying::clear(marks);
+        return Answer::Refused(no, at);
+    }
+    Answer::Done
+}
