@@ -29,6 +29,8 @@ pub mod Births
 pub mod Means
 pub mod Newborns
 pub mod Offspring
+pub mod Heavy
+pub mod Refills
 pub mod Blocks
 pub mod Stores
 pub mod Spans

@@ -8,12 +8,12 @@ use Prim.Native.Nat.{ℕ, zero, suc, _+_, _-_, _*_, _/_, _%_, _≤_, _<_}
 use native.Mathlib.Nat.{not-suc-le-zero, lt-suc-self, le-step, eq-or-lt-of-le, le-of-suc-le-suc, mod-lt, div-add-mod}
 use native.Mathlib.Omega.{arith}
 use lib.Dec.{eqb}
-use lib.IntN.{ℤ, pos, _-ℤ_}
+use lib.IntN.{ℤ, pos}
 use lib.ListN.{length, getD}
 use borrow.Author.Tests.{eqb-true, eq-eqb, ne-eqb}
 use Rattle.whole.specs.Bools.{and-left, and-right, and-true, cond-yes, cond-no}
-use Rattle.whole.specs.Fold.{tab, all, any, count, sum, first}
-use Rattle.whole.specs.Search.{Dir, as-dir, all-at, any-where, first-none}
+use Rattle.whole.specs.Fold.{tab, all, count, first}
+use Rattle.whole.specs.Search.{all-at, any-where, first-none}
 use Rattle.whole.specs.Sums.{sum-cong}
 use Rattle.whole.specs.Tab.{getD-tab, length-tab, tab-cong}
 use Rattle.lattice.specs.Lattice.{V3, dot, d3q19}
@@ -29,7 +29,7 @@ use Rattle.grid.specs.Good.{bodyGood}
 use Rattle.grid.specs.Outcome.{settingsGood, sceneOf}
 use Rattle.grid.specs.Between.{Poised, uncarried, movedPart, bornPart}
 use Rattle.grid.specs.Passes.{Inner, lowOf, offsetOf}
-use Rattle.grid.specs.Sight.{Around, flowing, sight}
+use Rattle.grid.specs.Sight.{Around, sight}
 use Rattle.grid.specs.Born.{Tested, Fertile, Peopled, flowSight, newlyBorn, laterPart, laterFair}
 use Rattle.grid.proofs.Beside.{Offsets, place-is, place-low}
 use Rattle.grid.proofs.Listed.{part-at}
@@ -75,7 +75,7 @@ module _ (s : Sides) (g : Settings) (flags : List ℕ) (parts masses : List ℤ)
   is-cell {c} h = subst (λ (n : ℕ). c < n) (p .flags) h
 
   -- no wall, so inner
-  within : (c : ℕ) → c < cellsOf s → getD flags c 3 < 3 → Inner s c
+  pub within : (c : ℕ) → c < cellsOf s → getD flags c 3 < 3 → Inner s c
   unfolding stateOf
   within c h f = poised-inner s g (uncarried flags parts masses fills) p c h (λ e. absurd (omega arith))
 
@@ -191,7 +191,7 @@ module _ (s : Sides) (g : Settings) (flags : List ℕ) (parts masses : List ℤ)
     filled-wet (suc (suc zero)) o e = absurd (false≢true e)
     filled-wet (suc (suc (suc n))) o e = absurd (false≢true e)
 
-    fed : (c : ℕ) → c < cellsOf s → newlyBorn flags flags2 c ≡ true → 0 < liquidNear seen c
+    pub fed : (c : ℕ) → c < cellsOf s → newlyBorn flags flags2 c ≡ true → 0 < liquidNear seen c
     unfolding newFlag besideFilled filled liquidNear sceneOf stateOf d3q19
     fed c h e =
         let w = was-empty c e in
@@ -223,11 +223,11 @@ module _ (s : Sides) (g : Settings) (flags : List ℕ) (parts masses : List ℤ)
     pick true b d x h = h refl
     pick false b d x h = refl
 
-    is-born : (c : ℕ) → c < cellsOf s → flagAt step c ≡ 0 → newFlag step c ≡ 1 → newlyBorn flags flags2 c ≡ true
+    pub is-born : (c : ℕ) → c < cellsOf s → flagAt step c ≡ 0 → newFlag step c ≡ 1 → newlyBorn flags flags2 c ≡ true
     unfolding sceneOf stateOf
     is-born c h z n = born-test c h ∙ and-true (eqb (getD flags c 3) 0) (eqb (newFlag step c) 1) (eq-eqb (getD flags c 3) 0 z) (eq-eqb (newFlag step c) 1 n)
 
-    new-part : (c k : ℕ) → flagAt step c ≡ 0 → newFlag step c ≡ 1 → newPart step c k ≡ born step c k
+    pub new-part : (c k : ℕ) → flagAt step c ≡ 0 → newFlag step c ≡ 1 → newPart step c k ≡ born step c k
     unfolding newPart newFlag
     new-part c k z n =
         ap (λ (f : ℕ). byFlag f (cond (besideFilled step c) (born step c k) (pos 0)) (cond (emptied step c) (pos 0) (collided step c k)) (collided step c k) (pos 0)) z

@@ -1,13 +1,12 @@
 -- `grid::trading::traded`: the difference of the two parts, by the neighbour's flag. Assumes nothing.
 use borrow.Author.Needs.{needs}
 use mathlib.Core.Path.{_≡_, _∙_, ap, ap₂}
-use Prim.Native.Nat.{_+_, _*_, _≤_}
+use Prim.Native.Nat.{_+_, _*_}
 use native.Mathlib.Omega.{arith}
 use lib.IntN.{ℤ, pos, _-ℤ_}
-use lib.ListN.{length, getD}
+use lib.ListN.{getD}
 use mir.Syntax.{w64}
 use mir.Val.{toZ, ofZ}
-use Rattle.whole.specs.Machine.{Val, Within, machine, any, same, within-by}
 use Rattle.lattice.specs.Cell.{exchange}
 use Rattle.grid.specs.Trade.{apart}
 use Rattle.grid.proofs.Held.{held32, held64, apart-in}
