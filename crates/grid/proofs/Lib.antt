@@ -63,3 +63,4 @@ pub mod Impacts
 pub mod Handed
 pub mod Walked
 pub mod Turns
+pub mod Converts
