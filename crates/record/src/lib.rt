@@ -3,6 +3,7 @@ mod cells;
 mod count;
 mod front;
 mod given;
+mod load;
 mod number;
 mod put;
 mod section;
