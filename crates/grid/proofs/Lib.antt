@@ -33,5 +33,7 @@ pub mod Marking
 pub mod Settled
 pub mod Opened
 pub mod Plain
+pub mod Rules
+pub mod Checks
 pub mod Poise
 pub mod Onward

@@ -10,3 +10,4 @@ pub mod Between
 pub mod Sight
 pub mod Pasted
 pub mod Sources
+pub mod Halfway

@@ -8,6 +8,7 @@ pub mod layer;
 pub mod lengths;
 pub mod marks;
 pub mod neighbours;
+pub mod sets;
 pub mod streaming;
 
 // The sides of a grid, in cells.

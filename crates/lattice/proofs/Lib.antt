@@ -2,7 +2,9 @@ pub mod Paired
 pub mod Shares
 pub mod ExchangeBack
 pub mod Balanced
+pub mod Bodies
 pub mod Collision
+pub mod Equal
 pub mod Fills
 pub mod Momentum
 pub mod Pairs
@@ -10,3 +12,4 @@ pub mod Ranges
 pub mod Reading
 pub mod Table
 pub mod Tame
+pub mod Weights

@@ -11,7 +11,7 @@ use lib.Arith.{lt-of-le-ne}
 use lib.ListN.{length, getD, set, length-set}
 use lib.Seq.{getD-set-same, getD-set-other}
 use lib.IntN.{ℤ, pos, _+ℤ_, +ℤ-assoc, +ℤ-idl}
-use Rattle.whole.specs.Fold.{sum, dirs}
+use Rattle.whole.specs.Fold.{sum, dirs, all}
 use Rattle.whole.specs.Sums.{sum-first}
 
 two : (i : ℕ) → i + 2 ≡ suc (suc i)
@@ -26,6 +26,14 @@ unfolding sum
 sum-pair i f =
     ap (λ (n : ℕ). sum n f) (two i) ∙ +ℤ-assoc (sum i f) (f i) (f (suc i))
     ∙ ap (λ (n : ℕ). sum i f +ℤ (f i +ℤ f n)) (omega arith)
+
+pub all-one : (f : ℕ → Bool) → all 1 f ≡ f 0
+unfolding all
+all-one f = refl
+
+pub all-pair : (i : ℕ) (f : ℕ → Bool) → all (i + 2) f ≡ (all i f && f i && f (i + 1))
+unfolding all
+all-pair i f = ap (λ (n : ℕ). all n f) (two i) ∙ ap (λ (n : ℕ). all i f && f i && f n) (omega arith)
 
 -- ---- sums over the directions, with part 0 counted as nothing
 unfoldable pub off-rest : (ℕ → ℤ) → ℕ → ℤ

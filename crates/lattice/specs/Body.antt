@@ -4,13 +4,14 @@ use Prim.Native.Nat.{ℕ, zero, suc, _<_}
 use mathlib.Core.Bool.{Bool, true, false, _&&_}
 use mathlib.Core.List.{List}
 use lib.IntN.{ℤ, pos, negsuc, _-ℤ_}
+use lib.Dec.{eqb}
 use lib.Signed.{_≤ℤ_}
 use lib.ListN.{getD}
 use Rattle.whole.specs.Fold.{all, dirs}
 use Rattle.whole.specs.Machine.{Within}
 use Rattle.lattice.specs.declared.Flow.{Flow}
 use Rattle.lattice.specs.Lattice.{V3, dot, Lattice, density, momentum}
-use Rattle.lattice.specs.Cell.{partGood, dense, slow, quad, relaxed, still}
+use Rattle.lattice.specs.Cell.{partGood, massGood, fillOf, dense, slow, quad, relaxed, still}
 
 -- part k of an array of parts
 abbrev pub partsOf : List ℤ → ℕ → ℤ
@@ -20,6 +21,10 @@ partsOf f k = getD f k (pos 0)
 pub record Bounded (f : List ℤ) (r b : ℕ) : Type 0 where
   pub rest : Within (partsOf f 0) r
   pub at : (k : ℕ) → 0 < k → k < 19 → Within (partsOf f k) b
+
+-- weights of the eighteen directions that shares can be worked out with
+pub record Weights (w : List ℤ) : Type 0 where
+  pub at : (k : ℕ) → 0 < k → k < 19 → Within (partsOf w k) 1000000
 
 -- a flow's momentum
 abbrev pub vec : Flow → V3
@@ -41,6 +46,20 @@ steadyFlow v = dense (v .rho) && slow (v .rho) (dot (vec v) (vec v))
 unfoldable pub goodBody : Lattice → (ℕ → ℤ) → Bool
 goodBody L f = all (suc (L .q)) (λ k. partGood (f k)) && dense (density L f) && slow (density L f) (dot (momentum L f) (momentum L f))
 
+-- equal whole numbers
+abbrev pub eqZ : ℤ → ℤ → Bool
+eqZ (pos a) (pos b) = eqb a b
+eqZ (pos a) (negsuc b) = false
+eqZ (negsuc a) (pos b) = false
+eqZ (negsuc a) (negsuc b) = eqb a b
+
+-- a fluid cell with mass m and this fill keeps its rules; an interface cell does
+unfoldable pub goodFluid : Lattice → (ℕ → ℤ) → ℤ → ℕ → Bool
+goodFluid L f m fill = goodBody L f && eqZ m (density L f) && eqb fill 65536
+
+unfoldable pub goodInterface : Lattice → (ℕ → ℤ) → ℤ → ℕ → Bool
+goodInterface L f m fill = goodBody L f && massGood m && eqb fill (fillOf m (density L f))
+
 -- ---- the nineteen parts at once, of a cell with density ρ and momentum j
 
 -- stage 4: part i of 1..q relaxed; part 0 is ρ less the others
@@ -61,5 +80,5 @@ stillPart L ρ j (suc a) = stillDir L ρ j (suc a)
 
 -- names every definition of this file: whoever unfolds this computes with all of them
 unfoldable pub open-body : Unit {0}
-unfolding steadyFlow goodBody relaxedDir collidedPart stillDir stillPart
+unfolding steadyFlow goodBody goodFluid goodInterface relaxedDir collidedPart stillDir stillPart
 open-body = tt

@@ -1,0 +1,72 @@
+-- A liquid cell's rules: parts in range bound the flow, and the code's order of tests is the definition's. Assumes nothing.
+use mathlib.Core.Path.{_≡_, refl, sym, _∙_, ap, ap₂, subst}
+use mathlib.Core.Bool.{Bool, true, false, _&&_, cond}
+use mathlib.Core.List.{List}
+use Prim.Native.Nat.{ℕ, suc, _<_, _≤_}
+use native.Mathlib.Omega.{arith}
+use lib.Dec.{eqb}
+use lib.IntN.{ℤ, pos, natAbs}
+use lib.Signed.{_<ℤ_, _≤ℤ_, <ℤ-≤ℤ-trans}
+use borrow.Author.Tests.{leb-true}
+use Rattle.whole.specs.Bools.{and-left}
+use Rattle.whole.specs.Fold.{all}
+use Rattle.whole.specs.Search.{all-at}
+use Rattle.whole.specs.Order.{≤ℤ-trans}
+use Rattle.whole.specs.Machine.{Within}
+use Rattle.lattice.specs.declared.Flow.{Flow}
+use Rattle.lattice.specs.Lattice.{V3, dot, density, momentum, d3q19}
+use Rattle.lattice.specs.Cell.{partGood, massGood, fillOf, dense, slow}
+use Rattle.lattice.specs.Body.{partsOf, Bounded, vec, Tame, steadyFlow, goodBody, goodFluid, goodInterface, eqZ}
+use Rattle.lattice.proofs.Momentum.{x-in, y-in, z-in}
+
+-- parts that pass the test are bounded
+pub inside-bounded : (f : List ℤ) → all 19 (λ k. partGood (partsOf f k)) ≡ true → Bounded f 1073741824 33554432
+inside-bounded f e =
+    record {
+      rest = record { abs = omega (arith, leb-true (natAbs (partsOf f 0)) 1179648 (all-at 19 (λ k. partGood (partsOf f k)) e 0 (omega arith))) };
+      at = λ k h m. record { abs = omega (arith, leb-true (natAbs (partsOf f k)) 1179648 (all-at 19 (λ k. partGood (partsOf f k)) e k m)) };
+    }
+
+-- the flow of bounded parts, as `steady` asks it
+module _ (f : List ℤ) (b : Bounded f 1073741824 33554432) (v : Flow) (e : vec v ≡ momentum d3q19 (partsOf f)) where
+  wide-in : {a c : ℤ} → a ≡ c → Within c 335544320 → Within a 400000000
+  wide-in {a} {c} q h = subst (λ (z : ℤ). Within z 400000000) (sym q) (record { abs = omega (arith, h .abs) })
+
+  pub flow-x : Within (v .x) 400000000
+  flow-x = wide-in (ap (λ (j : V3). j .x) e) (x-in f b)
+
+  pub flow-y : Within (v .y) 400000000
+  flow-y = wide-in (ap (λ (j : V3). j .y) e) (y-in f b)
+
+  pub flow-z : Within (v .z) 400000000
+  flow-z = wide-in (ap (λ (j : V3). j .z) e) (z-in f b)
+
+and-assoc : (a b c : Bool) → (a && (b && c)) ≡ (a && b && c)
+and-assoc true b c = refl
+and-assoc false b c = refl
+
+-- parts in range and a steady flow are the rule of a liquid cell's body
+pub body-is : (f : List ℤ) (v : Flow) → v .rho ≡ density d3q19 (partsOf f) → vec v ≡ momentum d3q19 (partsOf f)
+    → (all 19 (λ k. partGood (partsOf f k)) && steadyFlow v) ≡ goodBody d3q19 (partsOf f)
+unfolding steadyFlow goodBody d3q19
+body-is f v r e =
+    ap₂ (λ (ρ : ℤ) (j : V3). all 19 (λ k. partGood (partsOf f k)) && (dense ρ && slow ρ (dot j j))) r e
+    ∙ and-assoc (all 19 (λ k. partGood (partsOf f k))) (dense (density d3q19 (partsOf f))) (slow (density d3q19 (partsOf f)) (dot (momentum d3q19 (partsOf f)) (momentum d3q19 (partsOf f))))
+
+pub no-right : (a b : Bool) → b ≡ false → (a && b) ≡ false
+no-right true b e = e
+no-right false b e = refl
+
+-- a cell whose body breaks a rule is bad as fluid and as interface
+pub broken : (t : Bool) (f : ℕ → ℤ) (m : ℤ) (fill : ℕ) → goodBody d3q19 f ≡ false → cond t (goodFluid d3q19 f m fill) (goodInterface d3q19 f m fill) ≡ false
+unfolding goodFluid goodInterface
+broken true f m fill e = rw e
+broken false f m fill e = rw e
+
+-- a dense density is positive
+pub dense-positive : {ρ : ℤ} → pos 294912 ≤ℤ ρ → pos 0 <ℤ ρ
+dense-positive h = <ℤ-≤ℤ-trans (record { lt = tt }) h
+
+pub no-parts : (f : List ℤ) → all 19 (λ k. partGood (partsOf f k)) ≡ false → goodBody d3q19 (partsOf f) ≡ false
+unfolding goodBody d3q19
+no-parts f e = rw e
