@@ -4,3 +4,4 @@ pub mod Assembled
 pub mod Answers
 pub mod Shaped
 pub mod Flags
+pub mod Fairness

@@ -1,6 +1,7 @@
 // Layer 2, the grid record: its reader and its writer. Knows the promises of grid.
 mod cells;
 mod count;
+mod fair;
 mod front;
 mod given;
 mod load;

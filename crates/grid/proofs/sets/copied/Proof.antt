@@ -39,8 +39,8 @@ returns c i = record {
   parts = c .before .before .before .before .before .before .before .before .before .before .before .copy-i32 .ensures i;
   masses = c .before .before .before .before .before .before .before .before .copy-i322 .ensures i;
   fills = c .before .before .before .before .before .copy-u32 .ensures i;
-  carry = c .before .copy-i64 .ensures i
-  }
+  carry = c .before .copy-i64 .ensures i;
+}
 
 pub copied-spec : {M : Type 1} → statement M
 copied-spec =
