@@ -8,22 +8,24 @@ use Prim.Native.Nat.{ℕ, zero, suc, _+_, _*_, _≤_, _<_}
 use native.Mathlib.Nat.{add-suc, suc-add, zero-add, lt-irrefl, eq-or-lt-of-le, le-of-suc-le-suc}
 use native.Mathlib.Omega.{arith}
 use lib.Dec.{eqb}
-use lib.IntN.{ℤ, pos}
+use lib.IntN.{ℤ, pos, negsuc}
 use lib.ListN.{length, getD}
 use borrow.Author.Tests.{eq-eqb, ne-eqb}
-use Rattle.whole.specs.Fold.{tab, first, firstFrom}
+use Rattle.whole.specs.Fold.{tab, all, first, firstFrom}
 use Rattle.whole.specs.Search.{first-cong, first-none, first-all, first-is}
 use Rattle.whole.specs.Tab.{getD-tab}
 use Rattle.lattice.specs.Lattice.{Lattice, d3q19, density}
-use Rattle.lattice.specs.Cell.{massGood, carryGood}
+use Rattle.lattice.specs.Cell.{massGood, carryGood, fillOf}
 use Rattle.lattice.specs.Body.{partsOf, goodBody}
 use Rattle.grid.specs.State.{State, byFlag, liquid}
-use Rattle.grid.specs.Good.{bodyGood, cellGood, badRule}
+use Rattle.grid.specs.Step.{fillFor}
+use Rattle.grid.specs.Good.{eqZ, bodyGood, dryGood, interfaceGood, fluidGood, fillGood, cellGood, badRule}
 use Rattle.grid.specs.Passes.{flagOf}
 use Rattle.grid.proofs.Lists.{getD-there}
 use Rattle.grid.proofs.Same.{body-same}
 use Rattle.record.specs.Bytes.{i32At}
-use Rattle.record.specs.Layout.{interfaces, liquids}
+use Rattle.record.specs.Layout.{interfaces, liquids, massesFrom, partsFrom}
+use Rattle.record.specs.Reading.{cellsIn, flagsIn, flagIn, interfacesIn, massAt, partAt, massIn, partIn, stateIn}
 use Rattle.record.specs.Passes.{heldMass, heldPart, fairBy, fairAt}
 
 -- ---- one cell
@@ -79,6 +81,37 @@ fair-at rec flags masses parts m p c h e d =
     ∙ sym (body-is (heldPart rec flags parts c)) in
     ap₂ (λ (f i : ℕ). fairBy f (i32At rec i) g) one e
     ∙ ap (λ (t : Bool). byFlag (flagOf flags c) true (t && massGood (heldMass rec flags masses c)) t true) same
+
+-- wall and empty cells keep their rules, fluid mass and every fill are worked out: what is left are the numbers that the record holds
+eqZ-self : (z : ℤ) → eqZ z z ≡ true
+eqZ-self (pos n) = eq-eqb n n refl
+eqZ-self (negsuc n) = eq-eqb n n refl
+
+and-yes : (a b : Bool) → b ≡ true → (a && b) ≡ a
+and-yes true b e = e
+and-yes false b e = refl
+
+cell-by : (f : ℕ) (m : ℤ) (g : ℕ → ℤ) → let part : ℕ → ℤ = λ k. byFlag f (pos 0) (g k) (g k) (pos 0) in
+    let mass : ℤ = byFlag f (pos 0) m (density d3q19 part) (pos 0) in
+    let dry : Bool = eqZ mass (pos 0) && all 19 (λ k. eqZ (part k) (pos 0)) in
+    (byFlag f dry (bodyGood d3q19 part && massGood mass) (bodyGood d3q19 part && eqZ mass (density d3q19 part)) dry && eqb (fillFor f mass (density d3q19 part)) (fillFor f mass (density d3q19 part))) ≡ fairBy f m g
+unfolding fairBy fillFor all
+cell-by zero m g = refl
+cell-by (suc zero) m g =
+    let ρ = density d3q19 g in
+    and-yes (bodyGood d3q19 g && massGood m) (eqb (fillOf m ρ) (fillOf m ρ)) (eq-eqb (fillOf m ρ) (fillOf m ρ) refl)
+    ∙ ap (λ (t : Bool). t && massGood m) (sym (body-is g))
+cell-by (suc (suc zero)) m g =
+    let ρ = density d3q19 g in
+    and-yes (bodyGood d3q19 g && eqZ ρ ρ) (eqb 65536 65536) refl ∙ and-yes (bodyGood d3q19 g) (eqZ ρ ρ) (eqZ-self ρ) ∙ sym (body-is g)
+cell-by (suc (suc (suc f))) m g = refl
+
+pub cell-fair : (r : List ℕ) (masses parts c : ℕ) → masses ≡ massesFrom (cellsIn r) + 4 → parts ≡ partsFrom (cellsIn r) (interfacesIn r) + 4
+    → cellGood d3q19 (stateIn r) c ≡ fairAt r (flagsIn r) masses parts c
+unfolding cellGood dryGood interfaceGood fluidGood fillGood stateIn massIn partIn massAt partAt flagIn fairAt d3q19
+cell-fair r masses parts c e d =
+    cell-by (flagIn r c) (massAt r c) (partAt r c)
+    ∙ ap₂ (λ (i j : ℕ). fairBy (flagIn r c) (i32At r (i + 4 * interfaces c (flagIn r))) (λ k. i32At r (j + 4 * (19 * liquids c (flagIn r) + k)))) (sym e) (sym d)
 
 -- ---- the search
 from-longer : (n i : ℕ) (f : ℕ → Bool) → firstFrom n i f < i + n → firstFrom (suc n) i f ≡ firstFrom n i f

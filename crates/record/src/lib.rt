@@ -1,5 +1,6 @@
 // Layer 2, the grid record: its reader and its writer. Knows the promises of grid.
 mod cells;
+mod content;
 mod count;
 mod fair;
 mod front;
