@@ -5,3 +5,4 @@ pub mod Answers
 pub mod Shaped
 pub mod Flags
 pub mod Fairness
+pub mod ByFlag

@@ -2,14 +2,16 @@
 use mathlib.Core.Path.{_≡_}
 use mathlib.Core.Bool.{Bool, true, _&&_}
 use mathlib.Core.List.{List}
-use Prim.Native.Nat.{ℕ, _+_, _*_, _≤_}
-use lib.IntN.{ℤ}
-use lib.ListN.{length}
-use Rattle.lattice.specs.Lattice.{d3q19}
+use Prim.Native.Nat.{ℕ, _+_, _*_, _≤_, _<_}
+use lib.IntN.{ℤ, pos}
+use lib.ListN.{length, getD}
+use lib.Signed.{_≤ℤ_}
+use Rattle.whole.specs.Machine.{Within}
+use Rattle.lattice.specs.Lattice.{d3q19, density}
 use Rattle.lattice.specs.Cell.{massGood}
 use Rattle.lattice.specs.Body.{goodBody}
 use Rattle.grid.specs.Grid.{sidesGood, gridOf}
-use Rattle.grid.specs.State.{byFlag}
+use Rattle.grid.specs.State.{byFlag, liquid}
 use Rattle.grid.specs.Good.{badFlag}
 use Rattle.grid.specs.Passes.{flagOf}
 use Rattle.record.specs.Bytes.{u32At, i32At}
@@ -40,6 +42,11 @@ heldMass rec flags from c = i32At rec (from + 4 * interfaces c (flagOf flags))
 
 abbrev pub heldPart : List ℕ → List ℕ → ℕ → ℕ → ℕ → ℤ
 heldPart rec flags from c k = i32At rec (from + 4 * (19 * liquids c (flagOf flags) + k))
+
+-- parts, laid out by cell, whose liquid cells have a density that 32 bits hold, and interface cells one to divide by
+pub record Weighed (flags : List ℕ) (parts : List ℤ) : Type 0 where
+  pub inside : (c : ℕ) → c < length flags → liquid (flagOf flags c) ≡ true → (k : ℕ) → k < 19 → Within (getD parts (19 * c + k) (pos 0)) 1179648
+  pub heavy : (c : ℕ) → c < length flags → flagOf flags c ≡ 1 → pos 294912 ≤ℤ density d3q19 (λ k. getD parts (19 * c + k) (pos 0))
 
 -- test 6 of one cell, of which only the record's own numbers can break a rule
 unfoldable pub fairBy : ℕ → ℤ → (ℕ → ℤ) → Bool
