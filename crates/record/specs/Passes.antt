@@ -6,12 +6,14 @@ use Prim.Native.Nat.{ℕ, _+_, _*_, _≤_, _<_}
 use lib.IntN.{ℤ, pos}
 use lib.ListN.{length, getD}
 use lib.Signed.{_≤ℤ_}
+use Rattle.whole.specs.Fold.{tab}
 use Rattle.whole.specs.Machine.{Within}
 use Rattle.lattice.specs.Lattice.{d3q19, density}
 use Rattle.lattice.specs.Cell.{massGood}
 use Rattle.lattice.specs.Body.{goodBody}
 use Rattle.grid.specs.Grid.{sidesGood, gridOf}
 use Rattle.grid.specs.State.{byFlag, liquid}
+use Rattle.grid.specs.Step.{fillFor}
 use Rattle.grid.specs.Good.{badFlag}
 use Rattle.grid.specs.Passes.{flagOf}
 use Rattle.record.specs.Bytes.{u32At, i32At}
@@ -48,6 +50,17 @@ pub record Weighed (flags : List ℕ) (parts : List ℤ) : Type 0 where
   pub inside : (c : ℕ) → c < length flags → liquid (flagOf flags c) ≡ true → (k : ℕ) → k < 19 → Within (getD parts (19 * c + k) (pos 0)) 1179648
   pub heavy : (c : ℕ) → c < length flags → flagOf flags c ≡ 1 → pos 294912 ≤ℤ density d3q19 (λ k. getD parts (19 * c + k) (pos 0))
 
+-- a cell's mass by its flag, and its fill worked out
+unfoldable pub loadedMass : List ℕ → List ℕ → ℕ → List ℤ → ℕ → ℤ
+loadedMass rec flags from parts c = byFlag (flagOf flags c) (pos 0) (heldMass rec flags from c) (density d3q19 (λ k. getD parts (19 * c + k) (pos 0))) (pos 0)
+
+unfoldable pub loadedFill : List ℕ → List ℕ → ℕ → List ℤ → ℕ → ℕ
+loadedFill rec flags from parts c = fillFor (flagOf flags c) (loadedMass rec flags from parts c) (density d3q19 (λ k. getD parts (19 * c + k) (pos 0)))
+
+pub record Loaded (rec flags : List ℕ) (from : ℕ) (parts masses : List ℤ) (fills : List ℕ) : Type 0 where
+  pub masses-are : masses ≡ tab (length flags) (loadedMass rec flags from parts)
+  pub fills-are : fills ≡ tab (length flags) (loadedFill rec flags from parts)
+
 -- test 6 of one cell, of which only the record's own numbers can break a rule
 unfoldable pub fairBy : ℕ → ℤ → (ℕ → ℤ) → Bool
 fairBy flag m f = byFlag flag true (goodBody d3q19 f && massGood m) (goodBody d3q19 f) true
@@ -57,5 +70,5 @@ fairAt rec flags masses parts c = fairBy (flagOf flags c) (heldMass rec flags ma
 
 -- names every definition of this file: whoever unfolds this computes with all of them
 unfoldable pub open-passes : Unit {0}
-unfolding fairBy fairAt
+unfolding loadedMass loadedFill fairBy fairAt
 open-passes = tt

@@ -21,7 +21,7 @@ ghost use Rattle.grid.specs.Step.{fillFor};
 ghost use Rattle.grid.specs.Passes.{flagOf};
 ghost use Rattle.record.specs.Bytes.{i32At};
 ghost use Rattle.record.specs.Layout.{interfaces};
-ghost use Rattle.record.specs.Passes.{heldMass, Weighed};
+ghost use Rattle.record.specs.Passes.{Weighed, Loaded};
 
 // The density of a liquid cell; 0 of another.
 fn cell_density(flag: u8, parts: &[i32], c: usize) -> i32
@@ -60,4 +60,33 @@ fn cell_fill(flag: u8, m: i32, rho: i32) -> u32
         return 65536;
     }
     0
+}
+
+// The mass and the fill of every cell; the masses of the record begin at `from`.
+pub fn load_masses(
+    rec: &[u8],
+    flags: &[u8],
+    from: usize,
+    parts: &[i32],
+    masses: &mut [i32],
+    fills: &mut [u32],
+)
+    requires { ⌜ from + 4 * interfaces (length (now flags)) (flagOf (now flags)) ≤ length (now rec) ⌝ }
+    requires { ⌜ length (now parts) ≡ 19 * length (now flags) ⌝ }
+    requires { ⌜ length (now masses) ≡ length (now flags) ⌝ }
+    requires { ⌜ length (now fills) ≡ length (now flags) ⌝ }
+    requires { ⌜ Weighed (now flags) (now parts) ⌝ }
+    ensures { λ _. ⌜ Loaded (now (rec .entry)) (now (flags .entry)) from (now (parts .entry)) (now (masses .exit)) (now (fills .exit)) ⌝ }
+{
+    let mut at = from;
+    let mut c = 0;
+    while c < flags.len() {
+        let flag = flags[c];
+        let rho = cell_density(flag, parts, c);
+        let m = cell_mass(rec, flag, at, rho);
+        masses[c] = m;
+        fills[c] = cell_fill(flag, m, rho);
+        at += 4 * one_interface(flag);
+        c += 1;
+    }
 }
