@@ -6,3 +6,4 @@ pub mod Shaped
 pub mod Flags
 pub mod Fairness
 pub mod ByFlag
+pub mod Taking

@@ -12,13 +12,13 @@ use Rattle.lattice.specs.Lattice.{d3q19, density}
 use Rattle.lattice.specs.Cell.{massGood}
 use Rattle.lattice.specs.Body.{goodBody}
 use Rattle.grid.specs.Grid.{sidesGood, gridOf}
-use Rattle.grid.specs.State.{byFlag, liquid}
+use Rattle.grid.specs.State.{byFlag, liquid, lentOf}
 use Rattle.grid.specs.Step.{fillFor}
 use Rattle.grid.specs.Good.{badFlag}
 use Rattle.grid.specs.Passes.{flagOf}
 use Rattle.record.specs.Bytes.{u32At, i32At}
 use Rattle.record.specs.Layout.{interfaces, liquids, massesFrom, partsFrom, lengthOf}
-use Rattle.record.specs.Reading.{sidesIn, cellsIn, flagIn, interfacesIn, liquidsIn}
+use Rattle.record.specs.Reading.{sidesIn, cellsIn, flagIn, interfacesIn, liquidsIn, stateIn}
 
 -- a section of n numbers is there: its count, and its bytes
 pub record Held (r : List ℕ) (from n size : ℕ) : Type 0 where
@@ -60,6 +60,13 @@ loadedFill rec flags from parts c = fillFor (flagOf flags c) (loadedMass rec fla
 pub record Loaded (rec flags : List ℕ) (from : ℕ) (parts masses : List ℤ) (fills : List ℕ) : Type 0 where
   pub masses-are : masses ≡ tab (length flags) (loadedMass rec flags from parts)
   pub fills-are : fills ≡ tab (length flags) (loadedFill rec flags from parts)
+
+-- the state of a record in the lent slices
+pub record Taken (r : List ℕ) (parts masses : List ℤ) (fills : List ℕ) (carry : List ℤ) : Type 0 where
+  pub parts-are : parts ≡ lentOf 18 (cellsIn r) (stateIn r) .parts
+  pub masses-are : masses ≡ lentOf 18 (cellsIn r) (stateIn r) .masses
+  pub fills-are : fills ≡ lentOf 18 (cellsIn r) (stateIn r) .fills
+  pub carry-is : carry ≡ lentOf 18 (cellsIn r) (stateIn r) .carry
 
 -- test 6 of one cell, of which only the record's own numbers can break a rule
 unfoldable pub fairBy : ℕ → ℤ → (ℕ → ℤ) → Bool

@@ -10,6 +10,7 @@ mod number;
 mod put;
 mod section;
 mod shape;
+mod take;
 mod weigh;
 pub mod writer;
 
