@@ -7,3 +7,4 @@ pub mod Flags
 pub mod Fairness
 pub mod ByFlag
 pub mod Taking
+pub mod ReadBy

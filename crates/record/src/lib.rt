@@ -8,6 +8,7 @@ mod given;
 mod load;
 mod number;
 mod put;
+pub mod reader;
 mod section;
 mod shape;
 mod take;
