@@ -3,6 +3,7 @@ mod cells;
 mod content;
 mod count;
 mod fair;
+pub mod flags;
 mod front;
 mod given;
 mod load;
@@ -39,4 +40,10 @@ pub struct Head {
 pub struct Written {
     pub answer: Answer,
     pub bytes: usize,
+}
+
+// Where a part of a slice begins and ends.
+pub struct Span {
+    pub from: usize,
+    pub to: usize,
 }

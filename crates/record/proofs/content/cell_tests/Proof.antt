@@ -25,7 +25,7 @@ use Rattle.record.specs.Layout.{massesFrom, partsFrom}
 use Rattle.record.specs.Reading.{sidesIn, cellsIn, flagsIn, flagIn, interfacesIn, carryIn, stateIn}
 use Rattle.record.specs.Passes.{fairAt}
 use Rattle.record.proofs.Gathered.{interfaces-most}
-use Rattle.record.proofs.Flags.{flags-are, length-flags, interfaces-are, liquids-are, bad-flag-is, bad-fluid-is}
+use Rattle.record.proofs.FlagPart.{flags-are, length-flags, interfaces-are, liquids-are, bad-flag-is, bad-fluid-is}
 use Rattle.record.proofs.Fairness.{cell-fair, bad-cell, bad-carry, none-bad}
 use Rattle.record.proofs.content.cell_tests.Statement.{statement}
 use Rattle.record.proofs.content.cell_tests.Tie as tie

@@ -15,7 +15,7 @@ use Rattle.grid.proofs.GoodSides.{good-sides}
 use Rattle.record.specs.Layout.{massesFrom, partsFrom}
 use Rattle.record.specs.Reading.{sidesIn, cellsIn, flagsIn, flagIn, interfacesIn, carryIn, stateIn}
 use Rattle.record.proofs.Gathered.{interfaces-most}
-use Rattle.record.proofs.Flags.{flags-are, length-flags, interfaces-are, liquids-are}
+use Rattle.record.proofs.FlagPart.{flags-are, length-flags, interfaces-are, liquids-are}
 use Rattle.record.proofs.Taking.{state-parts, parts-taken, masses-taken, fills-taken, weighed}
 use Rattle.record.proofs.take.take.Statement.{statement}
 use Rattle.record.proofs.take.take.Tie as tie
