@@ -63,3 +63,6 @@ pub mod Impacts
 pub mod Handed
 pub mod Walked
 pub mod Turns
+pub mod Uncarried
+pub mod Finishes
+pub mod Entrance
