@@ -66,3 +66,4 @@ pub mod Turns
 pub mod Uncarried
 pub mod Finishes
 pub mod Entrance
+pub mod Converts

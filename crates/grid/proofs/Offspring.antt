@@ -27,7 +27,7 @@ use Rattle.grid.specs.State.{Scene, byFlag, liquid, stateOf}
 use Rattle.grid.specs.Step.{flagAt, newDensity, newMomentum, tooFast, filled, besideFilled, emptied, besideEmptied, flagAfter, newFlag, tradedMass, liquidNear, nearSum, bornDensity, bornMomentum, bornDir, born, newPart, collided}
 use Rattle.grid.specs.Good.{bodyGood}
 use Rattle.grid.specs.Outcome.{settingsGood, sceneOf}
-use Rattle.grid.specs.Between.{Poised, uncarried, movedPart, bornPart}
+use Rattle.grid.specs.Between.{Poised, carried, movedPart, bornPart}
 use Rattle.grid.specs.Passes.{Inner, lowOf, offsetOf}
 use Rattle.grid.specs.Sight.{Around, sight}
 use Rattle.grid.specs.Born.{Tested, Fertile, Peopled, flowSight, newlyBorn, laterPart, laterFair}
@@ -61,9 +61,9 @@ steady-both true true false w e = absurd (false≢true (sym e))
 steady-both true false s w e = absurd (false≢true (sym e))
 steady-both false d s w e = absurd (false≢true w)
 
-module _ (s : Sides) (g : Settings) (flags : List ℕ) (parts masses : List ℤ) (fills : List ℕ) (p : Poised s g (uncarried flags parts masses fills)) where
+module _ (s : Sides) (g : Settings) (flags : List ℕ) (parts masses : List ℤ) (fills : List ℕ) (carry : List ℤ) (p : Poised s g (carried flags parts masses fills carry)) where
   abbrev step : Scene
-  step = sceneOf s g (uncarried flags parts masses fills)
+  step = sceneOf s g (carried flags parts masses fills carry)
 
   abbrev seen : Scene
   seen = flowSight flags parts (tab 19 (offsetOf s)) (lowOf s) g
@@ -77,7 +77,7 @@ module _ (s : Sides) (g : Settings) (flags : List ℕ) (parts masses : List ℤ)
   -- no wall, so inner
   pub within : (c : ℕ) → c < cellsOf s → getD flags c 3 < 3 → Inner s c
   unfolding stateOf
-  within c h f = poised-inner s g (uncarried flags parts masses fills) p c h (λ e. absurd (omega arith))
+  within c h f = poised-inner s g (carried flags parts masses fills carry) p c h (λ e. absurd (omega arith))
 
   module _ (fast : cellsOf s ≤ first (cellsOf s) (tooFast step)) where
     steady : (c : ℕ) → c < cellsOf s → liquid (getD flags c 3) ≡ true
@@ -85,12 +85,12 @@ module _ (s : Sides) (g : Settings) (flags : List ℕ) (parts masses : List ℤ)
     unfolding tooFast sight stateOf
     steady c h l =
         steady-both (liquid (getD flags c 3)) (dense (newDensity seen c)) (slow (newDensity seen c) (dot (newMomentum seen c) (newMomentum seen c))) l
-        (fast-seen s g flags parts masses fills p (tab 19 (offsetOf s)) (lowOf s) offs c h ∙ first-none (cellsOf s) (tooFast step) fast c h)
+        (fast-seen s g flags parts masses fills carry p (tab 19 (offsetOf s)) (lowOf s) offs c h ∙ first-none (cellsOf s) (tooFast step) fast c h)
 
     pub tested : Tested flags parts (tab 19 (offsetOf s)) (lowOf s) g
     unfolding settingsGood
     tested = record {
-      bodies = poised-bodied s g (uncarried flags parts masses fills) p;
+      bodies = poised-bodied s g (carried flags parts masses fills carry) p;
       gravity = and-right (relaxationGood (g .p)) (gravityGood (g .gx) (g .gy) (g .gz)) (p .settings);
       around = λ c h f. subst (λ (n : ℕ). Around n (tab 19 (offsetOf s)) (lowOf s) c) (sym (p .flags)) (around offs c (within c (is-cell h) f));
       is-dense = λ c h l. steady c (is-cell h) l .0;
@@ -102,7 +102,7 @@ module _ (s : Sides) (g : Settings) (flags : List ℕ) (parts masses : List ℤ)
   unfolding sight sceneOf stateOf d3q19
   momentum-seen c h l =
       new-momentum-same d3q19 paired19 (seen .grid) (step .grid) (step .old .flag) (step .old .part) c
-      (λ i d. place-is offs c (liquid-inner s g (uncarried flags parts masses fills) p c h l) i (omega (arith, d .most)))
+      (λ i d. place-is offs c (liquid-inner s g (carried flags parts masses fills carry) p c h l) i (omega (arith, d .most)))
       (seen .old .mass) (step .old .mass) (seen .old .fill) (step .old .fill) (seen .old .carry) (step .old .carry) (step .g) (step .relax)
 
   module _ (c : ℕ) (inner : Inner s c) where
@@ -143,7 +143,7 @@ module _ (s : Sides) (g : Settings) (flags : List ℕ) (parts masses : List ℤ)
     unfolding bornDensity
     density-born-seen =
         ap₂ (λ (z : ℤ) (k : ℕ). floor z k)
-        (sum-seen (newDensity seen) (newDensity step) (λ d h l. density-seen s g flags parts masses fills p (tab 19 (offsetOf s)) (lowOf s) offs d h l)) liquid-seen
+        (sum-seen (newDensity seen) (newDensity step) (λ d h l. density-seen s g flags parts masses fills carry p (tab 19 (offsetOf s)) (lowOf s) offs d h l)) liquid-seen
 
     part-of-mean : (e : V3 → ℤ) → cut (nearSum seen c (λ d. e (newMomentum seen d))) (pos (liquidNear seen c)) ≡ cut (nearSum step c (λ d. e (newMomentum step d))) (pos (liquidNear step c))
     part-of-mean e =

@@ -25,7 +25,7 @@ use Rattle.grid.specs.Grid.{cellsOf}
 use Rattle.grid.specs.State.{Scene, byFlag, liquid, stateOf}
 use Rattle.grid.specs.Step.{flagAt, newDensity, newMomentum, tooFast, collidedDir, collided, filled, emptied, besideFilled, besideEmptied, flagAfter, newFlag, liquidNear, bornDensity, bornMomentum, bornDir, born, newPart, newMass, fillFor, newFill}
 use Rattle.grid.specs.Outcome.{sceneOf}
-use Rattle.grid.specs.Between.{Poised, uncarried}
+use Rattle.grid.specs.Between.{Poised, carried}
 use Rattle.grid.specs.Passes.{lowOf, offsetOf}
 use Rattle.grid.specs.Sight.{Around, sight}
 use Rattle.grid.specs.Born.{Tested, flowSight}
@@ -81,16 +81,16 @@ module _ (flags : List ℕ) (parts : List ℤ) (off : List ℕ) (low : ℕ) (g :
     born-weighty = weighty (bornDensity S c) (bornDir S c) (born S c) refl (λ b. refl) (begun .low) (begun .rho) born-in (density-born S c)
 
 -- ---- the next state
-module _ (s : Sides) (g : Settings) (flags : List ℕ) (parts masses : List ℤ) (fills : List ℕ) (p : Poised s g (uncarried flags parts masses fills))
-    (fast : cellsOf s ≤ first (cellsOf s) (tooFast (sceneOf s g (uncarried flags parts masses fills)))) where
+module _ (s : Sides) (g : Settings) (flags : List ℕ) (parts masses : List ℤ) (fills : List ℕ) (carry : List ℤ) (p : Poised s g (carried flags parts masses fills carry))
+    (fast : cellsOf s ≤ first (cellsOf s) (tooFast (sceneOf s g (carried flags parts masses fills carry)))) where
   abbrev step : Scene
-  step = sceneOf s g (uncarried flags parts masses fills)
+  step = sceneOf s g (carried flags parts masses fills carry)
 
   abbrev seen : Scene
   seen = flowSight flags parts (tab 19 (offsetOf s)) (lowOf s) g
 
   calm : Tested flags parts (tab 19 (offsetOf s)) (lowOf s) g
-  calm = tested s g flags parts masses fills p fast
+  calm = tested s g flags parts masses fills carry p fast
 
   listed : {c : ℕ} → c < cellsOf s → c < length flags
   listed {c} h = subst (λ (n : ℕ). c < n) (sym (p .flags)) h
@@ -99,17 +99,17 @@ module _ (s : Sides) (g : Settings) (flags : List ℕ) (parts masses : List ℤ)
   wet-weighty : (c : ℕ) → c < cellsOf s → liquid (getD flags c 3) ≡ true → Weighty (collided step c)
   wet-weighty c h l =
       weighty-same (collided seen c) (collided step c)
-      (λ k m. collided-seen s g flags parts masses fills p (tab 19 (offsetOf s)) (lowOf s) (record { table = refl; lowest = refl }) c h l k m)
+      (λ k m. collided-seen s g flags parts masses fills carry p (tab 19 (offsetOf s)) (lowOf s) (record { table = refl; lowest = refl }) c h l k m)
       (collided-weighty flags parts (tab 19 (offsetOf s)) (lowOf s) g calm (relaxation-of g (p .settings)) c (listed h) l)
 
   new-weighty : (c : ℕ) → c < cellsOf s → flagAt step c ≡ 0 → newFlag step c ≡ 1 → Weighty (newPart step c)
   unfolding sceneOf stateOf
   new-weighty c h z n =
-      let inside = within s g flags parts masses fills p c h (omega arith) in
+      let inside = within s g flags parts masses fills carry p c h (omega arith) in
       weighty-same (born seen c) (newPart step c)
-      (λ k m. born-seen s g flags parts masses fills p c inside k ∙ sym (new-part s g flags parts masses fills p (tab (cellsOf s) (newFlag step)) refl c k z n))
+      (λ k m. born-seen s g flags parts masses fills carry p c inside k ∙ sym (new-part s g flags parts masses fills carry p (tab (cellsOf s) (newFlag step)) refl c k z n))
       (born-weighty flags parts (tab 19 (offsetOf s)) (lowOf s) g calm (relaxation-of g (p .settings)) c (calm .around c (listed h) (omega arith))
-      (fed s g flags parts masses fills p (tab (cellsOf s) (newFlag step)) refl c h (is-born s g flags parts masses fills p (tab (cellsOf s) (newFlag step)) refl c h z n)))
+      (fed s g flags parts masses fills carry p (tab (cellsOf s) (newFlag step)) refl c h (is-born s g flags parts masses fills carry p (tab (cellsOf s) (newFlag step)) refl c h z n)))
 
   kept : (fi em : Bool) → _≡_ {A = ℕ} (cond fi 2 (cond em 0 1)) 1 → em ≡ false
   kept true em e = absurd (omega arith)
