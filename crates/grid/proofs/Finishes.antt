@@ -6,23 +6,27 @@ use Prim.Native.Nat.{ℕ, zero, suc, _+_, _*_, _/_, _%_, _≤_, _<_}
 use native.Mathlib.Omega.{arith}
 use lib.IntN.{ℤ, pos}
 use lib.ListN.{length, getD, replicate, length-replicate}
+use Rattle.whole.specs.Bools.{and-left, and-right}
 use Rattle.whole.specs.Fold.{tab, first}
+use Rattle.whole.specs.Tab.{length-tab}
 use Rattle.lattice.specs.Lattice.{d3q19, density}
 use Rattle.lattice.specs.Cell.{dense, massGood}
 use Rattle.lattice.specs.declared.Settings.{Settings}
 use Rattle.grid.specs.declared.Sides.{Sides}
+use Rattle.grid.specs.declared.passing.Passed.{Passed}
+use Rattle.grid.specs.declared.passing.Passed.the-variants.{Stopped, Through}
 use Rattle.grid.specs.declared.Answer.{Answer}
 use Rattle.grid.specs.declared.Answer.the-variants.{Done, Refused}
 use Rattle.grid.specs.Grid.{cellsOf, gridOf, box}
 use Rattle.grid.specs.State.{Lent, State, Scene, byFlag, liquid, stateOf, lentOf}
 use Rattle.grid.specs.Step.{flagAt, flagAfter, newDensity, tooFast, collided, filled, emptied, besideFilled, besideEmptied, newFlag, newPart, newMass, newFill, next}
 use Rattle.grid.specs.Good.{badFlag, bodyGood, badRule}
-use Rattle.grid.specs.Outcome.{ifNone, goodAnswer, moveAnswer, sceneOf, nextOf}
+use Rattle.grid.specs.Outcome.{accepted, ifNone, goodAnswer, moveAnswer, sceneOf, nextOf}
 use Rattle.grid.specs.Between.{Sized, Ready, uncarried, movedPart, movedMass, firstMark}
 use Rattle.grid.specs.Filled.{Fillable, Refilled}
-use Rattle.grid.specs.Finished.{Finished, Tried}
-use Rattle.grid.specs.Flowed.{Flowable}
-use Rattle.grid.specs.Halfway.{Alike, Moved, Turned}
+use Rattle.grid.specs.Finished.{Finishing, Finished, Tried}
+use Rattle.grid.specs.Flowed.{Flowable, Went, stopped, through, Flowed}
+use Rattle.grid.specs.Halfway.{Alike, Moved, Turning, Turned, Stepping, Advanced}
 use Rattle.grid.specs.Passes.{Flagged, openedMark}
 use Rattle.grid.proofs.Accepted.{none-found, skip}
 use Rattle.grid.proofs.Accurate.{stays}
@@ -44,6 +48,10 @@ newborn-cases zero false fi em be d l = absurd (false≢true l)
 newborn-cases (suc zero) bf fi em be d l = absurd (false≢true (sym d))
 newborn-cases (suc (suc zero)) bf fi em be d l = absurd (false≢true (sym d))
 newborn-cases (suc (suc (suc n))) bf fi em be d l = absurd (false≢true l)
+
+is-stopped : Passed → Bool
+is-stopped (Stopped c) = true
+is-stopped (Through x y) = false
 
 -- ---- two sets of the right lengths are alike
 pub alike-sized : {n : ℕ} {a b : Lent} → Sized n a → Sized n b → Alike a b
@@ -223,12 +231,160 @@ module _ (s : Sides) (g : Settings) (a : Lent) where
             ∙ ap (λ (d : ℕ). ifNone (suc (cellsOf s)) 8 d Done) bad-next
             ∙ sym (skip (cellsOf s) 7 (first (cellsOf s) (tooFast S)) (ifNone (suc (cellsOf s)) 8 (badRule d3q19 (cellsOf s) (next S)) Done) t)
 
-    -- ---- what is left after both tests
-    pub tried-finished : {answer : Answer} {second : Lent} {after : List ℕ} → Finished s g a answer second after → Tried s g a answer second after
-    tried-finished {second = second} {after = after} f = record {
-      answer-is = f .answer-is;
-      alike = subst (λ (x : Lent). Alike a x) (sym (f .second-is)) (alike-sized (r .sized) (next-sized s g a));
-      marks-kept = ap length (f .marks-are) ∙ length-replicate (cellsOf s) 0;
-      second-is = λ e. f .second-is;
-      marks-are = λ e. f .marks-are;
-    }
+-- ---- the functions' contracts, one from the other
+module _ {s : Sides} {g : Settings} {a : Lent} where
+  -- lengths
+  pub next-lengths : {b : Lent} → b ≡ nextOf s g a → Sized (cellsOf s) b
+  next-lengths e = subst (λ (x : Lent). Sized (cellsOf s) x) (sym e) (next-sized s g a)
+
+  pub like-sized : {b : Lent} → Sized (cellsOf s) a → Alike a b → Sized (cellsOf s) b
+  like-sized x y = record {
+    flags = y .flags ∙ x .flags;
+    parts = y .parts ∙ x .parts;
+    masses = y .masses ∙ x .masses;
+    fills = y .fills ∙ x .fills;
+    carry = y .carry ∙ x .carry;
+  }
+
+  pub finishing-lengths : {b : Lent} {marks : List ℕ} {fair still : Bool} → Finishing s g a b marks fair still → Sized (cellsOf s) b
+  finishing-lengths f = record {
+    flags = f .flags-room;
+    parts = ap length (f .moved .parts-are) ∙ length-tab (19 * cellsOf s) (λ m. movedPart (sceneOf s g a) (m / 19) (m % 19));
+    masses = ap length (f .moved .masses-are) ∙ length-tab (cellsOf s) (movedMass (sceneOf s g a));
+    fills = f .fills-room;
+    carry = f .carry-room;
+  }
+
+  pub finishing-marks : {b : Lent} {marks : List ℕ} {fair still : Bool} → Finishing s g a b marks fair still → length marks ≡ cellsOf s
+  finishing-marks f = ap length (f .moved .marks-are) ∙ length-tab (cellsOf s) (firstMark (sceneOf s g a))
+
+  pub cleared : {marks : List ℕ} → marks ≡ replicate (cellsOf s) 0 → length marks ≡ cellsOf s
+  cleared e = ap length e ∙ length-replicate (cellsOf s) 0
+
+  pub advanced-lengths : {answer : Answer} {second : Lent} {after : List ℕ} → Ready s g a → Advanced s g a answer second after → Sized (cellsOf s) second
+  advanced-lengths r d = go (accepted (moveAnswer (sceneOf s g a))) (d .second-is)
+    where
+      go : (b : Bool) {x : Lent} → x ≡ cond b (nextOf s g a) a → Sized (cellsOf s) x
+      go true e = next-lengths e
+      go false e = subst (λ (y : Lent). Sized (cellsOf s) y) (sym e) (r .sized)
+
+  -- finished
+  pub turning : {b : Lent} {marks : List ℕ} {fair still : Bool} → Finishing s g a b marks fair still → Turning s g a (b .flags) (b .parts) (b .masses) (b .carry) marks still
+  turning f = record {
+    ready = f .ready;
+    moved = record {
+      steady = f .moved .steady;
+      parts-are = f .moved .parts-are;
+      masses-are = f .moved .masses-are;
+      marks-are = f .moved .marks-are;
+      fair-tells = λ e. absurd (false≢true e);
+      still-tells = f .moved .still-tells;
+    };
+    flags-room = f .flags-room;
+    carry-room = f .carry-room;
+  }
+
+  module _ {b : Lent} {before : List ℕ} {fair still : Bool} (f : Finishing s g a b before fair still) {flags2 : List ℕ} {parts2 masses2 carry2 : List ℤ} {marks : List ℕ} {turned : Bool}
+      (w : Turned (sceneOf s g a) (cellsOf s) flags2 parts2 masses2 carry2 marks turned) where
+    flags-count : length flags2 ≡ cellsOf s
+    flags-count = ap length (w .flags-are) ∙ length-tab (cellsOf s) (newFlag (sceneOf s g a))
+
+    pub filling : Fillable flags2 parts2 masses2 × (length (b .fills) ≡ length flags2)
+    filling = (fills-asked s g a (f .ready) (f .moved .steady) w, f .fills-room ∙ sym flags-count)
+
+    module _ {fills2 : List ℕ} {weighed : Bool} (r : Refilled flags2 parts2 masses2 fills2 weighed) where
+      abbrev set : Lent
+      set = record { flags = flags2; parts = parts2; masses = masses2; fills = fills2; carry = carry2 }
+
+      pub set-next : set ≡ nextOf s g a
+      set-next = second-next s g a (f .ready) (f .moved .steady) w r
+
+      pub set-lengths : Sized (length flags2) set
+      set-lengths = subst (λ (n : ℕ). Sized n set) (sym flags-count) (next-lengths set-next)
+
+      pub finished-fair : (fair && turned && weighed) ≡ true → Finished s g a Done set marks
+      finished-fair e =
+          let u = and-left (fair && turned) weighed e in
+          record {
+            answer-is = fair-answer s g a (f .ready) (f .moved .steady) w r (f .moved .fair-tells (and-left fair turned u)) (and-right fair turned u) (and-right (fair && turned) weighed e);
+            second-is = set-next;
+            marks-are = w .marks-are;
+          }
+
+      pub finished-judged : {answer : Answer} → answer ≡ ifNone (suc (length flags2)) 8 (badRule d3q19 (length flags2) (stateOf 18 set)) Done → Finished s g a answer set marks
+      finished-judged e = record { answer-is = judged-answer s g a (f .ready) (f .moved .steady) w r flags-count e; second-is = set-next; marks-are = w .marks-are }
+
+  -- advanced
+  went-stopped : {S : Scene} {n : ℕ} {o : Passed} {parts masses : List ℤ} {marks : List ℕ} (c : ℕ) → o ≡ Stopped c → Went S n o parts masses marks → (c < n) × (first n (tooFast S) ≡ c)
+  went-stopped {S} {n} c e (stopped {d} h f) = let k : d ≡ c = ap place e in (subst (λ (m : ℕ). m < n) k h, f ∙ k)
+    where
+      place : Passed → ℕ
+      place (Stopped x) = x
+      place (Through x y) = 0
+  went-stopped c e (through m) = absurd (false≢true (ap is-stopped e))
+
+  went-through : {S : Scene} {n : ℕ} {o : Passed} {parts masses : List ℤ} {marks : List ℕ} (fair still : Bool) → o ≡ Through fair still → Went S n o parts masses marks → Moved S n parts masses marks fair still
+  went-through fair still e (stopped h f) = absurd (false≢true (sym (ap is-stopped e)))
+  went-through {S} {n} {o} {parts} {masses} {marks} fair still e (through {x} {y} m) =
+      subst (λ (z : Bool). Moved S n parts masses marks z still) (ap first-flag e) (subst (λ (z : Bool). Moved S n parts masses marks x z) (ap second-flag e) m)
+    where
+      first-flag : Passed → Bool
+      first-flag (Stopped d) = false
+      first-flag (Through u v) = u
+
+      second-flag : Passed → Bool
+      second-flag (Stopped d) = false
+      second-flag (Through u v) = v
+
+  module _ {b : Lent} {marks : List ℕ} (f : Stepping s g a b marks) where
+    second-sized : Sized (cellsOf s) b
+    second-sized = like-sized (f .ready .sized) (f .alike)
+
+    module _ {o : Passed} {parts2 masses2 : List ℤ} {marks2 : List ℕ} (w : Flowed s g (a .flags) (a .parts) (a .masses) (a .fills) o parts2 masses2 marks2) where
+      abbrev flowed : Lent
+      flowed = record { flags = b .flags; parts = parts2; masses = masses2; fills = b .fills; carry = b .carry }
+
+      pub stopped-tried : (c : ℕ) → o ≡ Stopped c → Tried s g a (Refused 7 c) flowed marks2
+      stopped-tried c e =
+          let h = went-stopped c e (w .went) in
+          record {
+            answer-is = stopped-answer s g a (h .0) (h .1);
+            alike = alike-sized (f .ready .sized) (record { flags = second-sized .flags; parts = w .parts-kept; masses = w .masses-kept; fills = second-sized .fills; carry = second-sized .carry });
+            marks-kept = w .marks-kept;
+            second-is = λ k. absurd (false≢true (ap accepted k));
+            marks-are = λ k. absurd (false≢true (ap accepted k));
+          }
+
+      pub finishing : (fair still : Bool) → o ≡ Through fair still → Finishing s g a flowed marks2 fair still
+      finishing fair still e = record {
+        ready = f .ready;
+        moved = moved-carried s g a (went-through fair still e (w .went));
+        flags-room = second-sized .flags;
+        fills-room = second-sized .fills;
+        carry-room = second-sized .carry;
+      }
+
+  pub tried-finished : {answer : Answer} {second : Lent} {after : List ℕ} → Ready s g a → Finished s g a answer second after → Tried s g a answer second after
+  tried-finished r f = record {
+    answer-is = f .answer-is;
+    alike = alike-sized (r .sized) (next-lengths (f .second-is));
+    marks-kept = cleared (f .marks-are);
+    second-is = λ e. f .second-is;
+    marks-are = λ e. f .marks-are;
+  }
+
+  -- stepped
+  pub refused-advanced : {n p : ℕ} {answer : Answer} {between second : Lent} {after marks : List ℕ} → answer ≡ Refused n p → Tried s g a answer between after → second ≡ a
+      → marks ≡ replicate (length after) 0 → Advanced s g a (Refused n p) second marks
+  refused-advanced e t k m = record {
+    answer-is = sym e ∙ t .answer-is;
+    second-is = k ∙ ap (λ (x : Answer). cond (accepted x) (nextOf s g a) a) (sym e ∙ t .answer-is);
+    marks-are = m ∙ ap (λ (n : ℕ). replicate n 0) (t .marks-kept);
+  }
+
+  pub done-advanced : {answer : Answer} {second : Lent} {after : List ℕ} → answer ≡ Done → Tried s g a answer second after → Advanced s g a Done second after
+  done-advanced e t = record {
+    answer-is = sym e ∙ t .answer-is;
+    second-is = t .second-is e ∙ ap (λ (x : Answer). cond (accepted x) (nextOf s g a) a) (sym e ∙ t .answer-is);
+    marks-are = t .marks-are e;
+  }
