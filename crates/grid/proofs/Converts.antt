@@ -52,12 +52,13 @@ ready-poised s g a r = record {
   flagged = ready-sound s g a r .flagged;
   walled = ready-sound s g a r .walled;
   closed = ready-sound s g a r .closed;
-  cells = ready-cell s g a r
-  }
+  cells = ready-cell s g a r;
+}
 
 module _ (s : Sides) (g : Settings) (a : Lent) (r : Ready s g a) (steady : cellsOf s ≤ first (cellsOf s) (tooFast (sceneOf s g a))) where
   abbrev S : Scene
   S = sceneOf s g a
+
   abbrev n : ℕ
   n = cellsOf s
 
@@ -104,6 +105,11 @@ module _ (s : Sides) (g : Settings) (a : Lent) (r : Ready s g a) (steady : cells
     module _ (parts masses : List ℤ) (marks : List ℕ) (ep : parts ≡ tab (19 * n) (λ m. bornPart S (m / 19) (m % 19))) (em : masses ≡ tab n (movedMass S)) (ek : marks ≡ tab n (settledMark S)) where
       pub midway : Midway s g a flags (a .fills) parts masses marks
       midway = record { poised = ready-poised s g a r; steady = steady; fills-are = refl; flags-are = ef; parts-are = ep; masses-are = em; marks-are = ek }
+
+      pub carry-told : (k z : ℤ) → z ≡ getD (a .carry) 0 (pos 0) → k ≡ z +ℤ sum n (strayAt flags parts masses marks (tab 19 (offsetOf s)) (lowOf s)) → k ≡ newCarry S
+      unfolding stateOf
+      carry-told k z e f =
+          f ∙ ap (λ (x : ℤ). x +ℤ sum n (strayAt flags parts masses marks (tab 19 (offsetOf s)) (lowOf s))) e ∙ carry-is midway (grid-offsets s)
 
   pub carry-within : Within (getD (a .carry) 0 (pos 0)) 1000000000000
   carry-within = record { abs = leb-true (natAbs (getD (a .carry) 0 (pos 0))) 1000000000000 (ready-carry s g a r) }

@@ -67,14 +67,14 @@ module _ (s : Sides) (g : Settings) (a : Lent) (r : Ready s g a) (parts masses :
   unfolding sceneOf stateOf
   still-turned flags carry ef ec = record {
     flags-are = ef ∙ tab-self 3 (a .flags) ∙ ap (λ (n : ℕ). tab n (λ j. getD (a .flags) j 3)) (r .sized .flags)
-      ∙ tab-cong (cellsOf s) (λ j. getD (a .flags) j 3) (newFlag S) 3 (λ c h. sym (flag-stays c h));
+        ∙ tab-cong (cellsOf s) (λ j. getD (a .flags) j 3) (newFlag S) 3 (λ c h. sym (flag-stays c h));
     parts-are = m .parts-are ∙ tab-cong (19 * cellsOf s) (λ j. movedPart S (j / 19) (j % 19)) (λ j. newPart S (j / 19) (j % 19)) (pos 0) (λ j h. sym (part-stays (j / 19) (j % 19) (below (cellsOf s) j h)));
     masses-are = m .masses-are ∙ tab-cong (cellsOf s) (movedMass S) (newMass S) (pos 0) (λ c h. sym (mass-stays c h));
     carry-is = ec ∙ single (a .carry) (r .sized .carry) ∙ ap (λ (z : ℤ). z ∷ []) (sym carry-same);
     marks-are = m .marks-are ∙ tab-cong (cellsOf s) (firstMark S) (λ c. 0) 0 (λ c h. m .still-tells refl c h) ∙ tab-replicate (cellsOf s) 0 0;
     newborn = λ e c h f n. absurd (omega (arith, flag-stays c h));
-    carry-fair = λ e. ap carryGood carry-same ∙ ready-carry s g a r
-    }
+    carry-fair = λ e. ap carryGood carry-same ∙ ready-carry s g a r;
+  }
 
 -- what the conversion asks, where it is to be made
 pub turning-on : (s : Sides) (g : Settings) (a : Lent) (flags : List ℕ) (parts masses carry : List ℤ) (marks : List ℕ) (still : Bool) (flags′ : List ℕ) (carry′ : List ℤ)
@@ -87,8 +87,8 @@ turning-on s g a flags parts masses carry marks still flags′ carry′ ef ec t 
     masses-are = t .moved .masses-are;
     marks-are = t .moved .marks-are;
     fair-tells = t .moved .fair-tells;
-    still-tells = λ e. absurd (false≢true e)
-    };
+    still-tells = λ e. absurd (false≢true e);
+  };
   flags-room = ap length ef ∙ t .ready .sized .flags;
-  carry-room = ap length ec ∙ t .ready .sized .carry
-  }
+  carry-room = ap length ec ∙ t .ready .sized .carry;
+}

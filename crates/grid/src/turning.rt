@@ -68,6 +68,17 @@ pub(crate) fn turned(
         return true;
     }
     converted(
-        flags, parts, mass, fill, carry, flags2, parts2, mass2, carry2, marks, s, g,
+        flags,
+        parts,
+        mass,
+        fill,
+        carry,
+        flags2,
+        parts2,
+        mass2,
+        carry2,
+        marks,
+        s,
+        g,
     )
 }

@@ -57,7 +57,7 @@ whole-gas c =
     let s = c .before .before .before .before .before .before in
     c .rebuilt .ensures
     ∙ ap (λ (z : ℤ). gas (natAbs z) (s .args .v .rho) (toZ w32 (ofZ w32 (s .args .d))) (dot (vec (s .args .v)) (vec (s .args .v))))
-        (toZ-ofZ (sfits-of {w = w64} (c .before .weight-of .ok)) ∙ c .before .weight-of .ensures)
+    (toZ-ofZ (sfits-of {w = w64} (c .before .weight-of .ok)) ∙ c .before .weight-of .ensures)
     ∙ gas-same (d3q19 .weight (s .args .i)) (s .pre .flows .density) (toZ-ofZ (s .fits .d) ∙ along s) (s .pre .flows .momentum)
 
 own-part : (c : tie.After-wide) →
