@@ -10,6 +10,7 @@ use borrow.Author.Tests.{eqb-true, ne-eqb}
 use Rattle.whole.specs.Bools.{and-left, and-right}
 use Rattle.whole.specs.Fold.{first}
 use Rattle.lattice.specs.Lattice.{d3q19}
+use Rattle.lattice.specs.Cell.{relaxationGood, gravityGood}
 use Rattle.lattice.specs.declared.Settings.{Settings}
 use Rattle.grid.specs.declared.Sides.{Sides}
 use Rattle.grid.specs.declared.Answer.{Answer}
@@ -138,7 +139,18 @@ module _ (s : Sides) (g : Settings) (a b : Lent) (marks : List ℕ) where
         same true = refl
         same false = refl
 
-  -- ---- the answer, test by test
+  -- ---- the answer, test by test: what the tests of lengths and settings find
+  pub lengths-told : {n : ℕ} {x y : Bool} → n ≡ cellsOf s
+      → x ≡ (eqb (length (a .flags)) n && eqb (length (a .parts)) (19 * n) && eqb (length (a .masses)) n && eqb (length (a .fills)) n && eqb (length (a .carry)) 1)
+      → y ≡ (eqb (length (b .flags)) n && eqb (length (b .parts)) (19 * n) && eqb (length (b .masses)) n && eqb (length (b .fills)) n && eqb (length (b .carry)) 1)
+      → (x && y && eqb (length marks) n) ≡ (lengthsGood (cellsOf s) a && lengthsGood (cellsOf s) b && eqb (length marks) (cellsOf s))
+  unfolding lengthsGood
+  lengths-told {n} e p q = (λ i. p i && q i && eqb (length marks) n) ∙ ap (λ (m : ℕ). lengthsGood m a && lengthsGood m b && eqb (length marks) m) e
+
+  pub settings-told : {x : Bool} → x ≡ (relaxationGood (g .p) && gravityGood (g .gx) (g .gy) (g .gz)) → x ≡ settingsGood g
+  unfolding settingsGood
+  settings-told e = e
+
   pub refuses-sides : sidesGood s ≡ false → Refused 1 0 ≡ entryAnswer s g a b marks Done
   unfolding entryAnswer
   refuses-sides e = rw e refl
@@ -152,6 +164,10 @@ module _ (s : Sides) (g : Settings) (a b : Lent) (marks : List ℕ) where
       pub refuses-settings : settingsGood g ≡ false → Refused 3 0 ≡ entryAnswer s g a b marks Done
       unfolding entryAnswer
       refuses-settings e = rw (es, el, e) refl
+
+      pub first-good : Sized (cellsOf s) a
+      first-good =
+          sized (cellsOf s) a (and-left (lengthsGood (cellsOf s) a) (lengthsGood (cellsOf s) b) (and-left (lengthsGood (cellsOf s) a && lengthsGood (cellsOf s) b) (eqb (length marks) (cellsOf s)) el))
 
       pub then-good : settingsGood g ≡ true → goodAnswer d3q19 (gridOf s) (stateOf 18 a) Done ≡ entryAnswer s g a b marks Done
       unfolding entryAnswer

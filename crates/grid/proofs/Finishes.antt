@@ -22,7 +22,7 @@ use Rattle.grid.specs.State.{Lent, State, Scene, byFlag, liquid, stateOf
 use Rattle.grid.specs.Step.{flagAt, flagAfter, newDensity, tooFast, collided, filled, emptied, besideFilled, besideEmptied, newFlag, newPart, newMass, newFill, next}
 use Rattle.grid.specs.Good.{badFlag, bodyGood, badRule}
 use Rattle.grid.specs.Outcome.{accepted, ifNone, goodAnswer, moveAnswer, sceneOf, nextOf}
-use Rattle.grid.specs.Between.{Sized, Ready, uncarried, movedPart, movedMass, firstMark}
+use Rattle.grid.specs.Between.{Sized, Ready, Poised, uncarried, movedPart, movedMass, firstMark}
 use Rattle.grid.specs.Filled.{Fillable, Refilled}
 use Rattle.grid.specs.Finished.{Finishing, Finished, Tried}
 use Rattle.grid.specs.Flowed.{Flowable, Went, stopped, through, Flowed}
@@ -32,6 +32,7 @@ use Rattle.grid.proofs.Accepted.{none-found, skip}
 use Rattle.grid.proofs.Accurate.{stays}
 use Rattle.grid.proofs.Amounts.{new-dense}
 use Rattle.grid.proofs.Checks.{stop}
+use Rattle.grid.proofs.Converts.{ready-poised}
 use Rattle.grid.proofs.Fair.{Fair, fair-holds}
 use Rattle.grid.proofs.Listed.{same-listed, lengths-listed}
 use Rattle.grid.proofs.Opened.{open-near}
@@ -39,7 +40,7 @@ use Rattle.grid.proofs.Poise.{poised}
 use Rattle.grid.proofs.Prepared.{sized}
 use Rattle.grid.proofs.Refills.{fillable, fills-next, masses-fair}
 use Rattle.grid.proofs.Same.{body-same, bad-rule-same}
-use Rattle.grid.proofs.Uncarried.{new-density-is, fast-is, collided-is, moved-part-is, moved-mass-is, first-mark-is, new-flag-is, new-part-is, new-mass-is, new-fill-is}
+use Rattle.grid.proofs.Uncarried.{fast-is, collided-is, moved-part-is, moved-mass-is, first-mark-is}
 
 -- what is interface and was not liquid was empty
 newborn-cases : (f : ℕ) (bf fi em be : Bool) → liquid f ≡ false → liquid (flagAfter f bf fi em be) ≡ true → (f ≡ 0) × (flagAfter f bf fi em be ≡ 1)
@@ -49,9 +50,22 @@ newborn-cases (suc zero) bf fi em be d l = absurd (false≢true (sym d))
 newborn-cases (suc (suc zero)) bf fi em be d l = absurd (false≢true (sym d))
 newborn-cases (suc (suc (suc n))) bf fi em be d l = absurd (false≢true l)
 
-is-stopped : Passed → Bool
+-- what pass 1 answered
+abbrev is-stopped : Passed → Bool
 is-stopped (Stopped c) = true
-is-stopped (Through x y) = false
+is-stopped (Through u v) = false
+
+abbrev stopped-at : Passed → ℕ
+stopped-at (Stopped c) = c
+stopped-at (Through u v) = 0
+
+abbrev was-fair : Passed → Bool
+was-fair (Stopped c) = false
+was-fair (Through u v) = u
+
+abbrev was-still : Passed → Bool
+was-still (Stopped c) = false
+was-still (Through u v) = v
 
 -- ---- two sets of the right lengths are alike
 pub alike-sized : {n : ℕ} {a b : Lent} → Sized n a → Sized n b → Alike a b
@@ -71,13 +85,9 @@ module _ (s : Sides) (g : Settings) (a : Lent) where
   abbrev S : Scene
   S = sceneOf s g a
 
-  -- the same with no carry: no stage but the last sum of stage 6 reads it
+  -- the same with no carry, as pass 1 has it
   abbrev U : Scene
   U = sceneOf s g (uncarried (a .flags) (a .parts) (a .masses) (a .fills))
-
-  density-carried : newDensity U ≡ newDensity S
-  unfolding sceneOf stateOf
-  density-carried = new-density-is (S .lat) (S .grid) (S .old .flag) (S .old .part) (S .old .mass) (S .old .fill) (S .g) (S .relax) (U .old .carry) (S .old .carry)
 
   fast-carried : tooFast U ≡ tooFast S
   unfolding sceneOf stateOf
@@ -98,22 +108,6 @@ module _ (s : Sides) (g : Settings) (a : Lent) where
   mark-carried : firstMark U ≡ firstMark S
   unfolding sceneOf stateOf
   mark-carried = first-mark-is (S .lat) (S .grid) (S .old .flag) (S .old .part) (S .old .mass) (S .old .fill) (S .g) (S .relax) (U .old .carry) (S .old .carry)
-
-  new-flag-carried : newFlag U ≡ newFlag S
-  unfolding sceneOf stateOf
-  new-flag-carried = new-flag-is (S .lat) (S .grid) (S .old .flag) (S .old .part) (S .old .mass) (S .old .fill) (S .g) (S .relax) (U .old .carry) (S .old .carry)
-
-  new-part-carried : newPart U ≡ newPart S
-  unfolding sceneOf stateOf
-  new-part-carried = new-part-is (S .lat) (S .grid) (S .old .flag) (S .old .part) (S .old .mass) (S .old .fill) (S .g) (S .relax) (U .old .carry) (S .old .carry)
-
-  new-mass-carried : newMass U ≡ newMass S
-  unfolding sceneOf stateOf
-  new-mass-carried = new-mass-is (S .lat) (S .grid) (S .old .flag) (S .old .part) (S .old .mass) (S .old .fill) (S .g) (S .relax) (U .old .carry) (S .old .carry)
-
-  new-fill-carried : newFill U ≡ newFill S
-  unfolding sceneOf stateOf
-  new-fill-carried = new-fill-is (S .lat) (S .grid) (S .old .flag) (S .old .part) (S .old .mass) (S .old .fill) (S .g) (S .relax) (U .old .carry) (S .old .carry)
 
   -- ---- pass 1
   pub moved-carried : {parts masses : List ℤ} {marks : List ℕ} {fair still : Bool} → Moved U (cellsOf s) parts masses marks fair still → Moved S (cellsOf s) parts masses marks fair still
@@ -153,34 +147,21 @@ module _ (s : Sides) (g : Settings) (a : Lent) where
 
     module _ (t : cellsOf s ≤ first (cellsOf s) (tooFast S)) {flags2 : List ℕ} {parts2 masses2 carry2 : List ℤ} {marks : List ℕ} {turned : Bool}
         (w : Turned S (cellsOf s) flags2 parts2 masses2 carry2 marks turned) where
-      steady : cellsOf s ≤ first (cellsOf s) (tooFast U)
-      steady = subst (λ (f : ℕ → Bool). cellsOf s ≤ first (cellsOf s) f) (sym fast-carried) t
+      poise : Poised s g a
+      poise = ready-poised s g a r
 
       dense-now : (c : ℕ) → c < cellsOf s → liquid (flagAt S c) ≡ true → dense (newDensity S c) ≡ true
-      unfolding sceneOf stateOf
-      dense-now c h l =
-          ap (λ (f : ℕ → ℤ). dense (f c)) (sym density-carried)
-          ∙ new-dense s g (uncarried (a .flags) (a .parts) (a .masses) (a .fills)) (poised s g a r) steady c h l
-
-      flags-bare : flags2 ≡ tab (cellsOf s) (newFlag U)
-      flags-bare = w .flags-are ∙ sym (ap (tab (cellsOf s)) new-flag-carried)
-
-      parts-bare : parts2 ≡ tab (19 * cellsOf s) (λ m. newPart U (m / 19) (m % 19))
-      parts-bare = w .parts-are ∙ sym (ap (λ (f : ℕ → ℕ → ℤ). tab (19 * cellsOf s) (λ m. f (m / 19) (m % 19))) new-part-carried)
-
-      masses-bare : masses2 ≡ tab (cellsOf s) (newMass U)
-      masses-bare = w .masses-are ∙ sym (ap (tab (cellsOf s)) new-mass-carried)
+      unfolding sceneOf
+      dense-now c h l = new-dense s g a poise t c h l
 
       -- after the conversion
       pub fills-asked : Fillable flags2 parts2 masses2
-      fills-asked = fillable s g (a .flags) (a .parts) (a .masses) (a .fills) (poised s g a r) steady flags2 parts2 masses2 flags-bare parts-bare masses-bare
+      fills-asked = fillable s g (a .flags) (a .parts) (a .masses) (a .fills) (a .carry) poise t flags2 parts2 masses2 (w .flags-are) (w .parts-are) (w .masses-are)
 
       -- after the fills: the next state
       module _ {fills2 : List ℕ} {weighed : Bool} (f : Refilled flags2 parts2 masses2 fills2 weighed) where
         fills-are : fills2 ≡ tab (cellsOf s) (newFill S)
-        fills-are =
-            fills-next s g (a .flags) (a .parts) (a .masses) (a .fills) (poised s g a r) steady flags2 parts2 masses2 flags-bare parts-bare masses-bare f
-            ∙ ap (tab (cellsOf s)) new-fill-carried
+        fills-are = fills-next s g (a .flags) (a .parts) (a .masses) (a .fills) (a .carry) poise t flags2 parts2 masses2 (w .flags-are) (w .parts-are) (w .masses-are) f
 
         abbrev second : Lent
         second = record { flags = flags2; parts = parts2; masses = masses2; fills = fills2; carry = carry2 }
@@ -190,10 +171,7 @@ module _ (s : Sides) (g : Settings) (a : Lent) where
         second-next i = record { flags = w .flags-are i; parts = w .parts-are i; masses = w .masses-are i; fills = fills-are i; carry = w .carry-is i }
 
         mass-fair : weighed ≡ true → (c : ℕ) → c < cellsOf s → newFlag S c ≡ 1 → massGood (newMass S c) ≡ true
-        mass-fair e c h n =
-            ap (λ (m : ℕ → ℤ). massGood (m c)) (sym new-mass-carried)
-            ∙ masses-fair s g (a .flags) (a .parts) (a .masses) (a .fills) (poised s g a r) steady flags2 parts2 masses2 flags-bare parts-bare masses-bare f e c h
-            (ap (λ (m : ℕ → ℕ). m c) new-flag-carried ∙ n)
+        mass-fair = masses-fair s g (a .flags) (a .parts) (a .masses) (a .fills) (a .carry) poise t flags2 parts2 masses2 (w .flags-are) (w .parts-are) (w .masses-are) f
 
         -- ---- test 8 where all was found fair
         module _ (body : (c : ℕ) → c < cellsOf s → liquid (flagAt S c) ≡ true → bodyGood d3q19 (collided S c) ≡ true) (et : turned ≡ true) (ew : weighed ≡ true) where
@@ -232,20 +210,32 @@ module _ (s : Sides) (g : Settings) (a : Lent) where
             ∙ sym (skip (cellsOf s) 7 (first (cellsOf s) (tooFast S)) (ifNone (suc (cellsOf s)) 8 (badRule d3q19 (cellsOf s) (next S)) Done) t)
 
 -- ---- the functions' contracts, one from the other
+
+pub next-lengths : (s : Sides) (g : Settings) (a : Lent) {b : Lent} → b ≡ nextOf s g a → Sized (cellsOf s) b
+next-lengths s g a e = subst (λ (x : Lent). Sized (cellsOf s) x) (sym e) (next-sized s g a)
+
+pub like-sized : {n : ℕ} {a b : Lent} → Sized n a → Alike a b → Sized n b
+like-sized x y = record {
+  flags = y .flags ∙ x .flags;
+  parts = y .parts ∙ x .parts;
+  masses = y .masses ∙ x .masses;
+  fills = y .fills ∙ x .fills;
+  carry = y .carry ∙ x .carry;
+}
+
+pub cleared : (n : ℕ) {marks : List ℕ} → marks ≡ replicate n 0 → length marks ≡ n
+cleared n e = ap length e ∙ length-replicate n 0
+
+went-stopped : {S : Scene} {n : ℕ} {o : Passed} {parts masses : List ℤ} {marks : List ℕ} (c : ℕ) → o ≡ Stopped c → Went S n o parts masses marks → (c < n) × (first n (tooFast S) ≡ c)
+went-stopped {S} {n} c e (stopped {c = d} h f) = let k : d ≡ c = ap stopped-at e in (subst (λ (m : ℕ). m < n) k h, f ∙ k)
+went-stopped c e (through m) = absurd (false≢true (ap is-stopped e))
+
+went-through : {S : Scene} {n : ℕ} {o : Passed} {parts masses : List ℤ} {marks : List ℕ} (u v : Bool) → o ≡ Through u v → Went S n o parts masses marks → Moved S n parts masses marks u v
+went-through u v e (stopped h f) = absurd (false≢true (sym (ap is-stopped e)))
+went-through {S} {n} {o} {parts} {masses} {marks} u v e (through {fair = x} {still = y} m) =
+    subst (λ (z : Bool). Moved S n parts masses marks z v) (ap was-fair e) (subst (λ (z : Bool). Moved S n parts masses marks x z) (ap was-still e) m)
+
 module _ {s : Sides} {g : Settings} {a : Lent} where
-  -- lengths
-  pub next-lengths : {b : Lent} → b ≡ nextOf s g a → Sized (cellsOf s) b
-  next-lengths e = subst (λ (x : Lent). Sized (cellsOf s) x) (sym e) (next-sized s g a)
-
-  pub like-sized : {b : Lent} → Sized (cellsOf s) a → Alike a b → Sized (cellsOf s) b
-  like-sized x y = record {
-    flags = y .flags ∙ x .flags;
-    parts = y .parts ∙ x .parts;
-    masses = y .masses ∙ x .masses;
-    fills = y .fills ∙ x .fills;
-    carry = y .carry ∙ x .carry;
-  }
-
   pub finishing-lengths : {b : Lent} {marks : List ℕ} {fair still : Bool} → Finishing s g a b marks fair still → Sized (cellsOf s) b
   finishing-lengths f = record {
     flags = f .flags-room;
@@ -258,14 +248,11 @@ module _ {s : Sides} {g : Settings} {a : Lent} where
   pub finishing-marks : {b : Lent} {marks : List ℕ} {fair still : Bool} → Finishing s g a b marks fair still → length marks ≡ cellsOf s
   finishing-marks f = ap length (f .moved .marks-are) ∙ length-tab (cellsOf s) (firstMark (sceneOf s g a))
 
-  pub cleared : {marks : List ℕ} → marks ≡ replicate (cellsOf s) 0 → length marks ≡ cellsOf s
-  cleared e = ap length e ∙ length-replicate (cellsOf s) 0
-
   pub advanced-lengths : {answer : Answer} {second : Lent} {after : List ℕ} → Ready s g a → Advanced s g a answer second after → Sized (cellsOf s) second
   advanced-lengths r d = go (accepted (moveAnswer (sceneOf s g a))) (d .second-is)
     where
       go : (b : Bool) {x : Lent} → x ≡ cond b (nextOf s g a) a → Sized (cellsOf s) x
-      go true e = next-lengths e
+      go true e = next-lengths s g a e
       go false e = subst (λ (y : Lent). Sized (cellsOf s) y) (sym e) (r .sized)
 
   -- finished
@@ -300,7 +287,7 @@ module _ {s : Sides} {g : Settings} {a : Lent} where
       set-next = second-next s g a (f .ready) (f .moved .steady) w r
 
       pub set-lengths : Sized (length flags2) set
-      set-lengths = subst (λ (n : ℕ). Sized n set) (sym flags-count) (next-lengths set-next)
+      set-lengths = subst (λ (n : ℕ). Sized n set) (sym flags-count) (next-lengths s g a set-next)
 
       pub finished-fair : (fair && turned && weighed) ≡ true → Finished s g a Done set marks
       finished-fair e =
@@ -315,27 +302,6 @@ module _ {s : Sides} {g : Settings} {a : Lent} where
       finished-judged e = record { answer-is = judged-answer s g a (f .ready) (f .moved .steady) w r flags-count e; second-is = set-next; marks-are = w .marks-are }
 
   -- advanced
-  went-stopped : {S : Scene} {n : ℕ} {o : Passed} {parts masses : List ℤ} {marks : List ℕ} (c : ℕ) → o ≡ Stopped c → Went S n o parts masses marks → (c < n) × (first n (tooFast S) ≡ c)
-  went-stopped {S} {n} c e (stopped {d} h f) = let k : d ≡ c = ap place e in (subst (λ (m : ℕ). m < n) k h, f ∙ k)
-    where
-      place : Passed → ℕ
-      place (Stopped x) = x
-      place (Through x y) = 0
-  went-stopped c e (through m) = absurd (false≢true (ap is-stopped e))
-
-  went-through : {S : Scene} {n : ℕ} {o : Passed} {parts masses : List ℤ} {marks : List ℕ} (fair still : Bool) → o ≡ Through fair still → Went S n o parts masses marks → Moved S n parts masses marks fair still
-  went-through fair still e (stopped h f) = absurd (false≢true (sym (ap is-stopped e)))
-  went-through {S} {n} {o} {parts} {masses} {marks} fair still e (through {x} {y} m) =
-      subst (λ (z : Bool). Moved S n parts masses marks z still) (ap first-flag e) (subst (λ (z : Bool). Moved S n parts masses marks x z) (ap second-flag e) m)
-    where
-      first-flag : Passed → Bool
-      first-flag (Stopped d) = false
-      first-flag (Through u v) = u
-
-      second-flag : Passed → Bool
-      second-flag (Stopped d) = false
-      second-flag (Through u v) = v
-
   module _ {b : Lent} {marks : List ℕ} (f : Stepping s g a b marks) where
     second-sized : Sized (cellsOf s) b
     second-sized = like-sized (f .ready .sized) (f .alike)
@@ -367,8 +333,8 @@ module _ {s : Sides} {g : Settings} {a : Lent} where
   pub tried-finished : {answer : Answer} {second : Lent} {after : List ℕ} → Ready s g a → Finished s g a answer second after → Tried s g a answer second after
   tried-finished r f = record {
     answer-is = f .answer-is;
-    alike = alike-sized (r .sized) (next-lengths (f .second-is));
-    marks-kept = cleared (f .marks-are);
+    alike = alike-sized (r .sized) (next-lengths s g a (f .second-is));
+    marks-kept = cleared (cellsOf s) (f .marks-are);
     second-is = λ e. f .second-is;
     marks-are = λ e. f .marks-are;
   }

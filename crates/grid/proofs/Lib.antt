@@ -63,7 +63,7 @@ pub mod Impacts
 pub mod Handed
 pub mod Walked
 pub mod Turns
+pub mod Converts
 pub mod Uncarried
 pub mod Finishes
 pub mod Entrance
-pub mod Converts
