@@ -1,8 +1,8 @@
 -- Tests 1 to 6 before a step: what an answer Done tells of the sets, and that what they refuse the step refuses, writing nothing. Assumes nothing.
-use mathlib.Core.Path.{_≡_, refl, sym, ap, ap₂, _∙_, subst}
-use mathlib.Core.Bool.{Bool, true, false, _&&_, cond, false≢true, true≢false}
+use mathlib.Core.Path.{_≡_, refl, sym, ap, _∙_, subst}
+use mathlib.Core.Bool.{Bool, true, false, _&&_, cond, true≢false}
 use mathlib.Core.List.{List}
-use Prim.Native.Nat.{ℕ, zero, suc, _*_, _≤_, _<_}
+use Prim.Native.Nat.{ℕ, suc, _*_, _≤_}
 use native.Mathlib.Omega.{arith}
 use lib.Dec.{eqb, leb}
 use lib.ListN.{length, replicate}
@@ -19,8 +19,8 @@ use Rattle.grid.specs.Grid.{cellsOf, sidesGood, gridOf}
 use Rattle.grid.specs.State.{Lent, stateOf}
 use Rattle.grid.specs.Step.{tooFast, next}
 use Rattle.grid.specs.Good.{badFlag, badFluid, badRule}
-use Rattle.grid.specs.Outcome.{numberOf, accepted, orRefuse, ifNone, goodAnswer, moveAnswer, lengthsGood, settingsGood, sceneOf, entryAnswer, stepAnswer, nextOf, byAnswer, stepSecond, stepMarks}
-use Rattle.grid.specs.Between.{Sized, Ready}
+use Rattle.grid.specs.Outcome.{numberOf, accepted, orRefuse, goodAnswer, moveAnswer, lengthsGood, settingsGood, sceneOf, entryAnswer, stepAnswer, nextOf, byAnswer, stepSecond, stepMarks}
+use Rattle.grid.specs.Between.{Sized}
 use Rattle.grid.specs.Halfway.{Stepping, Advanced}
 use Rattle.grid.specs.Promise.{Stepped}
 use Rattle.grid.proofs.Accepted.{passed}

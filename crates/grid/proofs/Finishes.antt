@@ -1,15 +1,14 @@
 -- From what each pass of a step leaves to what the next one asks, and from the last one to the outcome's definition. Assumes nothing.
-use mathlib.Core.Path.{_≡_, refl, sym, ap, ap₂, _∙_, subst}
-use mathlib.Core.Bool.{Bool, true, false, _&&_, not, cond, false≢true}
-use mathlib.Core.List.{List, [], _∷_}
-use Prim.Native.Nat.{ℕ, zero, suc, _+_, _*_, _/_, _%_, _≤_, _<_}
-use native.Mathlib.Omega.{arith}
-use lib.IntN.{ℤ, pos}
+use mathlib.Core.Path.{_≡_, refl, sym, ap, _∙_, subst}
+use mathlib.Core.Bool.{Bool, true, false, _&&_, cond, false≢true}
+use mathlib.Core.List.{List}
+use Prim.Native.Nat.{ℕ, zero, suc, _*_, _/_, _%_, _≤_, _<_}
+use lib.IntN.{ℤ}
 use lib.ListN.{length, getD, replicate, length-replicate}
 use Rattle.whole.specs.Bools.{and-left, and-right}
 use Rattle.whole.specs.Fold.{tab, first}
 use Rattle.whole.specs.Tab.{length-tab}
-use Rattle.lattice.specs.Lattice.{d3q19, density}
+use Rattle.lattice.specs.Lattice.{d3q19}
 use Rattle.lattice.specs.Cell.{dense, massGood}
 use Rattle.lattice.specs.declared.Settings.{Settings}
 use Rattle.grid.specs.declared.Sides.{Sides}
@@ -18,9 +17,9 @@ use Rattle.grid.specs.declared.passing.Passed.the-variants.{Stopped, Thr
 use Rattle.grid.specs.declared.Answer.{Answer}
 use Rattle.grid.specs.declared.Answer.the-variants.{Done, Refused}
 use Rattle.grid.specs.Grid.{cellsOf, gridOf, box}
-use Rattle.grid.specs.State.{Lent, State, Scene, byFlag, liquid, stateOf, lentOf}
+use Rattle.grid.specs.State.{Lent, Scene, liquid, stateOf, lentOf}
 use Rattle.grid.specs.Step.{flagAt, flagAfter, newDensity, tooFast, collided, filled, emptied, besideFilled, besideEmptied, newFlag, newPart, newMass, newFill, next}
-use Rattle.grid.specs.Good.{badFlag, bodyGood, badRule}
+use Rattle.grid.specs.Good.{bodyGood, badRule}
 use Rattle.grid.specs.Outcome.{accepted, ifNone, goodAnswer, moveAnswer, sceneOf, nextOf}
 use Rattle.grid.specs.Between.{Sized, Ready, Poised, uncarried, movedPart, movedMass, firstMark}
 use Rattle.grid.specs.Filled.{Fillable, Refilled}

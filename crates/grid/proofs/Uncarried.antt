@@ -1,7 +1,7 @@
 -- Stages 1 to 4 do not read the carry: scenes that differ in it alone agree in them. So pass 1, which is not lent the carry, can be followed by passes that
 -- are. Assumes nothing.
 use mathlib.Core.Path.{_≡_, refl}
-use mathlib.Core.Bool.{Bool, true, false, _&&_, not, cond}
+use mathlib.Core.Bool.{_&&_, not, cond}
 use Prim.Native.Nat.{ℕ, zero, suc}
 use lib.IntN.{ℤ, pos, _+ℤ_, _-ℤ_}
 use Rattle.whole.specs.Fold.{dirs}

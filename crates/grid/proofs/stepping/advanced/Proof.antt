@@ -1,6 +1,6 @@
 -- `grid::stepping::advanced`: pass 0, pass 1, and the rest where pass 1 went through. Assumes nothing.
 use borrow.Author.Needs.{needs}
-use mathlib.Core.Path.{_≡_, sym, ap, _∙_}
+use mathlib.Core.Path.{sym, ap, _∙_}
 use lib.ListN.{length}
 use Rattle.whole.specs.Tab.{length-tab}
 use Rattle.grid.specs.Grid.{cellsOf}
@@ -25,7 +25,7 @@ mark-open-requires : tie.Need-mark-open-requires
 mark-open-requires c κs = let w = c .before .before .before .before .before .before in (w .pre .ready .sides, w .pre .ready .sized .flags, w .pre .marks-room)
 
 flowing-requires : tie.Need-flowing-requires
-flowing-requires c κs = 
+flowing-requires c κs =
     let w = c .before .before .before .before .before .before .before .before .before .before .before .before in
     let m = c .before .before .before .before .before .mark-open .ensures in
     flowable (w .args .s) (w .args .g) (first w) (w .pre .ready) (w .args .marks .now) (sized-second w .parts) (sized-second w .masses)

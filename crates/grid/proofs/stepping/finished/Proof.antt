@@ -1,14 +1,7 @@
 -- `grid::stepping::finished`: the conversion and the fills make the next state; test 8 passes where all was found fair, else the scan answers it.
 -- Assumes nothing.
-use borrow.Author.Needs.{needs}
-use mathlib.Core.Path.{_≡_, sym, ap, _∙_}
-use mathlib.Core.List.{List}
-use lib.ListN.{length}
-use Rattle.lattice.specs.declared.Settings.{Settings}
-use Rattle.grid.specs.declared.Sides.{Sides}
+use mathlib.Core.Path.{sym, _∙_}
 use Rattle.grid.specs.Grid.{cellsOf}
-use Rattle.grid.specs.State.{Lent}
-use Rattle.grid.specs.Between.{Sized}
 use Rattle.grid.proofs.Finishes.{next-lengths, finishing-lengths, finishing-marks, cleared, turning, filling, set-next, set-lengths, finished-fair, finished-judged}
 use Rattle.grid.proofs.stepping.finished.Statement.{statement}
 use Rattle.grid.proofs.stepping.finished.Tie as tie

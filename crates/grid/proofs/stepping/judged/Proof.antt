@@ -1,5 +1,5 @@
 -- `grid::stepping::judged` is test 8: test 6's search over the second set. Assumes nothing.
-use borrow.Author.Needs.{needs, sfits-of}
+use borrow.Author.Needs.{sfits-of}
 use mathlib.Core.Path.{_≡_, refl, sym, ap, _∙_}
 use Prim.Native.Nat.{ℕ, suc}
 use native.Mathlib.Omega.{arith}

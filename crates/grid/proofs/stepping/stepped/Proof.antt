@@ -1,6 +1,6 @@
 -- `grid::stepping::stepped`: the next state, or after a refusal the copy. Assumes nothing.
 use borrow.Author.Needs.{needs}
-use mathlib.Core.Path.{_≡_, sym, ap, _∙_}
+use mathlib.Core.Path.{sym, ap, _∙_}
 use lib.ListN.{length, length-replicate}
 use Rattle.grid.specs.State.{Lent}
 use Rattle.grid.proofs.Finishes.{refused-advanced, done-advanced}
