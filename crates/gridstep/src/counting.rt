@@ -5,7 +5,7 @@ ghost use mathlib.Core.Path.{_≡_};
 ghost use mathlib.Core.Bool.{cond};
 ghost use Prim.Native.Nat.{_≤_};
 ghost use lib.Dec.{eqb};
-ghost use lib.IntN.{pos, _+ℤ_};
+ghost use lib.IntN.{pos, natAbs, _+ℤ_};
 ghost use lib.ListN.{length};
 ghost use Rattle.lattice.specs.Cell.{carryGood};
 ghost use Rattle.gridstep.specs.Counts.{cellsWith, massSum};
@@ -34,6 +34,7 @@ pub fn cells_with(flags: &[u8], wanted: u8) -> usize
 fn mass_sum(masses: &[i32]) -> i64
     requires { ⌜ length (now masses) ≤ 862 ⌝ }
     ensures { λ r. ⌜ r ≡ massSum (now (masses .entry)) ⌝ }
+    ensures { λ r. ⌜ natAbs r ≤ 1851131068416 ⌝ }
 {
     let mut sum: i64 = 0;
     let mut c = 0;

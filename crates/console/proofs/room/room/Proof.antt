@@ -7,7 +7,7 @@ use Rattle.console.proofs.room.room.Statement.{statement}
 use Rattle.console.proofs.room.room.Tie as tie
 
 returns : tie.Need-returns
-returns c = room-short _ _ (c .if1 .taken)
+returns c = (room-short _ _ (c .if1 .taken), omega arith)
 
 shared-slice-read-product : tie.Need-shared-slice-read-product
 shared-slice-read-product c = search needs
@@ -23,11 +23,11 @@ product-requires c κs = search needs
 
 returns-2 : tie.Need-returns-2
 unfolding lowCells
-returns-2 c = room-over _ _ (c .before .product .result) (omega arith) (c .before .product .ensures) (c .if2 .taken)
+returns-2 c = (room-over _ _ (c .before .product .result) (omega arith) (c .before .product .ensures) (c .if2 .taken), omega arith)
 
 returns-3 : tie.Need-returns-3
 unfolding lowCells
-returns-3 c = room-enough _ _ (c .before .product .result) (omega arith) (c .before .product .ensures) (omega arith)
+returns-3 c = (room-enough _ _ (c .before .product .result) (omega arith) (c .before .product .ensures) (omega arith), omega arith)
 
 pub room-spec : {M : Type 1} → statement M
 room-spec =
