@@ -1,3 +1,4 @@
 // What the programs share: how much room a record asks for, and lines of text on standard output.
+pub mod answers;
 pub mod line;
 pub mod room;

@@ -1,7 +1,7 @@
 // One record read, stepped and told, in slices that are lent for it.
-use crate::telling::answered;
-use crate::telling::refused;
 use crate::telling::tell;
+use console::answers::answered;
+use console::answers::refused;
 use grid::Sides;
 use grid::stepping;
 use lattice::Settings;

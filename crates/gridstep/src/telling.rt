@@ -1,25 +1,9 @@
-// The lines: an answer's, and a state's with its cells by kind, the total with the carry, and the carry.
+// The line of a state: its cells by kind, the total with the carry, and the carry.
 use crate::counting::cells_with;
 use crate::counting::total;
 use console::line;
-use grid::Answer;
 ghost use Prim.Native.Nat.{_≤_};
 ghost use lib.ListN.{length};
-
-pub fn refused(a: Answer) -> bool {
-    match a {
-        Answer::Done => false,
-        Answer::Refused(_, _) => true,
-    }
-}
-
-// Number and place, 0 0 if accepted.
-pub fn answered(text: &[u8], a: Answer) {
-    match a {
-        Answer::Done => line::answer(text, 0, 0),
-        Answer::Refused(number, place) => line::answer(text, number, place),
-    }
-}
 
 // Fluid, interface, empty and wall cells, as document 01 orders them.
 fn tell_cells(flags: &[u8]) {
