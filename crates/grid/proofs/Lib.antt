@@ -64,3 +64,6 @@ pub mod Handed
 pub mod Walked
 pub mod Turns
 pub mod Converts
+pub mod Uncarried
+pub mod Finishes
+pub mod Entrance

@@ -4,6 +4,7 @@ pub mod cells;
 pub mod checking;
 pub mod convert;
 pub mod copying;
+pub mod entry;
 pub mod extent;
 pub mod filling;
 pub mod fluid;
