@@ -94,7 +94,7 @@ module _ (s : Sides) (a : Lent) where
       subst (λ (x : Lent). lengthsGood (cellsOf s) x ≡ true) (sym (second-next s g b second marks e)) (lengths-listed (cellsOf s) (next (sceneOf s g b)))
 
 -- ---- a state that passes tests 4 to 6 is not refused by them
-good-any : (s : Sides) (b : Lent) (rest : Answer) → goodAnswer d3q19 (gridOf s) (stateOf 18 b) Done ≡ Done → goodAnswer d3q19 (gridOf s) (stateOf 18 b) rest ≡ rest
+pub good-any : (s : Sides) (b : Lent) (rest : Answer) → goodAnswer d3q19 (gridOf s) (stateOf 18 b) Done ≡ Done → goodAnswer d3q19 (gridOf s) (stateOf 18 b) rest ≡ rest
 unfolding goodAnswer
 good-any s b rest e =
     let x = none-found (gridOf s .cells) 4 _ _ e in

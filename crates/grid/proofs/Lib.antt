@@ -56,3 +56,5 @@ pub mod Settles
 pub mod Leans
 pub mod Sent
 pub mod Walked
+pub mod Entries
+pub mod Runs

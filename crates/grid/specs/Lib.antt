@@ -17,3 +17,4 @@ pub mod Sources
 pub mod PutAt
 pub mod Halfway
 pub mod Flowed
+pub mod Turns
