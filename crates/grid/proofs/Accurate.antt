@@ -50,7 +50,7 @@ Claim =
     × (apart (sceneOf s g a) (stateOf 18 (stepSecond s g a second marks)) c 0 < 18 * scale (sceneOf s g a) c)
 
 -- ---- a cell with a density in its range is not both filled and emptied
-not-both : (m ρ : ℤ) → dense ρ ≡ true → over m ρ ≡ true → under m ρ ≡ true → ⊥
+pub not-both : (m ρ : ℤ) → dense ρ ≡ true → over m ρ ≡ true → under m ρ ≡ true → ⊥
 unfolding dense over under
 not-both m ρ d o u =
     let v : List ℤ = m ∷ ρ ∷ [] in
@@ -75,7 +75,7 @@ part-cases (suc zero) bf false false be b x n o l = refl
 part-cases (suc (suc zero)) bf fi em be b x n o l = refl
 part-cases (suc (suc (suc r))) bf fi em be b x n o l = absurd (false≢true o)
 
-both-tests : (f : ℕ) (o u n : Bool) → byFlag f false o false false ≡ true → byFlag f false (u && n) false false ≡ true → (o ≡ true) × (u ≡ true)
+pub both-tests : (f : ℕ) (o u n : Bool) → byFlag f false o false false ≡ true → byFlag f false (u && n) false false ≡ true → (o ≡ true) × (u ≡ true)
 both-tests zero o u n p q = absurd (false≢true p)
 both-tests (suc zero) o u n p q = (p, and-left u n q)
 both-tests (suc (suc zero)) o u n p q = absurd (false≢true p)
@@ -90,6 +90,11 @@ stays S c k d o l =
     o l
 
 -- ---- test 7 has passed
+fair : (a b : Bool) → a ≡ true → (a && not b) ≡ false → b ≡ true
+fair true true p e = refl
+fair true false p e = sym e
+fair false b p e = absurd (false≢true p)
+
 pub tested : (S : Scene) → moveAnswer S ≡ Done → (c : ℕ) → c < S .grid .cells → liquid (S .old .flag c) ≡ true → dense (newDensity S c) ≡ true
 unfolding moveAnswer tooFast
 tested S e c h l =
@@ -97,11 +102,16 @@ tested S e c h l =
     let t = first-none (S .grid .cells) (tooFast S) (a .0) c h in
     and-left (dense (newDensity S c)) (slow (newDensity S c) (dot (newMomentum S c) (newMomentum S c)))
     (fair (liquid (S .old .flag c)) (dense (newDensity S c) && slow (newDensity S c) (dot (newMomentum S c) (newMomentum S c))) l t)
-  where
-    fair : (a b : Bool) → a ≡ true → (a && not b) ≡ false → b ≡ true
-    fair true true p e = refl
-    fair true false p e = sym e
-    fair false b p e = absurd (false≢true p)
+
+-- the same of the step's scene, from the search that found no cell too fast
+pub steady-dense : (s : Sides) (g : Settings) (a : Lent) → cellsOf s ≤ first (cellsOf s) (tooFast (sceneOf s g a)) → (c : ℕ) → c < cellsOf s → liquid (sceneOf s g a .old .flag c) ≡ true
+    → dense (newDensity (sceneOf s g a) c) ≡ true
+unfolding tooFast
+steady-dense s g a e c h l =
+    let S = sceneOf s g a in
+    let t = first-none (cellsOf s) (tooFast S) e c h in
+    and-left (dense (newDensity S c)) (slow (newDensity S c) (dot (newMomentum S c) (newMomentum S c)))
+    (fair (liquid (S .old .flag c)) (dense (newDensity S c) && slow (newDensity S c) (dot (newMomentum S c) (newMomentum S c))) l t)
 
 not-zero : (z : ℤ) → dense z ≡ true → 0 < natAbs z
 unfolding dense

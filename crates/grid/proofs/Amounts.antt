@@ -1,13 +1,11 @@
 -- The amounts of stage 6, from a good state that passed test 7: a liquid cell's density, an interface cell's mass, and which cells take part. Assumes nothing.
-use mathlib.Core.Path.{_≡_, refl, sym, ap, ap₂, _∙_, subst}
-use mathlib.Core.Logic.{_⊎_, inl, inr}
-use mathlib.Core.Bool.{Bool, true, false, _&&_, _||_, not, cond, false≢true}
-use Prim.Native.Nat.{ℕ, zero, suc, _+_, _*_, _/_, _≤_, _<_}
+use mathlib.Core.Path.{_≡_, refl, sym, ap, subst}
+use mathlib.Core.Bool.{Bool, true, false, _&&_, not, cond}
+use Prim.Native.Nat.{ℕ, zero, suc, _+_, _*_, _≤_, _<_}
 use native.Mathlib.Nat.{div-le-of-le-mul, mul-le-mul-right}
 use native.Mathlib.Omega.{arith}
-use lib.IntN.{ℤ, pos, natAbs, _+ℤ_, _-ℤ_, _*ℤ_}
+use lib.IntN.{ℤ, pos, natAbs, _-ℤ_, _*ℤ_}
 use lib.Signed.{leZ}
-use lib.Dec.{eqb}
 use borrow.Author.Tests.{not-false}
 use Rattle.whole.specs.Bools.{and-left, and-right}
 use Rattle.whole.specs.Bounds.{abs-add, abs-sub, abs-mul, abs-quot, abs-below}
@@ -17,7 +15,7 @@ use Rattle.whole.specs.Order.{leZ-true}
 use Rattle.whole.specs.Search.{Dir, as-dir, first-none}
 use Rattle.whole.specs.Sums.{sum-abs}
 use Rattle.lattice.specs.Lattice.{dot, d3q19, density}
-use Rattle.lattice.specs.Cell.{dense, slow, exchange, over, under, fillOf}
+use Rattle.lattice.specs.Cell.{dense, slow, exchange, over, under}
 use Rattle.lattice.specs.declared.Settings.{Settings}
 use Rattle.lattice.proofs.Fills.{fill-most}
 use Rattle.lattice.proofs.Paired.{paired19}
@@ -26,13 +24,11 @@ use Rattle.grid.specs.Grid.{cellsOf, gridOf, box}
 use Rattle.grid.specs.State.{Lent, Scene, byFlag, liquid, stateOf}
 use Rattle.grid.specs.Step.{flagAt, difference, traded, tradedMass, newDensity, newMomentum, tooFast, filled, emptied, besideFilled, besideEmptied, newFlag, flagAfter, fillFor}
 use Rattle.grid.specs.Outcome.{sceneOf}
-use Rattle.grid.specs.Between.{Ready, movedMass, settledMark}
+use Rattle.grid.specs.Between.{Poised, movedMass, settledMark}
 use Rattle.grid.specs.Passes.{Inner}
-use Rattle.grid.proofs.Closed.{wall-stays}
-use Rattle.grid.proofs.Coordinates.{inner-of}
 use Rattle.grid.proofs.Laid.{inner}
 use Rattle.grid.proofs.Offsets.{near-below}
-use Rattle.grid.proofs.Prepared.{ready-sound, ready-body, ready-mass, ready-fill}
+use Rattle.grid.proofs.Poise.{poised-body, poised-mass, poised-fill, poised-inner}
 
 -- ---- by cases on flags and tests alone
 
@@ -108,7 +104,7 @@ module _ (S : Scene) where
       giver-cases (flagAt S c) (over (tradedMass S c) (newDensity S c)) (under (tradedMass S c) (newDensity S c) && not (besideFilled S c)) h
 
 -- ---- a good state
-module _ (s : Sides) (g : Settings) (a : Lent) (r : Ready s g a) where
+module _ (s : Sides) (g : Settings) (a : Lent) (r : Poised s g a) where
   abbrev pub S : Scene
   S = sceneOf s g a
 
@@ -117,20 +113,20 @@ module _ (s : Sides) (g : Settings) (a : Lent) (r : Ready s g a) where
 
   pub outer-not : (c : ℕ) → c < cellsOf s → (flag c ≡ 3 → ⊥) → gridOf s .outer c ≡ false
   unfolding gridOf box cellsOf
-  outer-not c h n = inner (gridOf s) (stateOf 18 a .flag) (ready-sound s g a r .walled) c h n
+  outer-not c h n = inner (gridOf s) (stateOf 18 a .flag) (r .walled) c h n
 
   pub inner-cell : (c : ℕ) → c < cellsOf s → (flag c ≡ 3 → ⊥) → Inner s c
-  inner-cell c h n = inner-of s c (r .sides) h (outer-not c h n)
+  inner-cell c h n = poised-inner s g a r c h n
 
   pub near-cell : (c i : ℕ) → c < cellsOf s → (flag c ≡ 3 → ⊥) → i < 19 → gridOf s .near c i < cellsOf s
   near-cell c i h n l = near-below s i l c (inner-cell c h n)
 
   pub fill-in : (c : ℕ) → c < cellsOf s → stateOf 18 a .fill c ≤ 65536
-  fill-in c h = omega (arith, ready-fill s g a r c h, fill-cases (flag c) (stateOf 18 a .mass c) (density d3q19 (stateOf 18 a .part c)))
+  fill-in c h = omega (arith, poised-fill s g a r c h, fill-cases (flag c) (stateOf 18 a .mass c) (density d3q19 (stateOf 18 a .part c)))
 
   -- a wall's fill is 0, so that what a cell sees of it is its fill
   pub seen-fill : (c : ℕ) → c < cellsOf s → byFlag (flag c) (pos (stateOf 18 a .fill c)) (pos (stateOf 18 a .fill c)) (pos (stateOf 18 a .fill c)) (pos 0) ≡ pos (stateOf 18 a .fill c)
-  seen-fill c h = wall-fill (flag c) (stateOf 18 a .mass c) _ (stateOf 18 a .fill c) (ready-fill s g a r c h)
+  seen-fill c h = wall-fill (flag c) (stateOf 18 a .mass c) _ (stateOf 18 a .fill c) (poised-fill s g a r c h)
 
   difference-in : (c i : ℕ) → c < cellsOf s → flag c ≡ 1 → Dir 18 i → liquid (flag (gridOf s .near c i)) ≡ true
       → natAbs (stateOf 18 a .part (gridOf s .near c i) (d3q19 .opp i) -ℤ stateOf 18 a .part c i) ≤ 2359296
@@ -140,8 +136,8 @@ module _ (s : Sides) (g : Settings) (a : Lent) (r : Ready s g a) where
       omega (
         arith,
         abs-sub (stateOf 18 a .part (gridOf s .near c i) (d3q19 .opp i)) (stateOf 18 a .part c i),
-        ready-body s g a r (gridOf s .near c i) n l .parts (d3q19 .opp i) (paired19 .dir i d .most) .abs,
-        ready-body s g a r c h (ap liquid f) .parts i (d .most) .abs,
+        poised-body s g a r (gridOf s .near c i) n l .parts (d3q19 .opp i) (paired19 .dir i d .most) .abs,
+        poised-body s g a r c h (ap liquid f) .parts i (d .most) .abs,
       )
 
   pub traded-mass-in : (c : ℕ) → c < cellsOf s → flag c ≡ 1 → Within (tradedMass S c) 44826624
@@ -151,7 +147,7 @@ module _ (s : Sides) (g : Settings) (a : Lent) (r : Ready s g a) where
         abs = omega (
           arith,
           abs-add (S .old .mass c) (dirs 18 (traded S c)),
-          ready-mass s g a r c h f .abs,
+          poised-mass s g a r c h f .abs,
           sum-abs 18 (λ b. traded S c (suc b)) 2359296 (λ b k. each (suc b) (as-dir k)),
         );
       }

@@ -1,24 +1,23 @@
 -- Stage 5's new interface cells: the flow of a liquid neighbour after stage 3, and the means over neighbours. Assumes nothing.
-use mathlib.Core.Path.{_≡_, refl, sym, ap, ap₂, _∙_, subst}
-use mathlib.Core.Bool.{Bool, true, false, cond, false≢true}
+use mathlib.Core.Path.{_≡_, refl, sym, ap, ap₂, _∙_}
+use mathlib.Core.Bool.{true, false, cond, false≢true}
 use mathlib.Core.List.{List}
-use Prim.Native.Nat.{ℕ, zero, suc, _+_, _-_, _*_, _<_, _≤_}
+use Prim.Native.Nat.{ℕ, zero, suc, _+_, _-_, _<_}
 use native.Mathlib.Omega.{arith}
-use lib.IntN.{ℤ, pos, natAbs, _+ℤ_, +ℤ-idr}
+use lib.IntN.{ℤ, pos, _+ℤ_, +ℤ-idr}
 use lib.ListN.{length, getD}
 use Rattle.whole.specs.Bools.{cond-yes, cond-no}
 use Rattle.whole.specs.Fold.{tab}
 use Rattle.whole.specs.Tab.{tab-cong}
-use Rattle.whole.specs.Machine.{Within}
 use Rattle.lattice.specs.Lattice.{V3, d3q19, density, momentum}
 use Rattle.lattice.specs.Body.{partsOf, Bounded, vec, stillDir, stillPart, goodBody}
 use Rattle.lattice.specs.declared.Flow.{Flow}
 use Rattle.lattice.specs.declared.Settings.{Settings}
-use Rattle.grid.specs.State.{Scene, liquid, stateOf}
+use Rattle.grid.specs.State.{liquid, stateOf}
 use Rattle.grid.specs.Step.{oldDensity, oldMomentum, rebuilt, rebuild, arrives, streamed, newDensity, newMomentum, bornDir, born}
 use Rattle.grid.specs.Good.{bodyGood}
 use Rattle.grid.specs.Sight.{Bodied, Around, flowing, noSettings, sight}
-use Rattle.grid.specs.Born.{Tested, NewFlow, Joined, Added, Begins, flowSight}
+use Rattle.grid.specs.Born.{NewFlow, Joined, Added, Begins, flowSight}
 use Rattle.grid.specs.declared.birth.Sum.{Sum}
 use Rattle.grid.proofs.Same.{density-same, momentum-same, body-same}
 use Rattle.grid.proofs.Arrays.{part-is, density-is, momentum-is, bounded-is}

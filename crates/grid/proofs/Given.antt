@@ -1,32 +1,32 @@
 -- Stage 6 over lists is stage 6 of the step's scene: weights, excess, gifts, what is received, what strays and what settles, one law each. Assumes nothing.
-use mathlib.Core.Path.{_≡_, refl, sym, ap, ap₂, _∙_, subst}
+use mathlib.Core.Path.{_≡_, refl, sym, ap, ap₂, _∙_}
 use mathlib.Core.Bool.{Bool, true, false, _&&_, _||_, not, cond, false≢true}
 use mathlib.Core.List.{List, [], _∷_}
-use Prim.Native.Nat.{ℕ, zero, suc, _+_, _-_, _*_, _/_, _%_, _≤_, _<_}
+use Prim.Native.Nat.{ℕ, zero, suc, _+_, _-_, _*_, _≤_, _<_}
 use native.Mathlib.Omega.{arith}
-use lib.IntN.{ℤ, pos, negℤ, _+ℤ_, _-ℤ_, _*ℤ_, +ℤ-idr}
+use lib.IntN.{ℤ, pos, negℤ, _+ℤ_, _-ℤ_, +ℤ-idr}
 use lib.Dec.{eqb}
-use lib.ListN.{length, getD}
+use lib.ListN.{getD}
 use borrow.Author.Tests.{eq-eqb, eqb-true}
-use Rattle.whole.specs.Bools.{cond-yes, cond-no}
-use Rattle.whole.specs.Fold.{sum, dirs, any, anyDir, tab}
+use Rattle.whole.specs.Bools.{cond-yes}
+use Rattle.whole.specs.Fold.{sum, anyDir, tab}
 use Rattle.whole.specs.Ring.{ring-by, quotes}
 use Rattle.whole.specs.Search.{Dir, as-dir, any-dir}
 use Rattle.whole.specs.Sums.{sum-cong}
-use Rattle.whole.specs.Tab.{length-tab, getD-tab, tab-cong}
+use Rattle.whole.specs.Tab.{getD-tab, tab-cong}
 use Rattle.lattice.specs.Lattice.{V3, dot, d3q19, density}
-use Rattle.lattice.specs.Cell.{positive, isPositive, share, over, under}
+use Rattle.lattice.specs.Cell.{positive, isPositive, share, over}
 use Rattle.lattice.specs.declared.Settings.{Settings}
 use Rattle.lattice.proofs.Paired.{paired19}
 use Rattle.grid.specs.declared.Sides.{Sides}
 use Rattle.grid.specs.Grid.{cellsOf, gridOf, box}
-use Rattle.grid.specs.State.{Lent, Scene, byFlag, liquid, stateOf}
-use Rattle.grid.specs.Step.{flagAt, tradedMass, newDensity, collided, filled, emptied, besideFilled, newFlag, seen, normal, target, anyTarget, lean, leanWeight, shareWeight, excess, converted, gift, toCarry, received, newCarry}
+use Rattle.grid.specs.State.{Lent, Scene, stateOf}
+use Rattle.grid.specs.Step.{tradedMass, newDensity, collided, filled, emptied, newFlag, seen, normal, target, anyTarget, lean, leanWeight, shareWeight, excess, converted, gift, toCarry, received, newCarry}
 use Rattle.grid.specs.Outcome.{sceneOf}
-use Rattle.grid.specs.Between.{Ready, movedMass, settledMark, bornPart, gatheredMass}
+use Rattle.grid.specs.Between.{movedMass, settledMark, bornPart, gatheredMass}
 use Rattle.grid.specs.Passes.{Inner}
-use Rattle.grid.specs.Gifts.{fillAt, normalAt, back, leaningAt, targetAt, leanWeightAt, evenAt, weightAt, densityAt, excessAt, giftAt, giftFrom, receivedAt, gatheredAt, lostAt, strayAt, Midway}
-use Rattle.grid.proofs.Amounts.{taker-unmarked, marked-interface, outer-not, inner-cell, near-cell, seen-fill}
+use Rattle.grid.specs.Gifts.{fillBeside, normalAt, back, leaningAt, targetAt, leanWeightAt, evenAt, weightAt, densityAt, excessAt, giftAt, giftFrom, receivedAt, gatheredAt, lostAt, strayAt, Midway}
+use Rattle.grid.proofs.Amounts.{marked-interface, outer-not, inner-cell, seen-fill}
 use Rattle.grid.proofs.Beside.{Offsets, any-cong, place-is}
 use Rattle.grid.proofs.Box.{grid-laid}
 use Rattle.grid.proofs.Closed.{wall-stays}
@@ -99,15 +99,15 @@ module _ {s : Sides} {g : Settings} {a : Lent} {flags fills : List ℕ} {parts m
   part-is c k h l = rw (w .parts-are) (part-at 18 (cellsOf s) c k h l (bornPart S))
 
   -- ---- marks
-  filled-is : (c : ℕ) → c < cellsOf s → eqb (getD marks c 0) 1 ≡ filled S c
+  pub filled-is : (c : ℕ) → c < cellsOf s → eqb (getD marks c 0) 1 ≡ filled S c
   unfolding settledMark
   filled-is c h = ap (λ (m : ℕ). eqb m 1) (mark-is c h) ∙ mark-filled (filled S c) (emptied S c)
 
-  none-is : (c : ℕ) → c < cellsOf s → eqb (getD marks c 0) 0 ≡ not (converted S c)
+  pub none-is : (c : ℕ) → c < cellsOf s → eqb (getD marks c 0) 0 ≡ not (converted S c)
   unfolding settledMark
   none-is c h = ap (λ (m : ℕ). eqb m 0) (mark-is c h) ∙ mark-none (filled S c) (emptied S c)
 
-  converted-interface : (c : ℕ) → converted S c ≡ true → stateOf 18 a .flag c ≡ 1
+  pub converted-interface : (c : ℕ) → converted S c ≡ true → stateOf 18 a .flag c ≡ 1
   unfolding settledMark sceneOf
   converted-interface c h = marked-interface S c (λ e. marked (filled S c) (emptied S c) h e)
     where
@@ -115,6 +115,13 @@ module _ {s : Sides} {g : Settings} {a : Lent} {flags fills : List ℕ} {parts m
       marked true em h e = omega arith
       marked false true h e = omega arith
       marked false false h e = false≢true h
+
+  pub marked-converted : (c : ℕ) → c < cellsOf s → (getD marks c 0 ≡ 0 → ⊥) → converted S c ≡ true
+  marked-converted c h n = go (converted S c) refl
+    where
+      go : (b : Bool) → converted S c ≡ b → converted S c ≡ true
+      go true e = e
+      go false e = absurd (n (eqb-true (getD marks c 0) 0 (none-is c h ∙ ap not e)))
 
   -- ---- a cell that is inner
   module _ {off : List ℕ} {low : ℕ} (o : Offsets s off low) (c : ℕ) (n : Inner s c) where
@@ -129,12 +136,12 @@ module _ {s : Sides} {g : Settings} {a : Lent} {flags fills : List ℕ} {parts m
     unfolding anyTarget sceneOf d3q19
     any-target-is = any-cong 18 (λ b. targetAt flags off (c - low) (suc b)) (λ b. target S c (suc b)) (λ b k. target-is (suc b) (omega arith))
 
-    fill-seen : (i : ℕ) → i < 19 → fillAt fills off (c - low) i ≡ seen S c (gridOf s .near c i)
+    fill-seen : (i : ℕ) → i < 19 → fillBeside fills off (c - low) i ≡ seen S c (gridOf s .near c i)
     unfolding seen sceneOf stateOf
     fill-seen i h =
         ap (λ (j : ℕ). pos (getD fills j 0)) (place-is o c n i h)
         ∙ ap (λ (l : List ℕ). pos (getD l (gridOf s .near c i) 0)) (w .fills-are)
-        ∙ sym (seen-fill s g a (w .ready) (gridOf s .near c i) (near-low i h))
+        ∙ sym (seen-fill s g a (w .poised) (gridOf s .near c i) (near-low i h))
 
     normal-is : normalAt fills off (c - low) ≡ normal S c
     unfolding normalAt normal sceneOf d3q19
@@ -166,11 +173,11 @@ module _ {s : Sides} {g : Settings} {a : Lent} {flags fills : List ℕ} {parts m
 
   -- ---- a converted cell's density, mass and excess
   module _ (c : ℕ) (h : c < cellsOf s) (t : converted S c ≡ true) where
-    born-is : (k : ℕ) → bornPart S c k ≡ collided S c k
+    pub born-is : (k : ℕ) → bornPart S c k ≡ collided S c k
     unfolding bornPart sceneOf
     born-is k = rw (converted-interface c t) refl
 
-    density-is : densityAt parts c ≡ newDensity S c
+    pub density-is : densityAt parts c ≡ newDensity S c
     unfolding densityAt sceneOf d3q19
     density-is = density-same d3q19 (λ k. getD parts (19 * c + k) (pos 0)) (collided S c) (λ k l. part-is c k h l ∙ born-is k) ∙ density-collided S c
 
@@ -198,7 +205,7 @@ module _ {s : Sides} {g : Settings} {a : Lent} {flags fills : List ℕ} {parts m
     unfolding giftAt
     given-is b zero h t d = absurd (omega (arith, d .some))
     given-is b (suc j) h t d =
-        let n : Inner s b = inner-cell s g a (w .ready) b h (λ f. omega (arith, converted-interface b t)) in
+        let n : Inner s b = inner-cell s g a (w .poised) b h (λ f. omega (arith, converted-interface b t)) in
         ap (λ (x : ℤ). share 18 x (weightAt flags fills off (b - low) (getD marks b 0)) (suc j)) (excess-is b h t)
         ∙ share-cong 18 (excess S b) (weightAt flags fills off (b - low) (getD marks b 0)) (shareWeight S b) (λ i l. weight-is o b n h (suc i) (omega arith)) j (d .most)
 
@@ -209,7 +216,7 @@ module _ {s : Sides} {g : Settings} {a : Lent} {flags fills : List ℕ} {parts m
         ∙ given-cases (converted S b) (anyTarget S b) (giftAt flags fills parts masses off low b (getD marks b 0) k) (share 18 (excess S b) (shareWeight S b) k)
         (some-target b k d e) (λ t. given-is b k h t d)
 
-    taker-inner : (c : ℕ) → newFlag S c ≡ 1 → stateOf 18 a .flag c ≡ 3 → ⊥
+    pub taker-inner : (c : ℕ) → newFlag S c ≡ 1 → stateOf 18 a .flag c ≡ 3 → ⊥
     unfolding sceneOf
     taker-inner c e f = absurd (omega (arith, wall-stays S c f))
 
@@ -219,7 +226,7 @@ module _ {s : Sides} {g : Settings} {a : Lent} {flags fills : List ℕ} {parts m
 
     pub there-back : (c i : ℕ) → c < cellsOf s → newFlag S c ≡ 1 → Dir 18 i → gridOf s .near (gridOf s .near c i) (d3q19 .opp i) ≡ c
     unfolding d3q19 gridOf box cellsOf
-    there-back c i h e d = grid-laid s .back c i h (outer-not s g a (w .ready) c h (taker-inner c e)) d
+    there-back c i h e d = grid-laid s .back c i h (outer-not s g a (w .poised) c h (taker-inner c e)) d
 
     comes-back : (c i : ℕ) → c < cellsOf s → newFlag S c ≡ 1 → Dir 18 i → target S (gridOf s .near c i) (d3q19 .opp i) ≡ true
     unfolding target sceneOf
@@ -232,7 +239,7 @@ module _ {s : Sides} {g : Settings} {a : Lent} {flags fills : List ℕ} {parts m
         (λ b. gift S (gridOf s .near c (suc b)) (d3q19 .opp (suc b))) (λ b k. one (suc b) (as-dir k))
       where
         n : Inner s c
-        n = inner-cell s g a (w .ready) c h (taker-inner c e)
+        n = inner-cell s g a (w .poised) c h (taker-inner c e)
 
         one : (i : ℕ) → Dir 18 i → giftFrom flags fills parts masses marks off low (c - low + getD off i 0) (d3q19 .opp i) ≡ gift S (gridOf s .near c i) (d3q19 .opp i)
         one i d =
@@ -259,7 +266,7 @@ module _ {s : Sides} {g : Settings} {a : Lent} {flags fills : List ℕ} {parts m
         by : (b : Bool) → converted S c ≡ b
             → cond (not b) (pos 0) (cond (anyDir 18 (targetAt flags off (c - low))) (pos 0) (excessAt parts masses (getD marks c 0) c)) ≡ cond (b && not (anyTarget S c)) (excess S c) (pos 0)
         by true t =
-            let n : Inner s c = inner-cell s g a (w .ready) c h (λ f. omega (arith, converted-interface c t)) in
+            let n : Inner s c = inner-cell s g a (w .poised) c h (λ f. omega (arith, converted-interface c t)) in
             ap₂ (λ (x : Bool) (y : ℤ). cond x (pos 0) y) (any-target-is o c n) (excess-is c h t) ∙ stray-cases true (anyTarget S c) (excess S c) (excess S c) (λ e. refl)
         by false t = refl
 

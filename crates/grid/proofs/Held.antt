@@ -1,7 +1,7 @@
 -- What the machine reads back of a signed number that fits is the number: by name of the number, where nothing shows it; and a difference of two that
 -- fit 32 bits is far from the end of 64. Assumes nothing.
 use mathlib.Core.Path.{_≡_}
-use Prim.Native.Nat.{ℕ, _<_, _≤_, _^_}
+use Prim.Native.Nat.{_<_, _≤_, _^_}
 use native.Mathlib.Omega.{arith}
 use lib.IntN.{ℤ, natAbs, _-ℤ_}
 use lib.Signed.{mag, natAbs-le}

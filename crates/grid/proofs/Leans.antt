@@ -1,8 +1,8 @@
 -- Weights of the eighteen directions: they are not negative and small, and where there is a target their total is above 0. Assumes nothing.
-use mathlib.Core.Path.{_≡_, refl, sym, ap, ap₂, _∙_, subst}
+use mathlib.Core.Path.{_≡_, refl, sym, ap, _∙_, subst}
 use mathlib.Core.Bool.{Bool, true, false, cond, false≢true}
 use mathlib.Core.List.{List}
-use Prim.Native.Nat.{ℕ, zero, suc, _+_, _*_, _≤_, _<_}
+use Prim.Native.Nat.{ℕ, zero, suc, _+_, _≤_, _<_}
 use native.Mathlib.Nat.{mul-le-mul, lt-irrefl}
 use native.Mathlib.Omega.{arith}
 use lib.IntN.{ℤ, pos, negsuc, negℤ, natAbs, _+ℤ_, _-ℤ_, _*ℤ_}
@@ -14,7 +14,7 @@ use Rattle.whole.specs.Bounds.{abs-neg, abs-add, abs-sub, abs-mul}
 use Rattle.whole.specs.Fold.{dirs, total, tab}
 use Rattle.whole.specs.Machine.{Within}
 use Rattle.whole.specs.Parts.{parts-<}
-use Rattle.whole.specs.Search.{Dir, as-dir}
+use Rattle.whole.specs.Search.{Dir}
 use Rattle.whole.specs.Sums.{sum-cong}
 use Rattle.whole.specs.Tab.{Upto, getD-tab, tab-cong}
 use Rattle.lattice.specs.Lattice.{V3, dot, d3q19}

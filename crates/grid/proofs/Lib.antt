@@ -29,6 +29,8 @@ pub mod Births
 pub mod Means
 pub mod Newborns
 pub mod Offspring
+pub mod Heavy
+pub mod Refills
 pub mod Blocks
 pub mod Stores
 pub mod Spans
@@ -55,6 +57,12 @@ pub mod Owned
 pub mod Settles
 pub mod Leans
 pub mod Sent
+pub mod Takes
+pub mod Strays
+pub mod Impacts
+pub mod Handed
 pub mod Walked
 pub mod Entries
 pub mod Runs
+pub mod Turns
+pub mod Converts

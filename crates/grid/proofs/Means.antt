@@ -1,7 +1,7 @@
 -- The means over the liquid neighbours of a cell: the sums as a loop makes them, their bounds, and that a new interface cell begins with a flow that
 -- collisions can take. Assumes nothing.
 use mathlib.Core.Path.{_≡_, refl, sym, ap, ap₂, _∙_, subst}
-use mathlib.Core.Bool.{Bool, true, false, _&&_, cond}
+use mathlib.Core.Bool.{Bool, true, cond}
 use mathlib.Core.List.{List}
 use Prim.Native.Nat.{ℕ, zero, suc, _+_, _-_, _*_, _/_, _<_, _≤_}
 use native.Mathlib.Nat.{le-div-iff-mul-le, div-le-of-le-mul, le-trans, le-of-eq, mul-comm}
@@ -16,14 +16,14 @@ use Rattle.whole.specs.Machine.{Within}
 use Rattle.whole.specs.Parts.{≤-parts, parts-≤, parts-<}
 use Rattle.lattice.specs.Lattice.{V3, dot, d3q19}
 use Rattle.lattice.specs.Cell.{dense, slow}
-use Rattle.lattice.specs.Body.{vec, Tame, steadyFlow}
+use Rattle.lattice.specs.Body.{Tame, steadyFlow}
 use Rattle.lattice.specs.declared.Flow.{Flow}
 use Rattle.lattice.specs.declared.Settings.{Settings}
-use Rattle.lattice.proofs.Tame.{dense-low, steady-tame}
+use Rattle.lattice.proofs.Tame.{steady-tame}
 use Rattle.grid.specs.declared.birth.Sum.{Sum}
 use Rattle.grid.specs.State.{Scene, liquid, stateOf}
 use Rattle.grid.specs.Step.{newDensity, newMomentum, liquidNear, nearSum, bornDensity, bornMomentum}
-use Rattle.grid.specs.Sight.{Around, flowing, sight}
+use Rattle.grid.specs.Sight.{Around, sight}
 use Rattle.grid.specs.Born.{Tested, Roomy, Added, Countable, Meant, Begins, flowSight}
 use Rattle.grid.proofs.Picked.{count-le, count-more, picked, picked-more, picked-abs, picked-low}
 

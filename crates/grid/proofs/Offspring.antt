@@ -8,12 +8,12 @@ use Prim.Native.Nat.{ℕ, zero, suc, _+_, _-_, _*_, _/_, _%_, _≤_, _<_}
 use native.Mathlib.Nat.{not-suc-le-zero, lt-suc-self, le-step, eq-or-lt-of-le, le-of-suc-le-suc, mod-lt, div-add-mod}
 use native.Mathlib.Omega.{arith}
 use lib.Dec.{eqb}
-use lib.IntN.{ℤ, pos, _-ℤ_}
+use lib.IntN.{ℤ, pos}
 use lib.ListN.{length, getD}
 use borrow.Author.Tests.{eqb-true, eq-eqb, ne-eqb}
 use Rattle.whole.specs.Bools.{and-left, and-right, and-true, cond-yes, cond-no}
-use Rattle.whole.specs.Fold.{tab, all, any, count, sum, first}
-use Rattle.whole.specs.Search.{Dir, as-dir, all-at, any-where, first-none}
+use Rattle.whole.specs.Fold.{tab, all, count, first}
+use Rattle.whole.specs.Search.{all-at, any-where, first-none}
 use Rattle.whole.specs.Sums.{sum-cong}
 use Rattle.whole.specs.Tab.{getD-tab, length-tab, tab-cong}
 use Rattle.lattice.specs.Lattice.{V3, dot, d3q19}
@@ -27,9 +27,9 @@ use Rattle.grid.specs.State.{Scene, byFlag, liquid, stateOf}
 use Rattle.grid.specs.Step.{flagAt, newDensity, newMomentum, tooFast, filled, besideFilled, emptied, besideEmptied, flagAfter, newFlag, tradedMass, liquidNear, nearSum, bornDensity, bornMomentum, bornDir, born, newPart, collided}
 use Rattle.grid.specs.Good.{bodyGood}
 use Rattle.grid.specs.Outcome.{settingsGood, sceneOf}
-use Rattle.grid.specs.Between.{Poised, uncarried, movedPart, bornPart}
+use Rattle.grid.specs.Between.{Poised, carried, movedPart, bornPart}
 use Rattle.grid.specs.Passes.{Inner, lowOf, offsetOf}
-use Rattle.grid.specs.Sight.{Around, flowing, sight}
+use Rattle.grid.specs.Sight.{Around, sight}
 use Rattle.grid.specs.Born.{Tested, Fertile, Peopled, flowSight, newlyBorn, laterPart, laterFair}
 use Rattle.grid.proofs.Beside.{Offsets, place-is, place-low}
 use Rattle.grid.proofs.Listed.{part-at}
@@ -61,9 +61,9 @@ steady-both true true false w e = absurd (false≢true (sym e))
 steady-both true false s w e = absurd (false≢true (sym e))
 steady-both false d s w e = absurd (false≢true w)
 
-module _ (s : Sides) (g : Settings) (flags : List ℕ) (parts masses : List ℤ) (fills : List ℕ) (p : Poised s g (uncarried flags parts masses fills)) where
+module _ (s : Sides) (g : Settings) (flags : List ℕ) (parts masses : List ℤ) (fills : List ℕ) (carry : List ℤ) (p : Poised s g (carried flags parts masses fills carry)) where
   abbrev step : Scene
-  step = sceneOf s g (uncarried flags parts masses fills)
+  step = sceneOf s g (carried flags parts masses fills carry)
 
   abbrev seen : Scene
   seen = flowSight flags parts (tab 19 (offsetOf s)) (lowOf s) g
@@ -75,9 +75,9 @@ module _ (s : Sides) (g : Settings) (flags : List ℕ) (parts masses : List ℤ)
   is-cell {c} h = subst (λ (n : ℕ). c < n) (p .flags) h
 
   -- no wall, so inner
-  within : (c : ℕ) → c < cellsOf s → getD flags c 3 < 3 → Inner s c
+  pub within : (c : ℕ) → c < cellsOf s → getD flags c 3 < 3 → Inner s c
   unfolding stateOf
-  within c h f = poised-inner s g (uncarried flags parts masses fills) p c h (λ e. absurd (omega arith))
+  within c h f = poised-inner s g (carried flags parts masses fills carry) p c h (λ e. absurd (omega arith))
 
   module _ (fast : cellsOf s ≤ first (cellsOf s) (tooFast step)) where
     steady : (c : ℕ) → c < cellsOf s → liquid (getD flags c 3) ≡ true
@@ -85,12 +85,12 @@ module _ (s : Sides) (g : Settings) (flags : List ℕ) (parts masses : List ℤ)
     unfolding tooFast sight stateOf
     steady c h l =
         steady-both (liquid (getD flags c 3)) (dense (newDensity seen c)) (slow (newDensity seen c) (dot (newMomentum seen c) (newMomentum seen c))) l
-        (fast-seen s g flags parts masses fills p (tab 19 (offsetOf s)) (lowOf s) offs c h ∙ first-none (cellsOf s) (tooFast step) fast c h)
+        (fast-seen s g flags parts masses fills carry p (tab 19 (offsetOf s)) (lowOf s) offs c h ∙ first-none (cellsOf s) (tooFast step) fast c h)
 
     pub tested : Tested flags parts (tab 19 (offsetOf s)) (lowOf s) g
     unfolding settingsGood
     tested = record {
-      bodies = poised-bodied s g (uncarried flags parts masses fills) p;
+      bodies = poised-bodied s g (carried flags parts masses fills carry) p;
       gravity = and-right (relaxationGood (g .p)) (gravityGood (g .gx) (g .gy) (g .gz)) (p .settings);
       around = λ c h f. subst (λ (n : ℕ). Around n (tab 19 (offsetOf s)) (lowOf s) c) (sym (p .flags)) (around offs c (within c (is-cell h) f));
       is-dense = λ c h l. steady c (is-cell h) l .0;
@@ -102,7 +102,7 @@ module _ (s : Sides) (g : Settings) (flags : List ℕ) (parts masses : List ℤ)
   unfolding sight sceneOf stateOf d3q19
   momentum-seen c h l =
       new-momentum-same d3q19 paired19 (seen .grid) (step .grid) (step .old .flag) (step .old .part) c
-      (λ i d. place-is offs c (liquid-inner s g (uncarried flags parts masses fills) p c h l) i (omega (arith, d .most)))
+      (λ i d. place-is offs c (liquid-inner s g (carried flags parts masses fills carry) p c h l) i (omega (arith, d .most)))
       (seen .old .mass) (step .old .mass) (seen .old .fill) (step .old .fill) (seen .old .carry) (step .old .carry) (step .g) (step .relax)
 
   module _ (c : ℕ) (inner : Inner s c) where
@@ -143,7 +143,7 @@ module _ (s : Sides) (g : Settings) (flags : List ℕ) (parts masses : List ℤ)
     unfolding bornDensity
     density-born-seen =
         ap₂ (λ (z : ℤ) (k : ℕ). floor z k)
-        (sum-seen (newDensity seen) (newDensity step) (λ d h l. density-seen s g flags parts masses fills p (tab 19 (offsetOf s)) (lowOf s) offs d h l)) liquid-seen
+        (sum-seen (newDensity seen) (newDensity step) (λ d h l. density-seen s g flags parts masses fills carry p (tab 19 (offsetOf s)) (lowOf s) offs d h l)) liquid-seen
 
     part-of-mean : (e : V3 → ℤ) → cut (nearSum seen c (λ d. e (newMomentum seen d))) (pos (liquidNear seen c)) ≡ cut (nearSum step c (λ d. e (newMomentum step d))) (pos (liquidNear step c))
     part-of-mean e =
@@ -191,7 +191,7 @@ module _ (s : Sides) (g : Settings) (flags : List ℕ) (parts masses : List ℤ)
     filled-wet (suc (suc zero)) o e = absurd (false≢true e)
     filled-wet (suc (suc (suc n))) o e = absurd (false≢true e)
 
-    fed : (c : ℕ) → c < cellsOf s → newlyBorn flags flags2 c ≡ true → 0 < liquidNear seen c
+    pub fed : (c : ℕ) → c < cellsOf s → newlyBorn flags flags2 c ≡ true → 0 < liquidNear seen c
     unfolding newFlag besideFilled filled liquidNear sceneOf stateOf d3q19
     fed c h e =
         let w = was-empty c e in
@@ -223,11 +223,11 @@ module _ (s : Sides) (g : Settings) (flags : List ℕ) (parts masses : List ℤ)
     pick true b d x h = h refl
     pick false b d x h = refl
 
-    is-born : (c : ℕ) → c < cellsOf s → flagAt step c ≡ 0 → newFlag step c ≡ 1 → newlyBorn flags flags2 c ≡ true
+    pub is-born : (c : ℕ) → c < cellsOf s → flagAt step c ≡ 0 → newFlag step c ≡ 1 → newlyBorn flags flags2 c ≡ true
     unfolding sceneOf stateOf
     is-born c h z n = born-test c h ∙ and-true (eqb (getD flags c 3) 0) (eqb (newFlag step c) 1) (eq-eqb (getD flags c 3) 0 z) (eq-eqb (newFlag step c) 1 n)
 
-    new-part : (c k : ℕ) → flagAt step c ≡ 0 → newFlag step c ≡ 1 → newPart step c k ≡ born step c k
+    pub new-part : (c k : ℕ) → flagAt step c ≡ 0 → newFlag step c ≡ 1 → newPart step c k ≡ born step c k
     unfolding newPart newFlag
     new-part c k z n =
         ap (λ (f : ℕ). byFlag f (cond (besideFilled step c) (born step c k) (pos 0)) (cond (emptied step c) (pos 0) (collided step c k)) (collided step c k) (pos 0)) z

@@ -17,7 +17,7 @@ use Rattle.grid.specs.Grid.{cellsOf}
 use Rattle.grid.specs.State.{Scene, byFlag, liquid, stateOf}
 use Rattle.grid.specs.Step.{newDensity, tradedMass, tooFast, collided}
 use Rattle.grid.specs.Outcome.{sceneOf}
-use Rattle.grid.specs.Between.{Poised, uncarried, movedPart, movedMass, firstMark}
+use Rattle.grid.specs.Between.{Poised, carried, uncarried, movedPart, movedMass, firstMark}
 use Rattle.grid.specs.Sight.{flowing, noSettings, sight}
 use Rattle.grid.proofs.Beside.{Offsets, place-is}
 use Rattle.grid.proofs.Plain.{new-density-same, too-fast-same, collided-same, traded-mass-same}
@@ -43,11 +43,11 @@ mark-cases (suc zero) m n r q h = ap₂ (λ (x y : ℤ). cond (over x y) 1 (cond
 mark-cases (suc (suc zero)) m n r q h = refl
 mark-cases (suc (suc (suc k))) m n r q h = refl
 
-module _ (s : Sides) (g : Settings) (flags : List ℕ) (parts masses : List ℤ) (fills : List ℕ) (p : Poised s g (uncarried flags parts masses fills))
+module _ (s : Sides) (g : Settings) (flags : List ℕ) (parts masses : List ℤ) (fills : List ℕ) (carry : List ℤ) (p : Poised s g (carried flags parts masses fills carry))
     (off : List ℕ) (low : ℕ) (o : Offsets s off low) (c : ℕ) (h : c < cellsOf s) where
   -- the step's scene, and what functions of one cell see of it
   abbrev step : Scene
-  step = sceneOf s g (uncarried flags parts masses fills)
+  step = sceneOf s g (carried flags parts masses fills carry)
 
   abbrev seen : Scene
   seen = sight (flowing flags parts) off low g
@@ -57,7 +57,7 @@ module _ (s : Sides) (g : Settings) (flags : List ℕ) (parts masses : List ℤ)
 
   near : liquid (getD flags c 3) ≡ true → (i : ℕ) → Dir (d3q19 .q) i → seen .grid .near c i ≡ step .grid .near c i
   unfolding stateOf sight sceneOf d3q19
-  near l i d = place-is o c (liquid-inner s g (uncarried flags parts masses fills) p c h l) i (omega (arith, d .most))
+  near l i d = place-is o c (liquid-inner s g (carried flags parts masses fills carry) p c h l) i (omega (arith, d .most))
 
   -- stages 1, 3 and 4
   module _ (l : liquid (getD flags c 3) ≡ true) where

@@ -4,15 +4,15 @@ use mathlib.Core.Path.{_≡_, refl, sym, ap, ap₂, _∙_, subst}
 use mathlib.Core.Bool.{Bool, true, false, cond}
 use mathlib.Core.List.{[], _∷_}
 use Prim.Native.Nat.{ℕ, zero, suc, _+_, _*_, _/_, _≤_, _<_}
-use native.Mathlib.Nat.{div-mul-le-self, div-zero, le-of-mul-le-mul-right, le-step, lt-suc-self, eq-or-lt-of-le, le-of-suc-le-suc, not-suc-le-zero}
+use native.Mathlib.Nat.{div-mul-le-self, div-zero, le-of-mul-le-mul-right, eq-or-lt-of-le, le-of-suc-le-suc, not-suc-le-zero}
 use native.Mathlib.Omega.{arith}
 use mathlib.Core.Logic.{_⊎_, inl, inr}
 use lib.IntN.{ℤ, pos, negsuc, negℤ, natAbs, _+ℤ_, _-ℤ_, _*ℤ_}
 use lib.Signed.{quotZ}
 use lib.Dec.{eqb}
-use Rattle.whole.specs.Fold.{sum, total, first, dirs}
+use Rattle.whole.specs.Fold.{sum, total, dirs}
 use Rattle.whole.specs.Bounds.{abs-neg, abs-add}
-use Rattle.whole.specs.Parts.{up, down, Is, is-pos, is-add, is-neg, abs-max, one-zero}
+use Rattle.whole.specs.Parts.{up, is-pos, is-add, is-neg, abs-max, one-zero}
 use Rattle.whole.specs.Quot.{quot-neg}
 use Rattle.whole.specs.Ring.{neg-*ℤ, ring-by, quotes}
 use Rattle.whole.specs.Search.{first-cong}

@@ -1,17 +1,17 @@
 -- What the passes may take for granted: from tests 1 to 6, that the set is sized and sound, and what each liquid cell then has. Assumes nothing.
 use mathlib.Core.Path.{_≡_, refl, sym, ap, _∙_, subst}
-use mathlib.Core.Bool.{Bool, true, false, _&&_, false≢true}
+use mathlib.Core.Bool.{Bool, true, false, _&&_, not, cond, false≢true}
 use Prim.Native.Nat.{ℕ, zero, suc, _+_, _*_, _≤_, _<_}
 use native.Mathlib.Nat.{lt-suc-self}
 use native.Mathlib.Omega.{arith}
 use lib.IntN.{ℤ, pos, natAbs}
 use lib.Dec.{eqb, leb}
-use lib.ListN.{length}
-use borrow.Author.Tests.{leb-true, eqb-true}
+use lib.ListN.{length, getD}
+use borrow.Author.Tests.{leb-true, eqb-true, eq-eqb, not-false}
 use Rattle.whole.specs.Bools.{and-left, and-right}
 use Rattle.whole.specs.Fold.{all}
 use Rattle.whole.specs.Machine.{Within}
-use Rattle.whole.specs.Search.{all-at}
+use Rattle.whole.specs.Search.{all-at, first-none}
 use Rattle.lattice.specs.Lattice.{V3, dot, d3q19, density, momentum}
 use Rattle.lattice.specs.Cell.{partGood, massGood, carryGood, dense, slow}
 use Rattle.lattice.specs.declared.Settings.{Settings}
@@ -113,3 +113,11 @@ module _ (s : Sides) (g : Settings) (a : Lent) (r : Ready s g a) where
 
   pub ready-fill : (c : ℕ) → c < cellsOf s → stateOf 18 a .fill c ≡ fillFor (stateOf 18 a .flag c) (stateOf 18 a .mass c) (density d3q19 (stateOf 18 a .part c))
   ready-fill = cell-fill (cellsOf s) (stateOf 18 a) ready-cell
+
+  -- the carry is in its range
+  pub ready-carry : carryGood (getD (a .carry) 0 (pos 0)) ≡ true
+  unfolding badRule stateOf
+  ready-carry =
+      not-false (carryGood (getD (a .carry) 0 (pos 0)))
+      (ap (λ (b : Bool). cond b (not (carryGood (getD (a .carry) 0 (pos 0)))) (not (cellGood d3q19 (stateOf 18 a) (cellsOf s)))) (sym (eq-eqb (cellsOf s) (cellsOf s) refl))
+      ∙ first-none (suc (cellsOf s)) (λ c. cond (eqb c (cellsOf s)) (not (carryGood (getD (a .carry) 0 (pos 0)))) (not (cellGood d3q19 (stateOf 18 a) c))) rules (cellsOf s) (lt-suc-self (cellsOf s)))

@@ -1,13 +1,12 @@
 -- Readings of the machine's numbers in stage 6: a fill as a signed number, a vector field by field. Assumes nothing.
-use mathlib.Core.Path.{_≡_, refl, sym, ap, _∙_}
-use mathlib.Core.Bool.{Bool, true, false, cond}
+use mathlib.Core.Path.{_≡_, sym, ap, _∙_}
 use mathlib.Core.List.{List}
 use Prim.Native.Nat.{ℕ, _≤_, _<_, _^_}
 use native.Mathlib.Nat.{lt-of-le-of-lt}
-use lib.IntN.{ℤ, pos, negℤ, _+ℤ_, _-ℤ_, +ℤ-idl}
+use lib.IntN.{ℤ, pos, negℤ, _-ℤ_, +ℤ-idl}
 use lib.Signed.{mag}
-use lib.Dec.{T, ltb, ltb→lt, eqb}
-use mir.Syntax.{Width, w32, w64}
+use lib.Dec.{T, ltb, ltb→lt}
+use mir.Syntax.{w32, w64}
 use mir.Val.{SFits, toZ, ofZ}
 use mir.Facts.{toZ-pos, toZ-ofZ}
 use borrow.Author.Needs.{sfits-of}

@@ -1,19 +1,19 @@
 -- What is sent in stage 6: how large an excess and a gift can be, what a cell with no mark sends, and when a cell has no target. Assumes nothing.
-use mathlib.Core.Path.{_≡_, refl, sym, ap, ap₂, _∙_, subst}
-use mathlib.Core.Logic.{_⊎_, inl, inr, ⊎-elim}
-use mathlib.Core.Bool.{Bool, true, false, _||_, cond, false≢true}
+use mathlib.Core.Path.{_≡_, refl, sym, ap, ap₂, _∙_}
+use mathlib.Core.Logic.{⊎-elim}
+use mathlib.Core.Bool.{Bool, true, false, _||_, cond}
 use mathlib.Core.List.{List}
-use Prim.Native.Nat.{ℕ, zero, suc, _+_, _-_, _*_, _%_, _≤_, _<_}
+use Prim.Native.Nat.{ℕ, zero, suc, _+_, _-_, _%_}
 use native.Mathlib.Omega.{arith}
-use lib.IntN.{ℤ, pos, natAbs, _+ℤ_, _-ℤ_}
+use lib.IntN.{ℤ, pos, natAbs, _-ℤ_}
 use lib.Dec.{eqb}
-use lib.ListN.{length, getD}
+use lib.ListN.{getD}
 use borrow.Author.Tests.{eq-eqb, ne-eqb, eqb-true, eqb-false}
 use Rattle.whole.specs.Bools.{cond-yes, cond-no, or-cases, or-left, or-right}
 use Rattle.whole.specs.Bounds.{abs-sub}
 use Rattle.whole.specs.Fold.{dirs, total, all, any, anyDir, tab, open-fold}
 use Rattle.whole.specs.Machine.{Within}
-use Rattle.whole.specs.Search.{Dir, as-dir, all-at}
+use Rattle.whole.specs.Search.{Dir, all-at}
 use Rattle.whole.specs.Sums.{sum-cong}
 use Rattle.lattice.specs.Lattice.{d3q19, open-lattice}
 use Rattle.lattice.specs.Cell.{share}

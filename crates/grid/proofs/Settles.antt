@@ -1,23 +1,22 @@
 -- Pass 7 turn by turn: cells before c are settled and the others are as they were; and settled masses and parts are those of the next state. Assumes nothing.
 use mathlib.Core.Path.{_≡_, refl, sym, ap, ap₂, _∙_, subst}
-use mathlib.Core.Bool.{Bool, true, false, _&&_, _||_, not, cond, false≢true}
-use mathlib.Core.List.{List, [], _∷_}
-use Prim.Native.Nat.{ℕ, zero, suc, _+_, _-_, _*_, _/_, _%_, _≤_, _<_}
+use mathlib.Core.Bool.{Bool, true, false, cond}
+use mathlib.Core.List.{List, _∷_}
+use Prim.Native.Nat.{ℕ, zero, suc, _+_, _*_, _≤_, _<_}
 use native.Mathlib.Decide.{ℕ-discrete}
-use native.Mathlib.Nat.{div-add-mod, mod-lt}
 use native.Mathlib.Omega.{arith}
 use lib.Arith.{lt-of-le-ne}
 use lib.IntN.{ℤ, pos}
 use lib.Dec.{eqb}
 use lib.ListN.{length, getD, set, replicate, length-set}
-use lib.Seq.{getD-set-same, getD-set-other, ext-getD}
+use lib.Seq.{getD-set-same, getD-set-other}
 use borrow.Author.Tests.{eq-eqb, ne-eqb}
 use Rattle.whole.specs.Bools.{cond-yes, cond-no}
-use Rattle.whole.specs.Fold.{tab, tabFrom}
-use Rattle.whole.specs.Tab.{length-tab, getD-tab, upto-all}
+use Rattle.whole.specs.Fold.{tabFrom}
+use Rattle.whole.specs.Tab.{upto-all}
 use Rattle.whole.specs.Machine.{Within}
 use Rattle.lattice.specs.Lattice.{d3q19}
-use Rattle.grid.specs.Gifts.{densityAt, settledMass, settledPart, Parts, Settling, CellSettled, Settled}
+use Rattle.grid.specs.Gifts.{densityAt, settledMass, settledPart, Parts, CellSettled, Settled}
 use Rattle.grid.specs.Pasted.{pasted}
 use Rattle.grid.proofs.Blocks.{length-pasted, pasted-inside, pasted-before, pasted-after, blocks-all}
 use Rattle.grid.proofs.Same.{density-same}

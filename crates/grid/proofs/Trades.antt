@@ -1,13 +1,12 @@
 -- The trade of mass by cases of the neighbour's flag, its bounds, and the same as the stages' definitions over what a cell sees. Assumes nothing.
 use mathlib.Core.Path.{_≡_, refl, sym, ap, _∙_, subst}
-use mathlib.Core.Bool.{Bool, true, false, cond, false≢true}
+use mathlib.Core.Bool.{Bool, true, cond}
 use mathlib.Core.List.{List}
-use Prim.Native.Nat.{ℕ, zero, suc, _+_, _-_, _*_, _/_, _%_, _<_, _≤_}
+use Prim.Native.Nat.{ℕ, zero, suc, _+_, _-_, _*_, _%_, _<_, _≤_}
 use native.Mathlib.Nat.{le-trans, le-of-eq, mul-le-mul-right, div-le-of-le-mul}
 use native.Mathlib.Numerals.{add-one}
 use native.Mathlib.Omega.{arith}
-use lib.Dec.{eqb}
-use lib.IntN.{ℤ, pos, natAbs, _+ℤ_, _-ℤ_, _*ℤ_, +ℤ-assoc, +ℤ-idr}
+use lib.IntN.{ℤ, pos, natAbs, _+ℤ_, _*ℤ_, +ℤ-assoc, +ℤ-idr}
 use lib.ListN.{length, getD}
 use borrow.Author.Tests.{eq-eqb, ne-eqb}
 use Rattle.whole.specs.Fold.{sum}
@@ -19,9 +18,9 @@ use Rattle.lattice.specs.Cell.{exchange, over, under}
 use Rattle.lattice.proofs.Paired.{paired19}
 use Rattle.grid.specs.State.{Scene, byFlag, liquid, stateOf}
 use Rattle.grid.specs.Step.{flagAt, traded, tradedMass, difference, newDensity}
-use Rattle.grid.specs.Between.{movedMass, firstMark}
+use Rattle.grid.specs.Between.{uncarried, movedMass, firstMark}
 use Rattle.grid.specs.Sight.{Bodied, Around, sight, noSettings}
-use Rattle.grid.specs.Trade.{Fills, Masses, Traders, trading, apart, passed, markFor}
+use Rattle.grid.specs.Trade.{Fills, Traders, apart, passed, markFor}
 use Rattle.grid.proofs.Lists.{getD-there}
 
 -- neither fluid nor interface
@@ -115,7 +114,7 @@ module _ (flags : List ℕ) (parts masses : List ℤ) (fills off : List ℕ) (lo
   unfoldable pub gain : ℕ → ℤ
   gain i = passed flags parts fills c ((c - low) + getD off i 0) i (pairOpp i)
 
-  pub gain-is : (i : ℕ) → gain i ≡ traded (sight (trading flags parts masses fills) off low noSettings) c i
+  pub gain-is : (i : ℕ) → gain i ≡ traded (sight (uncarried flags parts masses fills) off low noSettings) c i
   unfolding gain passed sight stateOf traded difference d3q19
   gain-is i = refl
 
@@ -127,7 +126,7 @@ module _ (flags : List ℕ) (parts masses : List ℤ) (fills off : List ℕ) (lo
   unfolding gained sum
   gained-none = sym (+ℤ-idr (getD masses c (pos 0)))
 
-  pub gained-all : gained 18 ≡ tradedMass (sight (trading flags parts masses fills) off low noSettings) c
+  pub gained-all : gained 18 ≡ tradedMass (sight (uncarried flags parts masses fills) off low noSettings) c
   unfolding gained gain passed sight stateOf traded tradedMass difference d3q19
   gained-all = refl
 
@@ -167,7 +166,7 @@ module _ (flags : List ℕ) (parts masses : List ℤ) (fills off : List ℕ) (lo
           );
         }
 
-    pub mass-within : Within (tradedMass (sight (trading flags parts masses fills) off low noSettings) c) 44826624
+    pub mass-within : Within (tradedMass (sight (uncarried flags parts masses fills) off low noSettings) c) 44826624
     mass-within = subst (λ (z : ℤ). Within z 44826624) gained-all (gained-within 18 (omega arith))
 
 -- ---- after stages 1 to 4: with the density of a liquid cell, and 0 for any other, the code's mass and mark are those of the passes

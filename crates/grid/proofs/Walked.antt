@@ -3,7 +3,7 @@
 use mathlib.Core.Path.{_≡_, refl, sym, ap, _∙_, subst}
 use mathlib.Core.Logic.{_≢_}
 use mathlib.Core.Bool.{Bool, true, false, _&&_, not, cond, false≢true}
-use mathlib.Core.List.{List}
+use mathlib.Core.List.{List, []}
 use Prim.Native.Nat.{ℕ, zero, suc, _+_, _*_, _/_, _%_, _≤_, _<_}
 use native.Mathlib.Nat.{not-suc-le-zero, le-of-eq, lt-irrefl}
 use native.Mathlib.Decide.{ℕ-discrete}
@@ -139,12 +139,12 @@ module _ (s : Sides) (g : Settings) (flags : List ℕ) (parts masses : List ℤ)
 
   mass-same : (c : ℕ) → c < cellsOf s → massOf flags parts masses fills off low g c ≡ movedMass step c
   unfolding massOf rhoOf
-  mass-same c h = mass-seen s g flags parts masses fills p off low o c h (rhoOf flags parts masses fills off low g c) refl
+  mass-same c h = mass-seen s g flags parts masses fills [] p off low o c h (rhoOf flags parts masses fills off low g c) refl
 
   mark-same : (c : ℕ) → c < cellsOf s → markOf flags parts masses fills off low g c ≡ firstMark step c
   unfolding markOf rhoOf
   mark-same c h =
-      mark-seen s g flags parts masses fills p off low o c h (massOf flags parts masses fills off low g c) (rhoOf flags parts masses fills off low g c) refl (mass-same c h)
+      mark-seen s g flags parts masses fills [] p off low o c h (massOf flags parts masses fills off low g c) (rhoOf flags parts masses fills off low g c) refl (mass-same c h)
 
   fair-liquid : (f : ℕ) (b : Bool) → liquid f ≡ true → byFlag f true b b true ≡ true → b ≡ true
   fair-liquid zero b l e = absurd (false≢true l)
@@ -155,7 +155,7 @@ module _ (s : Sides) (g : Settings) (flags : List ℕ) (parts masses : List ℤ)
   body-is : (c : ℕ) → c < cellsOf s → liquid (getD flags c 3) ≡ true → fairOf flags parts masses fills off low g c ≡ true → bodyGood d3q19 (collided step c) ≡ true
   unfolding fairOf d3q19
   body-is c h l e =
-      sym (body-same d3q19 (collided (seen flags parts masses fills off low g) c) (collided step c) (collided-seen s g flags parts masses fills p off low o c h l))
+      sym (body-same d3q19 (collided (seen flags parts masses fills off low g) c) (collided step c) (collided-seen s g flags parts masses fills [] p off low o c h l))
       ∙ fair-liquid (getD flags c 3) (bodyGood d3q19 (collided (seen flags parts masses fills off low g) c)) l e
 
   -- the cell that stopped the pass is the lowest that is too fast
@@ -164,16 +164,16 @@ module _ (s : Sides) (g : Settings) (flags : List ℕ) (parts masses : List ℤ)
       → first (cellsOf s) (tooFast step) ≡ c
   walked-stopped marks₀ parts2 masses2 marks fair still c h w e =
       first-is (cellsOf s) (tooFast step) c h
-      (λ b k. sym (fast-seen s g flags parts masses fills p off low o b (omega arith)) ∙ w .steady b k)
-      (sym (fast-seen s g flags parts masses fills p off low o c h) ∙ e)
+      (λ b k. sym (fast-seen s g flags parts masses fills [] p off low o b (omega arith)) ∙ w .steady b k)
+      (sym (fast-seen s g flags parts masses fills [] p off low o c h) ∙ e)
 
   pub walked-moved : (marks₀ : List ℕ) (parts2 masses2 : List ℤ) (marks : List ℕ) (fair still : Bool)
       → length parts2 ≡ 19 * cellsOf s → length masses2 ≡ cellsOf s → length marks ≡ cellsOf s
       → Walked flags parts masses fills off low g marks₀ parts2 masses2 marks fair still (cellsOf s) → Moved step (cellsOf s) parts2 masses2 marks fair still
   unfolding sceneOf stateOf
   walked-moved marks₀ parts2 masses2 marks fair still lp lm lk w = record {
-    steady = le-of-eq (sym (first-all (cellsOf s) (tooFast step) (λ c h. sym (fast-seen s g flags parts masses fills p off low o c h) ∙ w .steady c h)));
-    parts-are = blocks-all (movedPart step) parts2 (cellsOf s) lp (λ j k h l. w .parts-done j k h l ∙ part-seen s g flags parts masses fills p off low o j h k (omega arith));
+    steady = le-of-eq (sym (first-all (cellsOf s) (tooFast step) (λ c h. sym (fast-seen s g flags parts masses fills [] p off low o c h) ∙ w .steady c h)));
+    parts-are = blocks-all (movedPart step) parts2 (cellsOf s) lp (λ j k h l. w .parts-done j k h l ∙ part-seen s g flags parts masses fills [] p off low o j h k (omega arith));
     masses-are = upto-all (pos 0) (movedMass step) masses2 (cellsOf s) lm (λ j h. w .masses-done j h ∙ mass-same j h);
     marks-are = upto-all 0 (firstMark step) marks (cellsOf s) lk (λ j h. w .marks-done j h ∙ mark-same j h);
     fair-tells = λ e c h l. body-is c h l (w .fair-tells e c h);

@@ -33,9 +33,12 @@ pub record Ready (s : Sides) (g : Settings) (a : Lent) : Type 0 where
   pub settings : settingsGood g ≡ true
   pub good : goodAnswer d3q19 (gridOf s) (stateOf 18 a) Done ≡ Done
 
--- a set with no carry, for a pass that is not lent one: no stage but the last sum of stage 6 reads it
+-- a set of lists, and one with no carry, for a pass that is not lent one: no stage but the last sum of stage 6 reads it
+abbrev pub carried : List ℕ → List ℤ → List ℤ → List ℕ → List ℤ → Lent
+carried flags parts masses fills carry = record { flags = flags; parts = parts; masses = masses; fills = fills; carry = carry }
+
 abbrev pub uncarried : List ℕ → List ℤ → List ℤ → List ℕ → Lent
-uncarried flags parts masses fills = record { flags = flags; parts = parts; masses = masses; fills = fills; carry = [] }
+uncarried flags parts masses fills = carried flags parts masses fills []
 
 -- the same as Ready, cell by cell and without the carry: what a pass over all cells asks
 pub record Poised (s : Sides) (g : Settings) (a : Lent) : Type 0 where

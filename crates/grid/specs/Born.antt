@@ -9,7 +9,7 @@ use lib.Dec.{eqb}
 use lib.ListN.{length, getD}
 use Rattle.whole.specs.Fold.{tab, all}
 use Rattle.whole.specs.Machine.{Within}
-use Rattle.lattice.specs.Lattice.{V3, dot, d3q19}
+use Rattle.lattice.specs.Lattice.{dot, d3q19}
 use Rattle.lattice.specs.Cell.{dense, slow, gravityGood}
 use Rattle.lattice.specs.Body.{vec}
 use Rattle.lattice.specs.declared.Flow.{Flow}

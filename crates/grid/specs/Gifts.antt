@@ -1,7 +1,7 @@
 -- Stage 6 over the lists that its functions are lent: the new flags, the old fills, the parts and masses on the way, the settled marks, and the offsets
 -- of neighbours. Each is Step's formula over lists; proofs/Given has one law each that turns it into the step's scene. Assumes nothing.
 use mathlib.Core.Path.{_≡_}
-use mathlib.Core.Bool.{Bool, true, false, cond}
+use mathlib.Core.Bool.{Bool, true, cond}
 use mathlib.Core.List.{List}
 use Prim.Native.Nat.{ℕ, zero, suc, _+_, _-_, _*_, _/_, _%_, _≤_, _<_}
 use lib.IntN.{ℤ, pos, negℤ, _+ℤ_, _-ℤ_}
@@ -18,7 +18,7 @@ use Rattle.grid.specs.Grid.{cellsOf, sidesGood}
 use Rattle.grid.specs.State.{Lent}
 use Rattle.grid.specs.Step.{tooFast, newFlag}
 use Rattle.grid.specs.Outcome.{sceneOf}
-use Rattle.grid.specs.Between.{Ready, movedMass, settledMark, bornPart}
+use Rattle.grid.specs.Between.{Poised, movedMass, settledMark, bornPart}
 use Rattle.grid.specs.Passes.{lowOf, offsetOf}
 use Rattle.grid.specs.Sight.{Around}
 use Rattle.grid.specs.Pasted.{pasted}
@@ -26,15 +26,15 @@ use Rattle.grid.specs.Pasted.{pasted}
 -- ---- the normal, of the cell with k = c − low
 
 -- the old fill of the neighbour in direction i
-abbrev pub fillAt : List ℕ → List ℕ → ℕ → ℕ → ℤ
-fillAt fills off k i = pos (getD fills (k + getD off i 0) 0)
+abbrev pub fillBeside : List ℕ → List ℕ → ℕ → ℕ → ℤ
+fillBeside fills off k i = pos (getD fills (k + getD off i 0) 0)
 
 -- per axis: fill at minus one less fill at plus one
 unfoldable pub normalAt : List ℕ → List ℕ → ℕ → V3
 normalAt fills off k = record {
-  x = fillAt fills off k 2 -ℤ fillAt fills off k 1;
-  y = fillAt fills off k 4 -ℤ fillAt fills off k 3;
-  z = fillAt fills off k 6 -ℤ fillAt fills off k 5;
+  x = fillBeside fills off k 2 -ℤ fillBeside fills off k 1;
+  y = fillBeside fills off k 4 -ℤ fillBeside fills off k 3;
+  z = fillBeside fills off k 6 -ℤ fillBeside fills off k 5;
 }
 
 abbrev pub back : V3 → V3
@@ -188,7 +188,7 @@ pub record Settled (parts masses : List ℤ) (marks : List ℕ) (parts′ masses
 
 -- ---- where stage 6 begins: from a good state that passed test 7, with flags, newborn parts, masses and settled marks in their places
 pub record Midway (s : Sides) (g : Settings) (a : Lent) (flags fills : List ℕ) (parts masses : List ℤ) (marks : List ℕ) : Type 0 where
-  pub ready : Ready s g a
+  pub poised : Poised s g a
   pub steady : cellsOf s ≤ first (cellsOf s) (tooFast (sceneOf s g a))
   pub fills-are : fills ≡ a .fills
   pub flags-are : flags ≡ tab (cellsOf s) (newFlag (sceneOf s g a))

@@ -1,18 +1,14 @@
 -- Stages 2 and 5 of one cell over lent lists: what the trade of mass asks, and what passes between two cells. Assumes nothing.
 use mathlib.Core.Path.{_≡_}
 use mathlib.Core.Bool.{cond}
-use mathlib.Core.List.{List, []}
+use mathlib.Core.List.{List}
 use Prim.Native.Nat.{ℕ, _+_, _*_, _<_, _≤_}
 use lib.IntN.{ℤ, pos, _-ℤ_}
 use lib.ListN.{length, getD}
 use Rattle.whole.specs.Machine.{Within}
 use Rattle.lattice.specs.Cell.{exchange, over, under}
-use Rattle.grid.specs.State.{Lent, byFlag}
+use Rattle.grid.specs.State.{byFlag}
 use Rattle.grid.specs.Sight.{Bodied}
-
--- lists with no carry, for a function that is lent the cells alone
-abbrev pub trading : List ℕ → List ℤ → List ℤ → List ℕ → Lent
-trading flags parts masses fills = record { flags = flags; parts = parts; masses = masses; fills = fills; carry = [] }
 
 -- a fill a cell, and none above 65,536
 pub record Fills (flags fills : List ℕ) : Type 0 where

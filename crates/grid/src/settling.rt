@@ -2,7 +2,6 @@
 use crate::cells::own;
 use crate::cells::paste;
 use lattice::moments::density;
-ghost use mathlib.Core.Path.{_≡_};
 ghost use Prim.Native.Nat.{_<_};
 ghost use lib.ListN.{length};
 ghost use Rattle.grid.specs.Gifts.{Parts, CellSettled, Settling, Settled};
@@ -21,7 +20,7 @@ fn settle_cell(parts: &mut [i32], masses: &mut [i32], c: usize, m: u8)
 }
 
 // Every marked cell is settled.
-pub fn settle(parts: &mut [i32], masses: &mut [i32], marks: &mut [u8])
+pub(crate) fn settle(parts: &mut [i32], masses: &mut [i32], marks: &mut [u8])
     requires { ⌜ Settling (now parts) (now masses) (now marks) ⌝ }
     ensures { λ r. ⌜ Settled (now (parts .entry)) (now (masses .entry)) (now (marks .entry)) (now (parts .exit)) (now (masses .exit)) (now (marks .exit)) ⌝ }
 {

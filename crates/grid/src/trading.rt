@@ -7,7 +7,8 @@ ghost use lib.ListN.{length, getD};
 ghost use Rattle.grid.specs.State.{byFlag};
 ghost use Rattle.grid.specs.Sight.{Bodied, Around, sight, noSettings};
 ghost use Rattle.grid.specs.Step.{tradedMass};
-ghost use Rattle.grid.specs.Trade.{Fills, Traders, trading, passed, markFor};
+ghost use Rattle.grid.specs.Between.{uncarried};
+ghost use Rattle.grid.specs.Trade.{Fills, Traders, passed, markFor};
 
 fn difference(a: i32, b: i32) -> i64
     ensures { λ r. ⌜ r ≡ a -ℤ b ⌝ }
@@ -49,7 +50,7 @@ fn traded_mass(
     c: usize,
 ) -> i64
     requires { ⌜ Traders (now flags) (now parts) (now mass) (now fill) × Around (length (now flags)) (now off) low c × (getD (now flags) c 3 ≡ 1) ⌝ }
-    ensures { λ r. ⌜ r ≡ tradedMass (sight (trading (now (flags .entry)) (now (parts .entry)) (now (mass .entry)) (now (fill .entry))) (now (off .entry)) low noSettings) c ⌝ }
+    ensures { λ r. ⌜ r ≡ tradedMass (sight (uncarried (now (flags .entry)) (now (parts .entry)) (now (mass .entry)) (now (fill .entry))) (now (off .entry)) low noSettings) c ⌝ }
 {
     let k = c - low;
     let mut m = wide(mass[c]);
@@ -74,7 +75,7 @@ pub(crate) fn new_mass(
     rho: i32,
 ) -> i32
     requires { ⌜ Traders (now flags) (now parts) (now mass) (now fill) × (c < length (now flags)) × (getD (now flags) c 3 ≡ 1 → Around (length (now flags)) (now off) low c) ⌝ }
-    ensures { λ r. ⌜ r ≡ byFlag (getD (now (flags .entry)) c 3) rho (tradedMass (sight (trading (now (flags .entry)) (now (parts .entry)) (now (mass .entry)) (now (fill .entry))) (now (off .entry)) low noSettings) c) rho rho ⌝ }
+    ensures { λ r. ⌜ r ≡ byFlag (getD (now (flags .entry)) c 3) rho (tradedMass (sight (uncarried (now (flags .entry)) (now (parts .entry)) (now (mass .entry)) (now (fill .entry))) (now (off .entry)) low noSettings) c) rho rho ⌝ }
 {
     if flags[c] == 1 {
         return traded_mass(flags, parts, mass, fill, off, low, c) as i32;

@@ -2,22 +2,21 @@
 use mathlib.Core.Path.{_≡_, refl, sym, _∙_, ap, ap₂, subst}
 use mathlib.Core.Bool.{Bool, true, false, _&&_, cond}
 use mathlib.Core.List.{List}
-use Prim.Native.Nat.{ℕ, suc, _<_, _≤_}
+use Prim.Native.Nat.{ℕ}
+use native.Mathlib.Nat.{le-trans}
 use native.Mathlib.Omega.{arith}
-use lib.Dec.{eqb}
+use lib.Dec.{T, leb, leb→le}
 use lib.IntN.{ℤ, pos, natAbs}
 use lib.Signed.{_<ℤ_, _≤ℤ_, <ℤ-≤ℤ-trans}
 use borrow.Author.Tests.{leb-true}
-use Rattle.whole.specs.Bools.{and-left}
 use Rattle.whole.specs.Fold.{all}
 use Rattle.whole.specs.Search.{all-at}
-use Rattle.whole.specs.Order.{≤ℤ-trans}
 use Rattle.whole.specs.Machine.{Within}
 use Rattle.lattice.specs.declared.Flow.{Flow}
 use Rattle.lattice.specs.Lattice.{V3, dot, density, momentum, d3q19}
-use Rattle.lattice.specs.Cell.{partGood, massGood, fillOf, dense, slow}
-use Rattle.lattice.specs.Body.{partsOf, Bounded, vec, Tame, steadyFlow, goodBody, goodFluid, goodInterface, eqZ}
-use Rattle.lattice.proofs.Momentum.{x-in, y-in, z-in}
+use Rattle.lattice.specs.Cell.{partGood, dense, slow}
+use Rattle.lattice.specs.Body.{partsOf, Bounded, vec, steadyFlow, goodBody, goodFluid, goodInterface}
+use Rattle.lattice.proofs.Momentum.{x-in, y-in, z-in, density-in}
 
 -- parts that pass the test are bounded
 pub inside-bounded : (f : List ℤ) → all 19 (λ k. partGood (partsOf f k)) ≡ true → Bounded f 1073741824 33554432
@@ -27,19 +26,23 @@ inside-bounded f e =
       at = λ k h m. record { abs = omega (arith, leb-true (natAbs (partsOf f k)) 1179648 (all-at 19 (λ k. partGood (partsOf f k)) e k m)) };
     }
 
--- the flow of bounded parts, as `steady` asks it
-module _ (f : List ℤ) (b : Bounded f 1073741824 33554432) (v : Flow) (e : vec v ≡ momentum d3q19 (partsOf f)) where
-  wide-in : {a c : ℤ} → a ≡ c → Within c 335544320 → Within a 400000000
-  wide-in {a} {c} q h = subst (λ (z : ℤ). Within z 400000000) (sym q) (record { abs = omega (arith, h .abs) })
+-- the flow of bounded parts: within ±k for every k that is large enough
+module _ (f : List ℤ) (b : Bounded f 1073741824 33554432) (v : Flow) where
+  at-most : {a c : ℤ} {n k : ℕ} → a ≡ c → Within c n → T (leb n k) → Within a k
+  at-most {a} {c} {n} {k} q h t = subst (λ (z : ℤ). Within z k) (sym q) (record { abs = le-trans (h .abs) (leb→le n k t) })
 
-  pub flow-x : Within (v .x) 400000000
-  flow-x = wide-in (ap (λ (j : V3). j .x) e) (x-in f b)
+  pub flow-rho : v .rho ≡ density d3q19 (partsOf f) → (k : ℕ) → T (leb 1677721600 k) → Within (v .rho) k
+  flow-rho e k t = at-most e (density-in f b) t
 
-  pub flow-y : Within (v .y) 400000000
-  flow-y = wide-in (ap (λ (j : V3). j .y) e) (y-in f b)
+  module _ (e : vec v ≡ momentum d3q19 (partsOf f)) (k : ℕ) (t : T (leb 335544320 k)) where
+    pub flow-x : Within (v .x) k
+    flow-x = at-most (ap (λ (j : V3). j .x) e) (x-in f b) t
 
-  pub flow-z : Within (v .z) 400000000
-  flow-z = wide-in (ap (λ (j : V3). j .z) e) (z-in f b)
+    pub flow-y : Within (v .y) k
+    flow-y = at-most (ap (λ (j : V3). j .y) e) (y-in f b) t
+
+    pub flow-z : Within (v .z) k
+    flow-z = at-most (ap (λ (j : V3). j .z) e) (z-in f b) t
 
 and-assoc : (a b c : Bool) → (a && (b && c)) ≡ (a && b && c)
 and-assoc true b c = refl
@@ -52,10 +55,6 @@ unfolding steadyFlow goodBody d3q19
 body-is f v r e =
     ap₂ (λ (ρ : ℤ) (j : V3). all 19 (λ k. partGood (partsOf f k)) && (dense ρ && slow ρ (dot j j))) r e
     ∙ and-assoc (all 19 (λ k. partGood (partsOf f k))) (dense (density d3q19 (partsOf f))) (slow (density d3q19 (partsOf f)) (dot (momentum d3q19 (partsOf f)) (momentum d3q19 (partsOf f))))
-
-pub no-right : (a b : Bool) → b ≡ false → (a && b) ≡ false
-no-right true b e = e
-no-right false b e = refl
 
 -- a cell whose body breaks a rule is bad as fluid and as interface
 pub broken : (t : Bool) (f : ℕ → ℤ) (m : ℤ) (fill : ℕ) → goodBody d3q19 f ≡ false → cond t (goodFluid d3q19 f m fill) (goodInterface d3q19 f m fill) ≡ false

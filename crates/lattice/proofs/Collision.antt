@@ -1,22 +1,21 @@
 -- Collision by pairs: what the eighteen share is in range, opposite directions differ in the sign of e·j alone, and the code's forms are the
 -- definition's. Assumes nothing.
-use mathlib.Core.Path.{_≡_, refl, sym, _∙_, ap, ap₂, subst}
-use mathlib.Core.Bool.{Bool, true, _&&_}
+use mathlib.Core.Path.{_≡_, sym, ap, ap₂, subst}
+use mathlib.Core.Bool.{true}
 use mathlib.Core.List.{List, [], _∷_}
-use Prim.Native.Nat.{ℕ, zero, suc, _+_, _*_, _%_, _<_, _≤_}
+use Prim.Native.Nat.{ℕ}
 use native.Mathlib.Omega.{arith}
-use lib.IntN.{ℤ, pos, negsuc, negℤ, natAbs, _+ℤ_, _-ℤ_, _*ℤ_}
+use lib.IntN.{ℤ, pos, negsuc, negℤ, _+ℤ_, _-ℤ_, _*ℤ_}
 use lib.Signed.{_≤ℤ_, leZ, quotZ}
 use lib.ListN.{getD}
 use Rattle.whole.specs.Bools.{and-left, and-right}
-use Rattle.whole.specs.Fold.{sum, dirs}
 use Rattle.whole.specs.Bounds.{abs-above, abs-below, abs-mul}
 use Rattle.whole.specs.Ring.{ring-by, quotes}
 use Rattle.whole.specs.Order.{leZ-true, *ℤ-mono}
 use Rattle.whole.specs.Machine.{Within, within-by}
 use Rattle.lattice.specs.declared.Flow.{Flow}
 use Rattle.lattice.specs.declared.collide.Common.{Common}
-use Rattle.lattice.specs.Lattice.{V3, dot, d3q19}
+use Rattle.lattice.specs.Lattice.{dot, d3q19}
 use Rattle.lattice.specs.Cell.{quad, relaxed, still, relaxationGood}
 use Rattle.lattice.specs.Body.{partsOf, vec, Tame, relaxedDir, stillDir}
 use Rattle.lattice.specs.Post.{CommonIs, Ready, grown, stilled}
@@ -47,8 +46,8 @@ abbrev pub formed : List ℤ → List ℤ → Common → ℕ → ℤ
 formed f d k i = grown (partsOf f i) (pos (d3q19 .weight i)) (k .base +ℤ pos 9 *ℤ getD d i (pos 0) *ℤ getD d i (pos 0) -ℤ k .six *ℤ getD d i (pos 0)) k
 
 -- of the opposite direction, by the pair's e·j
-pub turned : (f g w : ℤ) (b s x : ℤ) (k : Common) → grown g w (b +ℤ pos 9 *ℤ x *ℤ x +ℤ s *ℤ x) k ≡ grown g w (b +ℤ pos 9 *ℤ negℤ x *ℤ negℤ x -ℤ s *ℤ negℤ x) k
-turned f g w b s x k =
+pub turned : (g w : ℤ) (b s x : ℤ) (k : Common) → grown g w (b +ℤ pos 9 *ℤ x *ℤ x +ℤ s *ℤ x) k ≡ grown g w (b +ℤ pos 9 *ℤ negℤ x *ℤ negℤ x -ℤ s *ℤ negℤ x) k
+turned g w b s x k =
     ap (λ (q : ℤ). grown g w q k) (even b s x)
   where
     even : (b s x : ℤ) → b +ℤ pos 9 *ℤ x *ℤ x +ℤ s *ℤ x ≡ b +ℤ pos 9 *ℤ negℤ x *ℤ negℤ x -ℤ s *ℤ negℤ x

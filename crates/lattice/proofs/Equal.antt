@@ -1,7 +1,6 @@
 -- Equal whole numbers: the test `eqZ`, and the machine's test of the bits. Assumes nothing.
 use mathlib.Core.Path.{_≡_, refl, sym, _∙_, ap}
-use mathlib.Core.Bool.{Bool, true, false}
-use Prim.Native.Nat.{ℕ}
+use mathlib.Core.Bool.{true, false}
 use lib.Dec.{eqb}
 use lib.IntN.{ℤ, pos, negsuc, ℤ-discrete}
 use borrow.Author.Tests.{eq-eqb, ne-eqb}

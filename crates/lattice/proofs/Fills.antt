@@ -1,9 +1,9 @@
 -- The fill by the code's three cases: no mass, at least the density, and between. Assumes nothing.
-use mathlib.Core.Path.{_≡_, refl, sym, _∙_, ap}
-use Prim.Native.Nat.{ℕ, zero, suc, min, _*_, _/_, _<_, _≤_}
-use native.Mathlib.Nat.{zero-div, le-div-iff-mul-le, div-le-of-le-mul, mul-comm}
+use mathlib.Core.Path.{_≡_, refl, ap}
+use Prim.Native.Nat.{zero, suc, min, _*_, _/_, _<_, _≤_}
+use native.Mathlib.Nat.{zero-div, le-div-iff-mul-le, div-le-of-le-mul}
 use native.Mathlib.Omega.{arith}
-use lib.IntN.{ℤ, pos, negsuc, natAbs, _*ℤ_}
+use lib.IntN.{ℤ, pos, negsuc, _*ℤ_}
 use lib.Signed.{_≤ℤ_, _<ℤ_, quotZ}
 use Rattle.whole.specs.Parts.{≤-parts, <-parts}
 use Rattle.lattice.specs.Cell.{fillOf}

@@ -1,13 +1,13 @@
 -- The momentum by pairs: opposite directions differ in sign, so each pair's difference counts. Assumes nothing.
-use mathlib.Core.Path.{_≡_, refl, sym, _∙_, ap, subst}
+use mathlib.Core.Path.{_≡_, refl, _∙_, ap, subst}
 use mathlib.Core.List.{List, [], _∷_}
-use Prim.Native.Nat.{ℕ, suc, _+_, _*_, _<_, _≤_}
+use Prim.Native.Nat.{ℕ, suc, _+_, _*_, _<_}
 use native.Mathlib.Omega.{arith}
 use lib.Dec.{lit<}
-use lib.IntN.{ℤ, pos, natAbs, _+ℤ_, _-ℤ_, _*ℤ_}
-use Rattle.whole.specs.Fold.{sum, dirs, open-fold}
+use lib.IntN.{ℤ, natAbs, _+ℤ_, _-ℤ_}
+use Rattle.whole.specs.Fold.{sum, open-fold}
 use Rattle.whole.specs.Bounds.{abs-add, abs-sub}
-use Rattle.whole.specs.Ring.{E, var, nth, eval, Code, q+, q*, qneg, qpos, qnegsuc, ring-by}
+use Rattle.whole.specs.Ring.{var, nth, Code, q+, q*, qneg, qpos, qnegsuc, ring-by}
 use Rattle.whole.specs.Sums.{sum-first, sum-abs}
 use Rattle.whole.specs.Machine.{Within, within-by}
 use Rattle.lattice.specs.Lattice.{V3, density, momentum, d3q19, open-lattice}
@@ -67,29 +67,29 @@ pair-in f b h k =
 module _ (f : List ℤ) (b : Bounded f 1073741824 33554432) where
   pub x-in : Within (momentum d3q19 (partsOf f) .x) 335544320
   x-in =
-      let p0 = pair-in f b 0 (lit< tt) in
-      let p3 = pair-in f b 3 (lit< tt) in
-      let p4 = pair-in f b 4 (lit< tt) in
-      let p7 = pair-in f b 7 (lit< tt) in
-      let p8 = pair-in f b 8 (lit< tt) in
+      let x = pair-in f b 0 (lit< tt) in
+      let xy = pair-in f b 3 (lit< tt) in
+      let yx = pair-in f b 4 (lit< tt) in
+      let xz = pair-in f b 7 (lit< tt) in
+      let zx = pair-in f b 8 (lit< tt) in
       subst (λ (z : ℤ). Within z 335544320) (x-pairs (partsOf f)) (within-by (search reading depth 20) tt)
 
   pub y-in : Within (momentum d3q19 (partsOf f) .y) 335544320
   y-in =
-      let p1 = pair-in f b 1 (lit< tt) in
-      let p3 = pair-in f b 3 (lit< tt) in
-      let p4 = pair-in f b 4 (lit< tt) in
-      let p5 = pair-in f b 5 (lit< tt) in
-      let p6 = pair-in f b 6 (lit< tt) in
+      let y = pair-in f b 1 (lit< tt) in
+      let xy = pair-in f b 3 (lit< tt) in
+      let yx = pair-in f b 4 (lit< tt) in
+      let yz = pair-in f b 5 (lit< tt) in
+      let zy = pair-in f b 6 (lit< tt) in
       subst (λ (z : ℤ). Within z 335544320) (y-pairs (partsOf f)) (within-by (search reading depth 20) tt)
 
   pub z-in : Within (momentum d3q19 (partsOf f) .z) 335544320
   z-in =
-      let p2 = pair-in f b 2 (lit< tt) in
-      let p5 = pair-in f b 5 (lit< tt) in
-      let p6 = pair-in f b 6 (lit< tt) in
-      let p7 = pair-in f b 7 (lit< tt) in
-      let p8 = pair-in f b 8 (lit< tt) in
+      let z = pair-in f b 2 (lit< tt) in
+      let yz = pair-in f b 5 (lit< tt) in
+      let zy = pair-in f b 6 (lit< tt) in
+      let xz = pair-in f b 7 (lit< tt) in
+      let zx = pair-in f b 8 (lit< tt) in
       subst (λ (z : ℤ). Within z 335544320) (z-pairs (partsOf f)) (within-by (search reading depth 20) tt)
 
   pub density-in : Within (density d3q19 (partsOf f)) 1677721600

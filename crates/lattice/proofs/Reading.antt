@@ -1,19 +1,18 @@
 -- Readings of machine values beyond those of `whole`: a number whose bound is in reach, and a cut quotient whose divisor is known, so that the bound
 -- shrinks with it. Use: as `machine`, with the ruleset `reading`. Assumes nothing.
-use mathlib.Core.Path.{_≡_, refl, sym, _∙_, ap, ap₂}
+use mathlib.Core.Path.{_≡_, refl, ap₂}
 use mathlib.Core.Bool.{Bool, true, _&&_}
-use Prim.Native.Nat.{ℕ, suc, _*_, _/_, _<_, _≤_, _^_}
+use Prim.Native.Nat.{ℕ, _/_, _<_, _≤_, _^_}
 use native.Mathlib.Nat.{le-div-iff-mul-le, div-mul-le-self, mul-le-mul-left, le-trans, le-of-eq}
-use native.Mathlib.Omega.{arith}
 use lib.Dec.{T, ltb, ltb→lt}
 use mathlib.Core.List.{List, [], _∷_}
 use lib.IntN.{ℤ, pos, natAbs}
-use lib.Signed.{quotZ, mag}
-use mir.Syntax.{Width, w32, w64}
+use lib.Signed.{quotZ}
+use mir.Syntax.{Width, w32}
 use mir.Val.{SFits, toZ, ofZ, hbits}
 use mir.Facts.{toZ-ofZ}
 use Rattle.whole.specs.Bools.{T-left, T-right}
-use Rattle.whole.specs.Bounds.{Reads, fits, abs-quot}
+use Rattle.whole.specs.Bounds.{fits, abs-quot}
 use Rattle.whole.specs.Machine.{Val, Within, v+, v*, vneg, v64, v32, vpos, vnegsuc, any}
 
 -- a number from its bound alone: that it fits is then computed

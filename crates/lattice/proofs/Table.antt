@@ -1,14 +1,14 @@
 -- The table of directions in code against document 01's rows, each rule one computed test over the nineteen. Assumes nothing.
-use mathlib.Core.Path.{_≡_, refl, sym, _∙_, ap}
-use mathlib.Core.Logic.{_⊎_, ⊎-elim}
-use mathlib.Core.Bool.{Bool, true, false, _&&_, _||_, not}
+use mathlib.Core.Path.{_≡_, refl, _∙_}
+use mathlib.Core.Logic.{⊎-elim}
+use mathlib.Core.Bool.{Bool, true, false, _&&_, _||_}
 use mathlib.Core.List.{List, [], _∷_, map}
 use Prim.Native.Nat.{ℕ, zero, suc, _+_, _%_, _<_, _≤_}
 use native.Mathlib.Omega.{arith}
-use lib.Dec.{T, leb, ltb, eqb}
+use lib.Dec.{leb, ltb, eqb}
 use lib.ListN.{getD}
 use borrow.Author.Tests.{leb-true, eqb-true, eqb-false, ne-eqb, lt-ltb, le-ltb}
-use lib.IntN.{ℤ, pos, negℤ, natAbs, _+ℤ_, _*ℤ_}
+use lib.IntN.{ℤ, pos, negℤ, natAbs}
 use Rattle.whole.specs.Bools.{and-left, and-right, or-cases, true-T}
 use Rattle.whole.specs.Fold.{all, tab, open-fold}
 use Rattle.whole.specs.Ring.{E, var, con, _⊕_, _⊖_, _⊗_, neg, eval, vanishes, ring}

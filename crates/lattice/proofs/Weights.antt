@@ -1,14 +1,14 @@
--- Shares: positive numbers, the lowest direction with positive weight, and the total weight's bound. Assumes nothing.
-use mathlib.Core.Path.{_≡_, refl, sym, _∙_, ap}
-use mathlib.Core.Bool.{Bool, true, false}
+-- Weights: positive numbers, the lowest direction with positive weight, and the total weight's bound. Assumes nothing.
+use mathlib.Core.Path.{_≡_, refl, ap}
+use mathlib.Core.Bool.{true, false}
 use mathlib.Core.List.{List}
-use Prim.Native.Nat.{ℕ, zero, suc, _<_, _≤_}
+use Prim.Native.Nat.{ℕ, zero, suc, _<_}
 use native.Mathlib.Nat.{lt-irrefl, le-of-suc-le-suc}
 use native.Mathlib.Omega.{arith}
-use lib.IntN.{ℤ, pos, negsuc, natAbs}
+use lib.IntN.{ℤ, pos, negsuc}
 use lib.Signed.{_≤ℤ_, _<ℤ_}
 use Rattle.whole.specs.Parts.{≤-parts, <-parts}
-use Rattle.whole.specs.Fold.{dirs, first}
+use Rattle.whole.specs.Fold.{dirs}
 use Rattle.whole.specs.Search.{first-is, first-all}
 use Rattle.whole.specs.Sums.{sum-abs}
 use Rattle.whole.specs.Machine.{Within}

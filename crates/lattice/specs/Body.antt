@@ -1,7 +1,7 @@
 -- What the code holds of one cell, in the definitions' words: its parts as a function of the direction, a flow's momentum as a vector, and the tests
 -- of a cell that stands by itself. Assumes nothing.
 use Prim.Native.Nat.{ℕ, zero, suc, _<_}
-use mathlib.Core.Bool.{Bool, true, false, _&&_}
+use mathlib.Core.Bool.{Bool, false, _&&_}
 use mathlib.Core.List.{List}
 use lib.IntN.{ℤ, pos, negsuc, _-ℤ_}
 use lib.Dec.{eqb}

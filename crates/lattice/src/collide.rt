@@ -2,12 +2,11 @@
 use crate::Flow;
 use crate::directions::dots;
 use crate::directions::weight_of;
-use crate::moments::speed2;
+use crate::moments::speed_squared;
 use crate::moments::times;
 use whole::wide;
 ghost use mathlib.Core.Path.{_≡_};
 ghost use mathlib.Core.Bool.{true};
-ghost use Prim.Native.Nat.{ℕ};
 ghost use Rattle.whole.specs.Fold.{tab};
 ghost use Rattle.whole.specs.Machine.{Within};
 ghost use Rattle.lattice.specs.Lattice.{d3q19};
@@ -35,7 +34,7 @@ pub fn common_of(v: Flow, p: i64) -> Common
     ensures { λ r. ⌜ CommonIs v p r ⌝ }
 {
     Common {
-        base: 2 * times(v.rho, v.rho) - 3 * speed2(v),
+        base: 2 * times(v.rho, v.rho) - 3 * speed_squared(v),
         six: -6 * v.rho,
         seventy: -72 * v.rho,
         den: 73728 * wide(v.rho),

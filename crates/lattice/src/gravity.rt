@@ -4,7 +4,6 @@ use crate::Settings;
 use whole::wide;
 ghost use mathlib.Core.Path.{_≡_};
 ghost use mathlib.Core.Bool.{true};
-ghost use lib.IntN.{_+ℤ_};
 ghost use Rattle.whole.specs.Machine.{Within};
 ghost use Rattle.lattice.specs.Cell.{pull, gravityGood};
 ghost use Rattle.lattice.specs.Post.{Pulled};

@@ -2,7 +2,7 @@
 use crate::Flow;
 use whole::wide;
 ghost use mathlib.Core.Path.{_≡_};
-ghost use Prim.Native.Nat.{ℕ, _+_, _*_, _<_};
+ghost use Prim.Native.Nat.{_+_, _*_, _<_};
 ghost use lib.IntN.{_-ℤ_, _*ℤ_};
 ghost use Rattle.whole.specs.Machine.{Within};
 ghost use Rattle.lattice.specs.Lattice.{dot, d3q19, density, momentum};
@@ -55,7 +55,7 @@ pub fn flow_of(f: [i32; 19]) -> Flow
 }
 
 // |j|²
-pub fn speed2(v: Flow) -> i64
+pub fn speed_squared(v: Flow) -> i64
     requires { ⌜ Within (v .x) 400000000 × Within (v .y) 400000000 × Within (v .z) 400000000 ⌝ }
     ensures { λ r. ⌜ r ≡ dot (vec v) (vec v) ⌝ }
 {
@@ -73,5 +73,5 @@ pub fn steady(v: Flow) -> bool
     if v.rho > 1179648 {
         return false;
     }
-    9 * speed2(v) <= times(v.rho, v.rho)
+    9 * speed_squared(v) <= times(v.rho, v.rho)
 }

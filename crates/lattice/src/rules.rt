@@ -5,7 +5,7 @@ use crate::moments::flow_of;
 use crate::moments::steady;
 use whole::wide;
 ghost use mathlib.Core.Path.{_≡_};
-ghost use mathlib.Core.Bool.{_&&_, cond};
+ghost use mathlib.Core.Bool.{cond};
 ghost use lib.IntN.{pos};
 ghost use lib.Dec.{eqb};
 ghost use Rattle.whole.specs.Fold.{all};

@@ -1,10 +1,10 @@
 // Stage 1: what a cell rebuilds beside an empty one.
 use crate::Flow;
-use crate::moments::speed2;
+use crate::moments::speed_squared;
 use crate::moments::times;
 ghost use mathlib.Core.Path.{_≡_};
-ghost use Prim.Native.Nat.{ℕ};
-ghost use lib.IntN.{pos};
+ghost use lib.IntN.{pos, natAbs};
+ghost use lib.Signed.{_≤ℤ_};
 ghost use Rattle.whole.specs.Machine.{Within};
 ghost use Rattle.lattice.specs.Lattice.{dot};
 ghost use Rattle.lattice.specs.Cell.{gas};
@@ -12,9 +12,9 @@ ghost use Rattle.lattice.specs.Body.{vec, Tame};
 
 // What both opposite parts add up to at weight w, with d = e·j.
 pub fn rebuilt(v: Flow, w: i64, d: i32) -> i64
-    requires { ⌜ Tame v × Within w 2 × Within d 1179648 ⌝ }
-    ensures { λ r. ⌜ ((k : ℕ) → w ≡ pos k → r ≡ gas k (v .rho) d (dot (vec v) (vec v))) ⌝ }
+    requires { ⌜ Tame v × (pos 0 ≤ℤ w) × Within w 2 × Within d 1179648 ⌝ }
+    ensures { λ r. ⌜ r ≡ gas (natAbs w) (v .rho) d (dot (vec v) (vec v)) ⌝ }
 {
     let r = times(v.rho, v.rho);
-    w * 16384 * (2 * r + 9 * times(d, d) - 3 * speed2(v)) / r
+    w * 16384 * (2 * r + 9 * times(d, d) - 3 * speed_squared(v)) / r
 }

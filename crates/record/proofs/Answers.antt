@@ -13,6 +13,7 @@ use Rattle.grid.specs.declared.Answer.the-variants.{Done, Refused}
 use Rattle.grid.specs.Outcome.{accepted, orRefuse}
 use Rattle.record.specs.Bytes.{u32At}
 use Rattle.record.specs.Reading.{whole}
+use Rattle.record.specs.Passes.{Held}
 
 -- a single test
 pub or-pass : {t : Bool} (number place : ℕ) (rest : Answer) → t ≡ true → orRefuse t number place rest ≡ rest
@@ -20,11 +21,6 @@ or-pass number place rest e = rw e
 
 pub or-fail : {t : Bool} (number place : ℕ) (rest : Answer) → t ≡ false → orRefuse t number place rest ≡ Refused number place
 or-fail number place rest e = rw e
-
--- a section of n numbers is there: its count, and its bytes
-pub record Held (r : List ℕ) (from n size : ℕ) : Type 0 where
-  pub count : u32At r from ≡ n
-  pub inside : from + 4 + size * n ≤ length r
 
 module _ (r : List ℕ) (number from n size : ℕ) where
   abbrev three : (a b c : Bool) (rest : Answer) → Answer

@@ -3,4 +3,9 @@ pub mod Gathered
 pub mod Assembled
 pub mod Answers
 pub mod Shaped
-pub mod Flags
+pub mod FlagPart
+pub mod Fairness
+pub mod ByFlag
+pub mod Taking
+pub mod ReadBy
+pub mod Spanned

@@ -14,21 +14,8 @@ use Rattle.grid.specs.Good.{badFlag}
 use Rattle.grid.specs.Outcome.{accepted, orRefuse, ifNone}
 use Rattle.record.specs.Layout.{massesFrom, partsFrom, lengthOf}
 use Rattle.record.specs.Reading.{whole, slicesFit, sidesIn, cellsIn, flagIn, interfacesIn, liquidsIn, shapeAnswer}
-use Rattle.record.proofs.Answers.{Held, whole-held, Chain, chain-or, chain-whole, chain-both, chain-then, or-true}
-
--- a record whose sections passed, beside slices of these lengths
-pub record Shaped (r : List ℕ) (p m f k : ℕ) : Type 0 where
-  pub first : Held r 0 3 4
-  pub sides : sidesGood (sidesIn r) ≡ true
-  pub slices : slicesFit (cellsIn r) p m f k ≡ true
-  pub settings : Held r 16 5 4
-  pub origin : Held r 40 3 8
-  pub carry : Held r 68 1 8
-  pub flags : Held r 80 (cellsIn r) 1
-  pub tested : cellsIn r ≤ badFlag (gridOf (sidesIn r)) (flagIn r)
-  pub masses : Held r (massesFrom (cellsIn r)) (interfacesIn r) 4
-  pub parts : Held r (partsFrom (cellsIn r) (interfacesIn r)) (19 * liquidsIn r) 4
-  pub end : length r ≤ lengthOf (cellsIn r) (interfacesIn r) (liquidsIn r)
+use Rattle.record.specs.Passes.{Held, Sound}
+use Rattle.record.proofs.Answers.{whole-held, Chain, chain-or, chain-whole, chain-both, chain-then, or-true}
 
 -- ---- the four groups
 abbrev pub opens : List ℕ → ℕ → ℕ → ℕ → ℕ → Answer → Answer
@@ -105,9 +92,9 @@ module _ (r : List ℕ) (p m f k : ℕ) where
       (chain-then (fronts r (cellsIn r)) (λ rest. flagged r (ends r (cellsIn r) (interfacesIn r) (liquidsIn r) rest)) (chain-fronts r (cellsIn r)) chain-back)
 
   -- what a record whose sections passed holds
-  pub shaped : accepted (shapeAnswer r p m f k Done) ≡ true → Shaped r p m f k
+  pub sound : accepted (shapeAnswer r p m f k Done) ≡ true → Sound r
   unfolding shapeAnswer
-  shaped e =
+  sound e =
       let n = cellsIn r in
       let i = interfacesIn r in
       let l = liquidsIn r in
@@ -123,7 +110,6 @@ module _ (r : List ℕ) (p m f k : ℕ) where
       record {
         first = one .0;
         sides = one .1;
-        slices = one .2;
         settings = two .0;
         origin = two .1;
         carry = two .2;
@@ -133,3 +119,11 @@ module _ (r : List ℕ) (p m f k : ℕ) where
         parts = whole-held r 7 (partsFrom n i) (19 * l) 4 (seven .0);
         end = leb-true (length r) (lengthOf n i l) (or-true end 10 (lengthOf n i l) (seven .1));
       }
+
+  -- and the slices fit it
+  pub fitting : accepted (shapeAnswer r p m f k Done) ≡ true → slicesFit (cellsIn r) p m f k ≡ true
+  unfolding shapeAnswer
+  fitting e =
+      let n = cellsIn r in
+      let all = chain-both (opens r p m f k) (λ rest. fronts r n (flagged r (ends r n (interfacesIn r) (liquidsIn r) rest))) (chain-opens r p m f k) e in
+      opened r p m f k (all .0) .2

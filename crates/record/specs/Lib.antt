@@ -2,3 +2,5 @@ pub mod Bytes
 pub mod Layout
 pub mod Reading
 pub mod Writing
+pub mod Passes
+pub mod Promise

@@ -121,21 +121,19 @@ readAnswer r a = shapeAnswer r (length (a .parts)) (length (a .masses)) (length 
 
 -- ---- the outcome
 
-abbrev noSides : Sides
-noSides = record { nx = 0; ny = 0; nz = 0 }
+-- values returned beside a refusal are 0
+abbrev pub refusedHead : Answer → Head
+refusedHead answer = record {
+  answer = answer;
+  sides = record { nx = 0; ny = 0; nz = 0 };
+  settings = record { p = pos 0; gx = pos 0; gy = pos 0; gz = pos 0 };
+  site = record { edge = pos 0; x = pos 0; y = pos 0; z = pos 0 };
+}
 
-abbrev noSettings : Settings
-noSettings = record { p = pos 0; gx = pos 0; gy = pos 0; gz = pos 0 }
-
-abbrev noSite : Site
-noSite = record { edge = pos 0; x = pos 0; y = pos 0; z = pos 0 }
-
--- the answer with sides, settings and origin; values returned beside a refusal are 0
+-- the answer with sides, settings and origin
 unfoldable pub readHead : List ℕ → Lent → Head
 readHead r a =
-    let answer = readAnswer r a in
-    let ok = accepted answer in
-    record { answer = answer; sides = cond ok (sidesIn r) noSides; settings = cond ok (settingsIn r) noSettings; site = cond ok (siteIn r) noSite }
+    cond (accepted (readAnswer r a)) (record { answer = Done; sides = sidesIn r; settings = settingsIn r; site = siteIn r }) (refusedHead (readAnswer r a))
 
 -- the flag section, the caller's own bytes from `flagsFrom` on; a part returned beside a refusal is empty
 unfoldable pub flagsFrom : List ℕ → Lent → ℕ

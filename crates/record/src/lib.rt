@@ -1,12 +1,19 @@
 // Layer 2, the grid record: its reader and its writer. Knows the promises of grid.
 mod cells;
+mod content;
 mod count;
+mod fair;
+pub mod flags;
 mod front;
 mod given;
+mod load;
 mod number;
 mod put;
+pub mod reader;
 mod section;
 mod shape;
+mod take;
+mod weigh;
 pub mod writer;
 
 use grid::Answer;
@@ -33,4 +40,10 @@ pub struct Head {
 pub struct Written {
     pub answer: Answer,
     pub bytes: usize,
+}
+
+// Where a part of a slice begins and ends.
+pub struct Span {
+    pub from: usize,
+    pub to: usize,
 }

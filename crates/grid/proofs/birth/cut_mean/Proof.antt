@@ -1,11 +1,10 @@
 -- `grid::birth::cut_mean`: the quotient is no larger than the sum, so that it fits 32 bits. Assumes nothing.
 use Prim.Native.Nat.{_<_}
 use native.Mathlib.Omega.{arith}
-use lib.IntN.{natAbs}
 use mir.Syntax.{w64}
 use Rattle.whole.specs.Parts.{abs-parts, <-parts}
 use Rattle.whole.specs.Bounds.{divisor}
-use Rattle.whole.specs.Machine.{Val, machine, any, w64-in, does-fit, reads-as}
+use Rattle.whole.specs.Machine.{machine, any, w64-in, does-fit, reads-as}
 use Rattle.grid.proofs.birth.cut_mean.Statement.{statement}
 use Rattle.grid.proofs.birth.cut_mean.Tie as tie
 

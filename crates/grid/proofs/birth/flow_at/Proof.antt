@@ -1,16 +1,14 @@
 -- `grid::birth::flow_at`: streaming, the sums over the parts, and gravity make stage 3's density and momentum. Assumes nothing.
-use borrow.Author.Needs.{needs}
-use mathlib.Core.Path.{_≡_, refl, sym, _∙_, ap, ap₂, subst}
-use Prim.Native.Nat.{ℕ, _≤_}
+use mathlib.Core.Path.{_≡_, _∙_, ap, ap₂}
 use native.Mathlib.Omega.{arith}
 use lib.IntN.{ℤ, natAbs, _+ℤ_}
 use Rattle.whole.specs.Machine.{Within}
-use Rattle.lattice.specs.Lattice.{V3, d3q19, density, momentum}
+use Rattle.lattice.specs.Lattice.{V3, density, momentum}
 use Rattle.lattice.specs.Cell.{pull}
-use Rattle.lattice.specs.Body.{partsOf, Bounded}
+use Rattle.lattice.specs.Body.{Bounded}
 use Rattle.lattice.proofs.Momentum.{x-in, y-in, z-in, density-in}
 use Rattle.grid.specs.Sight.{sight}
-use Rattle.grid.specs.Step.{newDensity, newMomentum}
+use Rattle.grid.specs.Step.{newMomentum}
 use Rattle.grid.proofs.Births.{wet-low, density-now, momentum-now, bounded-now}
 use Rattle.grid.proofs.birth.flow_at.Statement.{statement}
 use Rattle.grid.proofs.birth.flow_at.Tie as tie

@@ -1,9 +1,8 @@
 -- `grid::birth::mean_flow`: the sums over the directions passed, and their means. Assumes nothing.
 use borrow.Author.Needs.{needs}
 use mathlib.Core.Path.{_≡_, subst}
-use Prim.Native.Nat.{ℕ, _+_, _-_, _≤_, _<_}
+use Prim.Native.Nat.{ℕ, _-_, _≤_}
 use native.Mathlib.Omega.{arith}
-use lib.ListN.{length, getD}
 use Rattle.grid.proofs.Means.{Summed, summed-none, summed-more, roomy, countable-all, begins}
 use Rattle.grid.proofs.birth.mean_flow.Statement.{statement}
 use Rattle.grid.proofs.birth.mean_flow.Tie as tie
@@ -29,13 +28,13 @@ element-copy-out-with-cell c = search needs
 add-with-cell : tie.Need-add-with-cell Inv-loop μ-loop
 add-with-cell c =
     let s = c .before .before .before .before in
-    record { fits = omega (arith, s .pre .1 .each (c .before .before .loop .i) (c .before .loop-test .taken), s .pre .0 .bodies .few) }
+    record { fits = omega (arith, s .pre .1 .each (c .before .before .loop .i) (omega arith), s .pre .0 .bodies .few) }
 
 with-cell-requires : tie.Need-with-cell-requires Inv-loop μ-loop
 with-cell-requires c κs =
     let s = c .before .before .before .before in
     let l = c .before .before .loop in
-    (s .pre .0, s .pre .1 .each (l .i) (c .before .loop-test .taken), roomy (s .args .flags .now) (s .args .parts .now) (s .args .off .now) (s .args .low) (s .args .g) (s .args .c) (s .pre .0) (s .pre .1) (l .i - 1) (omega arith) (l .inv .2))
+    (s .pre .0, s .pre .1 .each (l .i) (omega arith), roomy (s .args .flags .now) (s .args .parts .now) (s .args .off .now) (s .args .low) (s .args .g) (s .args .c) (s .pre .0) (s .pre .1) (l .i - 1) (omega arith) (l .inv .2))
 
 add-i : tie.Need-add-i Inv-loop μ-loop
 add-i c = search needs

@@ -1,7 +1,7 @@
 -- `grid::birth::plus`: a sum with room takes one number of 32 bits more. Assumes nothing.
 use borrow.Author.Needs.{needs}
 use mir.Syntax.{w32}
-use Rattle.whole.specs.Machine.{Val, machine, any, same, w64-in, does-fit, reads-as}
+use Rattle.whole.specs.Machine.{machine, any, same, w64-in, does-fit, reads-as}
 use Rattle.grid.proofs.birth.plus.Statement.{statement}
 use Rattle.grid.proofs.birth.plus.Tie as tie
 

@@ -1,8 +1,8 @@
 -- `grid::birth::put_born`: the equilibrium of the mean flow is what the cell begins with. Assumes nothing.
 use borrow.Author.Needs.{needs}
-use mathlib.Core.Path.{_≡_, _∙_, ap}
+use mathlib.Core.Path.{_∙_, ap}
 use mathlib.Core.List.{List}
-use Prim.Native.Nat.{ℕ, _*_}
+use Prim.Native.Nat.{_*_}
 use lib.IntN.{ℤ}
 use Rattle.grid.specs.Pasted.{pasted}
 use Rattle.grid.proofs.Means.{born-tame}

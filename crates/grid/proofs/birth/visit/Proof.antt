@@ -1,8 +1,6 @@
 -- `grid::birth::visit`: a new interface cell is put, any other left. Assumes nothing.
 use borrow.Author.Needs.{needs}
 use mathlib.Core.Path.{_≡_, sym, _∙_}
-use mathlib.Core.Bool.{true, false}
-use Prim.Native.Nat.{_+_, _*_, _≤_}
 use native.Mathlib.Omega.{arith}
 use Rattle.grid.specs.Born.{newlyBorn}
 use Rattle.grid.proofs.Newborns.{newborn-reads, newborn-empty, visited-yes, visited-no}

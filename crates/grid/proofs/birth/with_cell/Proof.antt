@@ -1,8 +1,6 @@
 -- `grid::birth::with_cell`: one cell more where it is liquid, else nothing. Assumes nothing.
 use borrow.Author.Needs.{needs}
-use mathlib.Core.Path.{_≡_, refl, sym, _∙_, ap}
-use mathlib.Core.Bool.{Bool, true, false}
-use Prim.Native.Nat.{ℕ}
+use mathlib.Core.Path.{_≡_, sym, _∙_, ap}
 use lib.ListN.{getD}
 use Rattle.grid.specs.State.{liquid}
 use Rattle.grid.proofs.Lists.{getD-there}

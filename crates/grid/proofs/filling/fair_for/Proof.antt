@@ -1,9 +1,8 @@
 -- `grid::filling::fair_for`: lattice's test of a mass, where the cell is interface. Assumes nothing.
 use borrow.Author.Needs.{needs}
-use mathlib.Core.Path.{_≡_, _∙_, ap}
+use mathlib.Core.Path.{_∙_, ap}
 use mathlib.Core.Bool.{Bool, not, _||_}
 use lib.Dec.{eqb}
-use lib.IntN.{ℤ}
 use mir.Facts.{toZ-ofZ}
 use Rattle.lattice.specs.Cell.{massGood}
 use Rattle.grid.specs.Filled.{fairMass}

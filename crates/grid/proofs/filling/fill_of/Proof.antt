@@ -1,16 +1,15 @@
 -- `grid::filling::fill_of`: by the flag; an interface cell's density is that of its own parts. Assumes nothing.
 use borrow.Author.Needs.{needs}
-use mathlib.Core.Path.{_≡_, refl, sym, _∙_, ap, ap₂}
-use Prim.Native.Nat.{ℕ, _≤_}
+use mathlib.Core.Path.{_≡_, _∙_, ap₂}
+use Prim.Native.Nat.{_≤_}
 use native.Mathlib.Omega.{arith}
-use lib.IntN.{ℤ, pos, natAbs}
+use lib.IntN.{pos, natAbs}
 use lib.ListN.{getD}
 use lib.Signed.{natAbs-le}
 use mir.Syntax.{w64}
 use mir.Val.{toZ, ofZ}
 use Rattle.lattice.specs.Lattice.{d3q19, density}
 use Rattle.lattice.specs.Cell.{fillOf}
-use Rattle.grid.specs.Step.{fillFor}
 use Rattle.grid.specs.Filled.{partOf}
 use Rattle.grid.proofs.Held.{held32, held64}
 use Rattle.grid.proofs.Arrays.{density-is, bounded-is}

@@ -13,11 +13,6 @@ use Rattle.grid.proofs.Owned.{own-bounded, own-density}
 use Rattle.grid.proofs.Readings.{told, told64, held-in}
 use Rattle.grid.proofs.giving.excess.Statement.{statement}
 use Rattle.grid.proofs.giving.excess.Tie as tie
-use Rattle.grid.proofs.giving.excess.Reads as reads
-use Rattle.grid.proofs.giving.excess.Lts as lts
-use Rattle.grid.proofs.cells.own.Reads as own-reads
-use Rattle.lattice.proofs.moments.density.Reads as density-reads
-use Rattle.whole.proofs.wide.Reads as wide-reads
 
 -- the mass and the density, as they were read
 mass-told : (c : tie.After-wide) → toZ w64 (ofZ w64 (c .wide .result)) ≡ getD (c .before .before .before .args .masses .now) (c .before .before .before .args .c) (pos 0)

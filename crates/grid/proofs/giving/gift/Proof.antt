@@ -1,6 +1,6 @@
 -- `grid::giving::gift` is the share of the excess by the weights; with a target these have a total. Assumes nothing.
 use borrow.Author.Needs.{needs}
-use mathlib.Core.Path.{_≡_, sym, subst, _∙_}
+use mathlib.Core.Path.{sym, subst, _∙_}
 use Prim.Native.Nat.{_-_}
 use lib.IntN.{ℤ, pos}
 use lib.Signed.{_<ℤ_}
@@ -12,11 +12,6 @@ use Rattle.grid.proofs.Readings.{told64}
 use native.Mathlib.Omega.{arith}
 use Rattle.grid.proofs.giving.gift.Statement.{statement}
 use Rattle.grid.proofs.giving.gift.Tie as tie
-use Rattle.grid.proofs.giving.gift.Reads as reads
-use Rattle.grid.proofs.giving.gift.Lts as lts
-use Rattle.grid.proofs.giving.excess.Reads as excess-reads
-use Rattle.grid.proofs.leaning.used_weights.Reads as used-weights-reads
-use Rattle.lattice.proofs.excess.given.Reads as given-reads
 
 sub-used-weights : tie.Need-sub-used-weights
 sub-used-weights c = search needs

@@ -1,13 +1,10 @@
 -- `grid::giving::gift_from`: a cell with no mark gives nothing. Assumes nothing.
 use borrow.Author.Needs.{needs}
-use mathlib.Core.Path.{_≡_, _∙_}
+use mathlib.Core.Path.{_∙_}
 use Rattle.grid.proofs.Sent.{from-none, from-some}
 use Rattle.grid.proofs.Readings.{told64}
 use Rattle.grid.proofs.giving.gift_from.Statement.{statement}
 use Rattle.grid.proofs.giving.gift_from.Tie as tie
-use Rattle.grid.proofs.giving.gift_from.Reads as reads
-use Rattle.grid.proofs.giving.gift_from.Lts as lts
-use Rattle.grid.proofs.giving.gift.Reads as gift-reads
 
 shared-slice-read-m : tie.Need-shared-slice-read-m
 shared-slice-read-m c = search needs

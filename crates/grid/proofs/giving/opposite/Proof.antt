@@ -3,8 +3,6 @@ use borrow.Author.Needs.{needs}
 use Rattle.grid.proofs.Sent.{opposite-odd, opposite-even}
 use Rattle.grid.proofs.giving.opposite.Statement.{statement}
 use Rattle.grid.proofs.giving.opposite.Tie as tie
-use Rattle.grid.proofs.giving.opposite.Reads as reads
-use Rattle.grid.proofs.giving.opposite.Lts as lts
 
 add-result : tie.Need-add-result
 add-result c = search needs

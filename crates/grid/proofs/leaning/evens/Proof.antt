@@ -1,19 +1,16 @@
 -- `grid::leaning::evens`: 1 at each target, stored direction by direction. Assumes nothing.
 use borrow.Author.Needs.{needs}
-use mathlib.Core.Path.{_≡_, refl, sym, ap, _∙_}
-use Prim.Native.Nat.{ℕ, _+_, _-_, _≤_, _<_}
+use mathlib.Core.Path.{_≡_, refl, sym, _∙_}
+use Prim.Native.Nat.{_-_, _≤_}
 use native.Mathlib.Omega.{arith}
-use lib.IntN.{ℤ, pos}
-use lib.ListN.{length, getD, length-set}
+use lib.IntN.{pos}
+use lib.ListN.{length, length-set}
 use Rattle.whole.specs.Tab.{Upto, upto-more, upto-all}
 use Rattle.grid.specs.Gifts.{ofDir}
 use Rattle.grid.proofs.Leans.{of-dir, none-yet, byFlags, by-flags}
 use Rattle.grid.proofs.Readings.{told64}
 use Rattle.grid.proofs.leaning.evens.Statement.{statement}
 use Rattle.grid.proofs.leaning.evens.Tie as tie
-use Rattle.grid.proofs.leaning.evens.Reads as reads
-use Rattle.grid.proofs.leaning.evens.Lts as lts
-use Rattle.lattice.proofs.excess.even.Reads as even-reads
 
 abbrev Inv-loop : tie.InvT-loop
 Inv-loop flags off k w₀ i₀ w i = (1 ≤ i) × (i ≤ 19) × (length w ≡ 19) × Upto (pos 0) (ofDir (byFlags flags off k)) w i

@@ -1,12 +1,9 @@
 -- `grid::leaning::fall`: fills are far below what 32 bits hold. Assumes nothing.
 use borrow.Author.Needs.{needs}
-use mir.Syntax.{w32}
 use Rattle.whole.specs.Machine.{does-fit, reads-as, v+, vneg, v32}
 use Rattle.grid.proofs.Readings.{n32, fill-fits}
 use Rattle.grid.proofs.leaning.fall.Statement.{statement}
 use Rattle.grid.proofs.leaning.fall.Tie as tie
-use Rattle.grid.proofs.leaning.fall.Reads as reads
-use Rattle.grid.proofs.leaning.fall.Lts as lts
 
 mul-result : tie.Need-mul-result
 mul-result c = search needs

@@ -6,9 +6,6 @@ use Rattle.grid.specs.Gifts.{normalAt}
 use Rattle.grid.proofs.Readings.{vector, told, turned-fits, turned, leaning-filled, leaning-emptied}
 use Rattle.grid.proofs.leaning.normal.Statement.{statement}
 use Rattle.grid.proofs.leaning.normal.Tie as tie
-use Rattle.grid.proofs.leaning.normal.Reads as reads
-use Rattle.grid.proofs.leaning.normal.Lts as lts
-use Rattle.grid.proofs.leaning.fall.Reads as fall-reads
 
 -- src/leaning.rt:23:28
 element-copy-out-fall : tie.Need-element-copy-out-fall

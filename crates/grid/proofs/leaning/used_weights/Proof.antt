@@ -1,8 +1,7 @@
 -- `grid::leaning::used_weights`: the weights by the normal, unless their total is 0. Assumes nothing.
-use mathlib.Core.Path.{_≡_, sym, ap, _∙_, subst}
+use mathlib.Core.Path.{sym, _∙_, subst}
 use Prim.Native.Nat.{ℕ, _+_, _<_}
 use lib.ListN.{getD}
-use Rattle.lattice.specs.Lattice.{V3}
 use Rattle.lattice.specs.Body.{vec}
 use Rattle.grid.specs.Gifts.{leanWeightAt}
 use Rattle.grid.proofs.Leans.{Leaning, leaning-in, lean-in, weights-fit, used-even, used-lean}
@@ -10,12 +9,6 @@ use Rattle.grid.proofs.Readings.{bits-zero, zero-bits}
 use borrow.Author.Needs.{needs}
 use Rattle.grid.proofs.leaning.used_weights.Statement.{statement}
 use Rattle.grid.proofs.leaning.used_weights.Tie as tie
-use Rattle.grid.proofs.leaning.used_weights.Reads as reads
-use Rattle.grid.proofs.leaning.used_weights.Lts as lts
-use Rattle.grid.proofs.leaning.evens.Reads as evens-reads
-use Rattle.grid.proofs.leaning.normal.Reads as normal-reads
-use Rattle.grid.proofs.leaning.weights.Reads as weights-reads
-use Rattle.lattice.proofs.excess.total.Reads as total-reads
 
 normal-requires : tie.Need-normal-requires
 normal-requires c κs =

@@ -1,7 +1,7 @@
 -- `grid::leaning::weights`: e·n of each direction, where positive and a target, stored direction by direction. Assumes nothing.
 use borrow.Author.Needs.{needs}
 use mathlib.Core.Path.{_≡_, refl, sym, ap, _∙_}
-use Prim.Native.Nat.{ℕ, _+_, _-_, _≤_, _<_}
+use Prim.Native.Nat.{_+_, _-_, _≤_}
 use native.Mathlib.Omega.{arith}
 use lib.IntN.{ℤ, pos}
 use lib.Dec.{eqb}
@@ -16,10 +16,6 @@ use Rattle.grid.proofs.Leans.{of-dir, none-yet, byDots, by-dots}
 use Rattle.grid.proofs.Readings.{told, told64}
 use Rattle.grid.proofs.leaning.weights.Statement.{statement}
 use Rattle.grid.proofs.leaning.weights.Tie as tie
-use Rattle.grid.proofs.leaning.weights.Reads as reads
-use Rattle.grid.proofs.leaning.weights.Lts as lts
-use Rattle.lattice.proofs.directions.dots.Reads as dots-reads
-use Rattle.lattice.proofs.excess.weight.Reads as weight-reads
 
 abbrev Inv-loop : tie.InvT-loop
 Inv-loop flags off k d w₀ i₀ w i = (1 ≤ i) × (i ≤ 19) × (length w ≡ 19) × Upto (pos 0) (ofDir (byDots flags off k d)) w i

@@ -1,18 +1,13 @@
 -- `grid::settling::settle` is pass 7: the cells before c are settled and have no mark, the others are as they were. Assumes nothing.
 use borrow.Author.Needs.{needs}
-use mathlib.Core.Path.{_≡_, refl, sym, _∙_}
+use mathlib.Core.Path.{_∙_}
 use mathlib.Core.Logic.{⊎-elim}
-use Prim.Native.Nat.{ℕ, _+_, _*_, _-_, _≤_, _<_}
+use Prim.Native.Nat.{_+_, _-_, _<_}
 use native.Mathlib.Omega.{arith}
-use lib.IntN.{pos}
-use lib.ListN.{length, getD}
-use Rattle.grid.specs.Gifts.{Parts}
+use lib.ListN.{length}
 use Rattle.grid.proofs.Settles.{Upon, upon-as, upon-first, upon-keep, upon-settle, upon-all, parts-still}
 use Rattle.grid.proofs.settling.settle.Statement.{statement}
 use Rattle.grid.proofs.settling.settle.Tie as tie
-use Rattle.grid.proofs.settling.settle.Reads as reads
-use Rattle.grid.proofs.settling.settle.Lts as lts
-use Rattle.grid.proofs.settling.settle_cell.Reads as settle-cell-reads
 
 abbrev Inv-loop : tie.InvT-loop
 Inv-loop parts₀ masses₀ marks₀ c₀ parts masses marks c = Upon parts₀ masses₀ marks₀ parts masses marks c

@@ -10,11 +10,6 @@ use Rattle.grid.proofs.Owned.{own-bounded, own-density}
 use Rattle.grid.proofs.Readings.{told}
 use Rattle.grid.proofs.settling.settle_cell.Statement.{statement}
 use Rattle.grid.proofs.settling.settle_cell.Tie as tie
-use Rattle.grid.proofs.settling.settle_cell.Reads as reads
-use Rattle.grid.proofs.settling.settle_cell.Lts as lts
-use Rattle.grid.proofs.cells.own.Reads as own-reads
-use Rattle.grid.proofs.cells.paste.Reads as paste-reads
-use Rattle.lattice.proofs.moments.density.Reads as density-reads
 
 own-requires : tie.Need-own-requires
 own-requires c κs = search needs

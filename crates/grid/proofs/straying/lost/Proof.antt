@@ -1,6 +1,6 @@
 -- `grid::straying::lost`: with no target the even weights add up to 0. Assumes nothing.
 use borrow.Author.Needs.{needs}
-use mathlib.Core.Path.{_≡_, sym, _∙_}
+use mathlib.Core.Path.{sym, _∙_}
 use Prim.Native.Nat.{_-_}
 use native.Mathlib.Omega.{arith}
 use Rattle.whole.specs.Bools.{cond-yes, cond-no}
@@ -10,11 +10,6 @@ use Rattle.grid.proofs.Sent.{no-target, some-target}
 use Rattle.grid.proofs.Readings.{told64, bits-zero, zero-bits}
 use Rattle.grid.proofs.straying.lost.Statement.{statement}
 use Rattle.grid.proofs.straying.lost.Tie as tie
-use Rattle.grid.proofs.straying.lost.Reads as reads
-use Rattle.grid.proofs.straying.lost.Lts as lts
-use Rattle.grid.proofs.giving.excess.Reads as excess-reads
-use Rattle.grid.proofs.leaning.evens.Reads as evens-reads
-use Rattle.lattice.proofs.excess.total.Reads as total-reads
 
 sub-evens : tie.Need-sub-evens
 sub-evens c = search needs

@@ -4,14 +4,18 @@ use mathlib.Core.Bool.{true}
 use mathlib.Core.List.{List}
 use Prim.Native.Nat.{ℕ, _+_, _*_, _<_}
 use native.Mathlib.Omega.{arith}
-use lib.IntN.{ℤ, pos, _-ℤ_}
+use lib.IntN.{ℤ, pos, natAbs, _-ℤ_}
+use lib.Signed.{_≤ℤ_}
 use lib.ListN.{length, getD}
 use borrow.Author.Needs.{sfits-of, needs}
 use mir.Syntax.{w32, w64}
+use mir.Val.{toZ, ofZ}
 use mir.Facts.{toZ-ofZ}
+use Rattle.whole.specs.Parts.{parts-≤}
 use Rattle.whole.specs.Machine.{Val, Within, machine, v32, v64, same, does-fit, reads-as, within-by}
 use Rattle.lattice.specs.Lattice.{V3, dot, d3q19, density, momentum}
 use Rattle.lattice.specs.Cell.{gas}
+use Rattle.lattice.specs.Body.{vec}
 use Rattle.lattice.proofs.Reading.{inside}
 use Rattle.grid.specs.State.{liquid}
 use Rattle.grid.specs.Sight.{Body, noSettings}
@@ -51,7 +55,9 @@ whole-gas : (c : tie.After-rebuilt) →
     c .rebuilt .result ≡ gas (d3q19 .weight (s .args .i)) (ρ s) (dot (d3q19 .e (s .args .i)) (j s)) (dot (j s) (j s))
 whole-gas c =
     let s = c .before .before .before .before .before .before in
-    c .rebuilt .ensures (d3q19 .weight (s .args .i)) (toZ-ofZ (sfits-of {w = w64} (c .before .weight-of .ok)) ∙ c .before .weight-of .ensures)
+    c .rebuilt .ensures
+    ∙ ap (λ (z : ℤ). gas (natAbs z) (s .args .v .rho) (toZ w32 (ofZ w32 (s .args .d))) (dot (vec (s .args .v)) (vec (s .args .v))))
+    (toZ-ofZ (sfits-of {w = w64} (c .before .weight-of .ok)) ∙ c .before .weight-of .ensures)
     ∙ gas-same (d3q19 .weight (s .args .i)) (s .pre .flows .density) (toZ-ofZ (s .fits .d) ∙ along s) (s .pre .flows .momentum)
 
 own-part : (c : tie.After-wide) →
@@ -98,6 +104,7 @@ rebuilt-requires c κs =
     let s = c .before .before .before .before .before in
     let w : Within (pos (d3q19 .weight (s .args .i))) 2 = record { abs = weight-low (s .args .i) (s .pre .some) (s .pre .most) } in (
       tame-body (own s) (body s) (s .args .v) (s .pre .flows .density) (s .pre .flows .momentum),
+      subst (λ (z : ℤ). pos 0 ≤ℤ z) (sym (toZ-ofZ (sfits-of {w = w64} (c .weight-of .ok)) ∙ c .weight-of .ensures)) (parts-≤ (omega arith)),
       within-by (v64 (same (c .weight-of .ensures) (inside w))) tt,
       within-by (v32 (same (along s) (inside (along-body (own s) (body s) (s .args .i) (s .pre .most))))) tt,
     )

@@ -2,7 +2,7 @@
 use borrow.Author.Needs.{needs}
 use Prim.Native.Nat.{_≤_}
 use native.Mathlib.Omega.{arith}
-use Rattle.whole.specs.Machine.{Val, machine, does-fit, reads-as}
+use Rattle.whole.specs.Machine.{machine, does-fit, reads-as}
 use Rattle.whole.specs.Casts.{n64}
 use Rattle.grid.proofs.trading.both.Statement.{statement}
 use Rattle.grid.proofs.trading.both.Tie as tie

@@ -1,7 +1,7 @@
 -- `grid::trading::difference`: a difference of two numbers of 32 bits fits 64. Assumes nothing.
 use borrow.Author.Needs.{needs}
 use mir.Syntax.{w32}
-use Rattle.whole.specs.Machine.{Val, machine, any, same, does-fit, reads-as}
+use Rattle.whole.specs.Machine.{machine, any, same, does-fit, reads-as}
 use Rattle.grid.proofs.trading.difference.Statement.{statement}
 use Rattle.grid.proofs.trading.difference.Tie as tie
 

@@ -1,13 +1,11 @@
 -- `grid::trading::new_mark`: lattice's marks for an interface cell, 0 for any other. Assumes nothing.
 use borrow.Author.Needs.{needs}
-use mathlib.Core.Path.{_≡_, refl, sym, _∙_, ap, ap₂}
+use mathlib.Core.Path.{sym, _∙_, ap₂}
 use mathlib.Core.Bool.{cond}
-use Prim.Native.Nat.{ℕ}
 use lib.IntN.{ℤ}
-use mir.Syntax.{w32, w64}
-use mir.Val.{toZ, ofZ}
+use mir.Syntax.{w32}
 use mir.Facts.{toZ-ofZ}
-use Rattle.whole.specs.Machine.{Val, machine, any, same, within-by}
+use Rattle.whole.specs.Machine.{machine, any, same, within-by}
 use Rattle.lattice.specs.Cell.{over, under}
 use Rattle.grid.specs.Trade.{markFor}
 use Rattle.grid.proofs.Held.{held64}

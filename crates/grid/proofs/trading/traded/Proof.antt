@@ -1,13 +1,13 @@
 -- `grid::trading::traded`: the difference of the two parts, by the neighbour's flag. Assumes nothing.
 use borrow.Author.Needs.{needs}
 use mathlib.Core.Path.{_≡_, _∙_, ap, ap₂}
-use Prim.Native.Nat.{_+_, _*_, _≤_}
+use Prim.Native.Nat.{_+_, _*_}
 use native.Mathlib.Omega.{arith}
-use lib.IntN.{ℤ, pos, _-ℤ_}
-use lib.ListN.{length, getD}
+use lib.IntN.{ℤ, pos, _-ℤ_, natAbs}
+use lib.ListN.{getD}
 use mir.Syntax.{w64}
 use mir.Val.{toZ, ofZ}
-use Rattle.whole.specs.Machine.{Val, Within, machine, any, same, within-by}
+use Rattle.whole.specs.Parts.{parts-≤}
 use Rattle.lattice.specs.Cell.{exchange}
 use Rattle.grid.specs.Trade.{apart}
 use Rattle.grid.proofs.Held.{held32, held64, apart-in}
@@ -85,6 +85,7 @@ exchange-requires : tie.Need-exchange-requires
 exchange-requires c κs =
     let s = c .before .before .before .before .before .before .before .before .before .before .before in
     let d = c .before .before .before .before .before in (
+      rw (both-is c) (parts-≤ (omega arith)),
       rw (both-is c) (record { abs = omega (arith, s .pre .1 .low (s .args .c) (s .pre .2), s .pre .1 .low (s .args .b) (s .pre .3)) }),
       rw (apart-is d) (apart-in (getD (s .args .parts .now) (19 * s .args .b + s .args .k) (pos 0)) (getD (s .args .parts .now) (19 * s .args .c + s .args .i) (pos 0))
           (d .before .before .difference-arg .given) (d .before .difference-arg2 .given)),
@@ -95,7 +96,8 @@ returns-2 c =
     let s = c .before .before .before .before .before .before .before .before .before .before .before .before in
     let d = c .before .before .before .before .before .before in
     held64 (c .exchange .result) (c .exchange .ok)
-    ∙ c .exchange .ensures (getD (s .args .fill .now) (s .args .c) 0 + getD (s .args .fill .now) (s .args .b) 0) (both-is (c .before))
+    ∙ c .exchange .ensures
+    ∙ ap (λ (z : ℤ). exchange (natAbs z) (toZ w64 (ofZ w64 (d .difference .result)))) (both-is (c .before))
     ∙ ap (λ (z : ℤ). exchange (getD (s .args .fill .now) (s .args .c) 0 + getD (s .args .fill .now) (s .args .b) 0) z) (apart-is d)
     ∙ passed-interface (s .args .flags .now) (s .args .parts .now) (s .args .fill .now) (s .args .c) (s .args .b) (s .args .i) (s .args .k) (s .pre .3) (c .before .before .before .before .if2 .taken)
 

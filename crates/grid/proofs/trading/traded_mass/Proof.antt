@@ -1,13 +1,12 @@
 -- `grid::trading::traded_mass`: the mass and what is gained from the directions passed, two a turn. Assumes nothing.
 use borrow.Author.Needs.{needs}
-use mathlib.Core.Path.{_≡_, refl, sym, _∙_, ap}
-use Prim.Native.Nat.{ℕ, suc, _+_, _-_, _%_, _≤_, _<_}
+use mathlib.Core.Path.{_≡_, refl, _∙_, ap}
+use Prim.Native.Nat.{_+_, _-_, _%_, _≤_}
 use native.Mathlib.Omega.{arith}
-use lib.IntN.{ℤ, pos, natAbs, _+ℤ_, +ℤ-idr}
-use lib.ListN.{length, getD}
+use lib.IntN.{pos}
+use lib.ListN.{getD}
 use mir.Syntax.{w64}
-use mir.Val.{toZ, ofZ}
-use Rattle.whole.specs.Fold.{sum}
+use mir.Val.{toZ}
 use Rattle.whole.specs.Machine.{Val, machine, known, same, does-fit, reads-as}
 use Rattle.grid.proofs.Held.{held32, held64}
 use Rattle.grid.proofs.Trades.{gain, gained, gained-none, gained-all, first-is, second-is, gained-pair, gain-within, gained-within}
@@ -50,7 +49,7 @@ element-copy-out-traded : tie.Need-element-copy-out-traded Inv-loop μ-loop
 element-copy-out-traded c = search needs
 
 add-traded : tie.Need-add-traded Inv-loop μ-loop
-add-traded c = let s = c .before .before .before .before .before .before .before in record { fits = omega (arith, s .pre .1 .each (c .before .before .loop .i) (c .before .loop-test .taken), s .pre .0 .bodies .few) }
+add-traded c = let s = c .before .before .before .before .before .before .before in record { fits = omega (arith, s .pre .1 .each (c .before .before .loop .i) (omega arith), s .pre .0 .bodies .few) }
 
 add-traded-2 : tie.Need-add-traded-2 Inv-loop μ-loop
 add-traded-2 c = search needs
@@ -59,7 +58,7 @@ traded-requires : tie.Need-traded-requires Inv-loop μ-loop
 traded-requires c κs =
     let s = c .before .before .before .before .before .before .before in
     let i = c .before .before .loop .i in
-    (s .pre .0 .bodies, s .pre .0 .fills-good, s .pre .1 .is-cell, s .pre .1 .each i (c .before .loop-test .taken), c .before .loop-test .taken, omega arith)
+    (s .pre .0 .bodies, s .pre .0 .fills-good, s .pre .1 .is-cell, s .pre .1 .each i (omega arith), omega arith, omega arith)
 
 -- what stands in m, and what the two calls give
 abbrev so-far : (c : tie.At-loop Inv-loop μ-loop) → Val (toZ w64 (c .loop .m))

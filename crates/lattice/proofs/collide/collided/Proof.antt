@@ -1,6 +1,5 @@
 -- `lattice::collide::collided`: pair by pair each part is the definition's, and what the pairs leave of the density is part 0. Assumes nothing.
 use mathlib.Core.Path.{_≡_, refl, sym, _∙_, ap, ap₂, subst}
-use mathlib.Core.Bool.{true}
 use mathlib.Core.List.{List, [], _∷_}
 use Prim.Native.Nat.{ℕ, zero, suc, _+_, _-_, _*_, _%_, _<_, _≤_}
 use native.Mathlib.Omega.{arith}
@@ -11,17 +10,16 @@ use lib.IntN.{ℤ, pos, negℤ, natAbs, _+ℤ_, _-ℤ_, _*ℤ_, +ℤ-idr}
 use mir.Syntax.{w32, w64}
 use mir.Val.{toZ, ofZ}
 use mir.Facts.{toZ-ofZ}
-use Rattle.whole.specs.Fold.{sum, dirs, tab}
+use Rattle.whole.specs.Fold.{sum, dirs}
 use Rattle.whole.specs.Sums.{sum-cong}
 use Rattle.whole.specs.Tab.{getD-tab, upto-all}
 use Rattle.whole.specs.Ring.{ring-by, quotes}
 use Rattle.whole.specs.Bounds.{abs-sub, abs-add}
-use Rattle.whole.specs.Machine.{Val, Within, machine, known, same, v32, v64, within-by, does-fit, reads-as}
+use Rattle.whole.specs.Machine.{Within, machine, known, same, v32, v64, within-by, does-fit, reads-as}
 use Rattle.lattice.specs.declared.collide.Common.{Common}
 use Rattle.lattice.specs.Lattice.{dot, d3q19}
-use Rattle.lattice.specs.Cell.{relaxationGood}
-use Rattle.lattice.specs.Body.{partsOf, Bounded, vec, Tame, relaxedDir, collidedPart}
-use Rattle.lattice.specs.Post.{CommonIs, Ready, grown, Paired}
+use Rattle.lattice.specs.Body.{partsOf, Bounded, vec, relaxedDir, collidedPart}
+use Rattle.lattice.specs.Post.{Ready, grown, Paired}
 use Rattle.lattice.proofs.Collision.{ready, formed, turned, formed-is}
 use Rattle.lattice.proofs.Pairs.{off-rest, off-one, off-dirs, off-pair, both-stored}
 use Rattle.lattice.proofs.Reading.{reading, inside}
@@ -174,12 +172,12 @@ module _ (c : tie.After-relaxed-pair Inv-loop μ-loop) where
   paired =
       let s = c .before .before .before .before .before .before .before .before .before .before in
       let i = c .before .before .before .before .before .before .loop .i in
-      let e : toZ w32 (ofZ w32 (partsOf own at)) ≡ partsOf own at = reads-as (v32 (inside (s .pre .0 .at i (omega arith) (omega arith)))) tt in
-      let e2 : toZ w32 (ofZ w32 (partsOf own (at + 1))) ≡ partsOf own (at + 1) = reads-as (v32 (inside (s .pre .0 .at (i + 1) (omega arith) (omega arith)))) tt in
+      let ef : toZ w32 (ofZ w32 (partsOf own at)) ≡ partsOf own at = reads-as (v32 (inside (s .pre .0 .at i (omega arith) (omega arith)))) tt in
+      let eg : toZ w32 (ofZ w32 (partsOf own (at + 1))) ≡ partsOf own (at + 1) = reads-as (v32 (inside (s .pre .0 .at (i + 1) (omega arith) (omega arith)))) tt in
       let w = c .before .before .weight-of .ensures in
-      let e3 : toZ w64 (ofZ w64 (c .before .before .weight-of .result)) ≡ pos (d3q19 .weight at) = reads-as (v64 (same w (inside (weight-in i (omega arith) (omega arith))))) tt in
-      let e4 : toZ w32 (ofZ w32 (getD dot-list at (pos 0))) ≡ getD dot-list at (pos 0) = reads-as (v32 (inside (dot-bound (c .before .before .before .before .before .before .before .before) i (omega arith)))) tt in
-      rw (e, e2, e3, e4) at (c .relaxed-pair .ensures)
+      let ew : toZ w64 (ofZ w64 (c .before .before .weight-of .result)) ≡ pos (d3q19 .weight at) = reads-as (v64 (same w (inside (weight-in i (omega arith) (omega arith))))) tt in
+      let ed : toZ w32 (ofZ w32 (getD dot-list at (pos 0))) ≡ getD dot-list at (pos 0) = reads-as (v32 (inside (dot-bound (c .before .before .before .before .before .before .before .before) i (omega arith)))) tt in
+      rw (ef, eg, ew, ed) at (c .relaxed-pair .ensures)
 
   first : c .relaxed-pair .result .a ≡ formed own dot-list shared at
   first = paired .a
@@ -190,7 +188,7 @@ module _ (c : tie.After-relaxed-pair Inv-loop μ-loop) where
       let d = c .before .before .before .before .before .before .before .before in
       let k = shared in
       paired .b
-      ∙ turned (partsOf own at) (partsOf own (at + 1)) (pos (d3q19 .weight at)) (k .base) (k .six) (getD dot-list at (pos 0)) k
+      ∙ turned (partsOf own (at + 1)) (pos (d3q19 .weight at)) (k .base) (k .six) (getD dot-list at (pos 0)) k
       ∙ ap₂ (λ (n : ℕ) (y : ℤ). grown (partsOf own (at + 1)) (pos n) (k .base +ℤ pos 9 *ℤ y *ℤ y -ℤ k .six *ℤ y) k)
       (sym (weight-opposite i (omega arith) (omega arith)))
       (sym (dot-is d (i + 1) (omega arith) ∙ dot-opposite i (omega arith) (omega arith) _ ∙ ap negℤ (sym (dot-is d i (omega arith)))))

@@ -9,17 +9,17 @@ use lib.Seq.{getD-set-same, getD-set-other}
 use lib.IntN.{ℤ, pos, natAbs, _+ℤ_, _-ℤ_, +ℤ-idr}
 use mir.Syntax.{w32, w64}
 use mir.Val.{toZ, ofZ}
-use Rattle.whole.specs.Fold.{sum, dirs, tab}
+use Rattle.whole.specs.Fold.{sum, dirs}
 use Rattle.whole.specs.Sums.{sum-cong}
 use Rattle.whole.specs.Tab.{getD-tab, upto-all}
 use Rattle.whole.specs.Table.{filled}
 use Rattle.whole.specs.Ring.{ring-by, quotes}
 use Rattle.whole.specs.Bounds.{abs-sub}
-use Rattle.whole.specs.Machine.{Val, Within, machine, known, same, v32, v64, within-by, does-fit, reads-as}
+use Rattle.whole.specs.Machine.{Within, machine, known, same, v32, v64, within-by, does-fit, reads-as}
 use Rattle.lattice.specs.declared.collide.Common.{Common}
 use Rattle.lattice.specs.Lattice.{dot, d3q19}
-use Rattle.lattice.specs.Body.{Bounded, vec, Tame, stillDir, stillPart}
-use Rattle.lattice.specs.Post.{CommonIs, Ready, stilled}
+use Rattle.lattice.specs.Body.{Bounded, vec, stillDir, stillPart}
+use Rattle.lattice.specs.Post.{Ready}
 use Rattle.lattice.proofs.Collision.{ready, begun, begun-is}
 use Rattle.lattice.proofs.Pairs.{off-rest, off-one, off-dirs, off-next}
 use Rattle.lattice.proofs.Reading.{reading, inside}
@@ -116,10 +116,10 @@ begins : (c : tie.After-still Inv-loop μ-loop) → c .still .result ≡ begun (
 begins c =
     let i = c .before .before .before .before .loop .i in
     let w = c .before .before .weight-of .ensures in
-    let e : toZ w64 (ofZ w64 (c .before .before .weight-of .result)) ≡ pos (d3q19 .weight i) = reads-as (v64 (same w (inside (weight-in i (omega arith) (omega arith))))) tt in
-    let e2 : toZ w32 (ofZ w32 (getD (c .before .before .before .before .before .before .dots .result) i (pos 0))) ≡ getD (c .before .before .before .before .before .before .dots .result) i (pos 0) =
+    let ew : toZ w64 (ofZ w64 (c .before .before .weight-of .result)) ≡ pos (d3q19 .weight i) = reads-as (v64 (same w (inside (weight-in i (omega arith) (omega arith))))) tt in
+    let ed : toZ w32 (ofZ w32 (getD (c .before .before .before .before .before .before .dots .result) i (pos 0))) ≡ getD (c .before .before .before .before .before .before .dots .result) i (pos 0) =
     reads-as (v32 (inside (dot-bound (c .before .before .before .before .before .before) i (omega arith)))) tt in
-    rw (e, e2) at (c .still .ensures .0)
+    rw (ew, ed) at (c .still .ensures .0)
 
 taken : (r s x : ℤ) → r -ℤ s -ℤ x ≡ r -ℤ (s +ℤ x)
 taken r s x = ring-by (r ∷ s ∷ x ∷ []) (search quotes depth 20) (search quotes depth 20) tt

@@ -1,9 +1,9 @@
 -- `lattice::convert::mark_of`: each test of the code is the definition's, over numbers that fit. Assumes nothing.
-use mathlib.Core.Path.{_≡_, refl, sym, _∙_, ap}
-use mathlib.Core.Bool.{Bool, true, false}
-use lib.IntN.{ℤ, pos, negℤ, _+ℤ_, _-ℤ_, _*ℤ_, +ℤ-idl}
+use mathlib.Core.Path.{_≡_, sym, _∙_, ap}
+use mathlib.Core.Bool.{Bool, false}
+use lib.IntN.{ℤ, pos, negℤ, _-ℤ_, _*ℤ_, +ℤ-idl}
 use lib.Signed.{ltZ}
-use Rattle.whole.specs.Machine.{machine, w64-in, does-fit, reads-as}
+use Rattle.whole.specs.Machine.{machine, w64-in, does-fit}
 use Rattle.whole.specs.Tests.{flags, clean}
 use Rattle.lattice.specs.Cell.{over, under}
 use Rattle.lattice.proofs.convert.mark_of.Statement.{statement}

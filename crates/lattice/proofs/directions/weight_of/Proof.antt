@@ -1,9 +1,6 @@
 -- `lattice::directions::weight_of` is the table's weight: one computed test over the nineteen rows. Assumes nothing.
-use mathlib.Core.Path.{_≡_, ap, sym, _∙_}
-use Prim.Native.Nat.{ℕ, _<_}
-use native.Mathlib.Omega.{arith}
+use mathlib.Core.Path.{ap, sym}
 use lib.IntN.{pos}
-use Rattle.lattice.specs.Lattice.{d3q19}
 use Rattle.lattice.proofs.Table.{light, heavy}
 use Rattle.lattice.proofs.directions.weight_of.Statement.{statement}
 use Rattle.lattice.proofs.directions.weight_of.Tie as tie

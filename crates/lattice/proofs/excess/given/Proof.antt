@@ -1,16 +1,15 @@
 -- `lattice::excess::given`: the cut share, and with it the remainder at the lowest direction with positive weight. Assumes nothing.
-use mathlib.Core.Path.{_≡_, refl, sym, _∙_, ap, ap₂, subst}
-use mathlib.Core.Bool.{true, false, cond}
-use lib.IntN.{ℤ, pos, _+ℤ_, _*ℤ_, +ℤ-idr}
-use lib.Signed.{_<ℤ_, quotZ}
+use mathlib.Core.Path.{_≡_, sym, _∙_, ap₂, subst}
+use lib.IntN.{ℤ, pos, _+ℤ_, +ℤ-idr}
+use lib.Signed.{_<ℤ_}
 use borrow.Author.Tests.{eq-eqb, ne-eqb}
 use mir.Syntax.{w64}
 use mir.Val.{toZ, ofZ}
 use mir.Facts.{toZ-ofZ}
 use Rattle.whole.specs.Fold.{dirs}
-use Rattle.whole.specs.Machine.{Val, Within, same, v64, within-by, does-fit, reads-as}
+use Rattle.whole.specs.Machine.{same, v64, within-by, does-fit, reads-as}
 use Rattle.lattice.specs.Cell.{cutShare, remainder, lowestDir, share}
-use Rattle.lattice.specs.Body.{partsOf, Weights}
+use Rattle.lattice.specs.Body.{partsOf}
 use Rattle.lattice.proofs.Reading.{reading, inside}
 use Rattle.lattice.proofs.Weights.{total-in}
 use borrow.Author.Needs.{needs}

@@ -1,21 +1,20 @@
 -- `lattice::excess::remainder`: what the eighteen cut shares leave of the excess. Assumes nothing.
-use mathlib.Core.Path.{_≡_, refl, sym, _∙_, ap, ap₂, subst}
+use mathlib.Core.Path.{_≡_, sym, _∙_, ap, ap₂}
 use mathlib.Core.List.{List, [], _∷_}
 use Prim.Native.Nat.{ℕ, _+_, _-_, _*_, _<_, _≤_}
 use native.Mathlib.Omega.{arith}
 use borrow.Author.Needs.{needs}
-use lib.ListN.{getD}
-use lib.IntN.{ℤ, pos, natAbs, _+ℤ_, _-ℤ_, _*ℤ_, +ℤ-idr}
-use lib.Signed.{_<ℤ_, quotZ}
+use lib.IntN.{ℤ, natAbs, _+ℤ_, _-ℤ_, _*ℤ_, +ℤ-idr}
+use lib.Signed.{quotZ}
 use mir.Syntax.{w64}
 use mir.Val.{toZ, ofZ}
 use mir.Facts.{toZ-ofZ}
 use Rattle.whole.specs.Fold.{sum, dirs}
 use Rattle.whole.specs.Bounds.{abs-sub}
 use Rattle.whole.specs.Ring.{ring-by, quotes}
-use Rattle.whole.specs.Machine.{Val, Within, known, within-by, does-fit, reads-as}
+use Rattle.whole.specs.Machine.{known, within-by, does-fit, reads-as}
 use Rattle.lattice.specs.Cell.{remainder, cutShare}
-use Rattle.lattice.specs.Body.{partsOf, Weights}
+use Rattle.lattice.specs.Body.{partsOf}
 use Rattle.lattice.proofs.Pairs.{off-rest, off-one, off-next, off-dirs}
 use Rattle.lattice.proofs.Reading.{reading}
 use Rattle.lattice.proofs.excess.remainder.Statement.{statement}

@@ -1,10 +1,9 @@
 -- `lattice::excess::share`: the product fits, and its cut quotient is no larger. Assumes nothing.
-use mathlib.Core.Path.{_≡_}
 use native.Mathlib.Omega.{arith}
 use mir.Syntax.{w64}
 use Rattle.whole.specs.Parts.{<-parts, abs-parts}
 use Rattle.whole.specs.Bounds.{divisor}
-use Rattle.whole.specs.Machine.{Val, machine, any, within-by, does-fit, reads-as}
+use Rattle.whole.specs.Machine.{machine, any, within-by, does-fit, reads-as}
 use Rattle.lattice.proofs.Reading.{inside}
 use Rattle.lattice.proofs.excess.share.Statement.{statement}
 use Rattle.lattice.proofs.excess.share.Tie as tie

@@ -1,6 +1,6 @@
 -- `lattice::excess::total` is the sum over the eighteen directions. Assumes nothing.
-use mathlib.Core.Path.{_≡_, refl, sym, _∙_, ap}
-use Prim.Native.Nat.{ℕ, _+_, _-_, _*_, _<_, _≤_}
+use mathlib.Core.Path.{_≡_, sym, _∙_, ap}
+use Prim.Native.Nat.{ℕ, _-_, _*_, _<_, _≤_}
 use native.Mathlib.Omega.{arith}
 use borrow.Author.Needs.{needs}
 use lib.ListN.{getD}
@@ -9,8 +9,8 @@ use mir.Syntax.{w64}
 use mir.Val.{toZ, ofZ}
 use Rattle.whole.specs.Fold.{sum}
 use Rattle.whole.specs.Bounds.{abs-add}
-use Rattle.whole.specs.Machine.{Val, known, does-fit, reads-as}
-use Rattle.lattice.specs.Body.{partsOf, Weights}
+use Rattle.whole.specs.Machine.{known, does-fit, reads-as}
+use Rattle.lattice.specs.Body.{partsOf}
 use Rattle.lattice.proofs.Pairs.{off-rest, off-one, off-next, off-dirs}
 use Rattle.lattice.proofs.Reading.{reading}
 use Rattle.lattice.proofs.excess.total.Statement.{statement}

@@ -1,11 +1,10 @@
 -- `lattice::excess::weight`: the tests are the definition's. Assumes nothing.
-use mathlib.Core.Path.{_≡_, sym, _∙_}
 use borrow.Author.Tests.{eq-eqb, ne-eqb}
-use lib.IntN.{ℤ, pos}
+use lib.IntN.{pos}
 use mir.Syntax.{w32}
 use mir.Facts.{sfits-lit}
 use Rattle.whole.specs.Order.{ltZ-true, ltZ-false}
-use Rattle.whole.specs.Machine.{Val, machine, any, same, reads-as}
+use Rattle.whole.specs.Machine.{machine, same, reads-as}
 use Rattle.whole.specs.Tests.{lt-test}
 use Rattle.lattice.proofs.Reading.{whole32}
 use Rattle.lattice.proofs.Weights.{positive-yes, positive-no}

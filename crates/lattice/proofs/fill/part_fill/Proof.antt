@@ -1,18 +1,16 @@
 -- `lattice::fill::part_fill`: the code's three cases are those of the definition, and the quotient is at most 65,536. Assumes nothing.
-use mathlib.Core.Path.{_≡_, refl, sym, _∙_, ap, subst}
-use Prim.Native.Nat.{ℕ, _<_, _≤_}
-use native.Mathlib.Nat.{lt-of-le-of-lt}
+use mathlib.Core.Path.{_≡_, sym, _∙_, ap, subst}
 use native.Mathlib.Omega.{arith}
-use lib.Dec.{T, lit<}
+use lib.Dec.{T}
 use lib.IntN.{ℤ, pos, natAbs, _*ℤ_}
-use lib.Signed.{_<ℤ_, _≤ℤ_, nonNeg, quotZ}
+use lib.Signed.{_<ℤ_, nonNeg, quotZ}
 use mir.Syntax.{w32, w64}
 use mir.Val.{Fits, toZ, ofZ}
 use mir.Facts.{sfits-lit}
-use Rattle.whole.specs.Parts.{abs-parts, one-zero, ≤-parts, <-parts}
-use Rattle.whole.specs.Bounds.{abs-above, divisor}
-use Rattle.whole.specs.Order.{orders, leZ-true, leZ-false}
-use Rattle.whole.specs.Machine.{Val, Within, machine, w64-in, does-fit, reads-as}
+use Rattle.whole.specs.Parts.{abs-parts, one-zero, <-parts}
+use Rattle.whole.specs.Bounds.{divisor}
+use Rattle.whole.specs.Order.{leZ-true, leZ-false}
+use Rattle.whole.specs.Machine.{Within, machine, w64-in, does-fit, reads-as}
 use Rattle.whole.specs.Tests.{le-test}
 use Rattle.lattice.specs.Cell.{fillOf}
 use Rattle.lattice.proofs.Fills.{no-mass, all-mass, some-mass, fill-most}

@@ -1,6 +1,6 @@
 -- `lattice::gravity::pull`: the product fits, and its cut quotient by 2^20 is small. Assumes nothing.
 use lib.Dec.{lit<}
-use Rattle.whole.specs.Machine.{Val, same, does-fit, reads-as}
+use Rattle.whole.specs.Machine.{same, does-fit, reads-as}
 use Rattle.lattice.specs.Cell.{pull}
 use Rattle.lattice.proofs.Reading.{reading}
 use borrow.Author.Needs.{needs}

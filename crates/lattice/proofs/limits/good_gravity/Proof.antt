@@ -1,11 +1,11 @@
 -- `lattice::limits::good_gravity`: a component above 1048 is out of range by itself; below, the squares fit and the sum is the definition's.
 -- Assumes nothing.
 use borrow.Author.Needs.{needs}
-use mathlib.Core.Path.{_≡_, sym, _∙_}
+use mathlib.Core.Path.{sym}
 use Prim.Native.Nat.{_*_, _<_}
 use native.Mathlib.Omega.{arith}
 use lib.IntN.{natAbs}
-use Rattle.whole.specs.Machine.{machine, w64-in, Within, does-fit, reads-as}
+use Rattle.whole.specs.Machine.{machine, w64-in, Within, does-fit}
 use Rattle.whole.specs.Tests.{flags, flag-as}
 use Rattle.lattice.specs.Cell.{gravityGood}
 use Rattle.lattice.proofs.Ranges.{strong, large, little}

@@ -1,5 +1,5 @@
 -- `lattice::limits::good_settings`: its two tests are the definition's, of fields that fit. Assumes nothing.
-use mathlib.Core.Path.{_≡_, _∙_, ap₂}
+use mathlib.Core.Path.{ap₂}
 use mathlib.Core.Bool.{_&&_}
 use borrow.Author.Needs.{needs}
 use mir.Syntax.{w64}

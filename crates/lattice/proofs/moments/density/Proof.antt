@@ -1,20 +1,19 @@
 -- `lattice::moments::density` is the sum of the nineteen parts: part 0, then pair by pair. Assumes nothing.
 use mathlib.Core.Path.{_≡_, refl, sym, _∙_, ap}
-use Prim.Native.Nat.{ℕ, _+_, _-_, _*_, _%_, _<_, _≤_}
+use Prim.Native.Nat.{ℕ, _+_, _-_, _*_, _%_, _≤_}
 use native.Mathlib.Omega.{arith}
 use borrow.Author.Needs.{needs}
 use lib.ListN.{getD}
 use lib.IntN.{ℤ, pos, natAbs, _+ℤ_}
 use mir.Syntax.{w32}
 use mir.Val.{toZ, ofZ}
-use mir.Facts.{toZ-ofZ}
 use Rattle.whole.specs.Fold.{sum}
 use Rattle.whole.specs.Bounds.{abs-add}
-use Rattle.whole.specs.Machine.{Val, Within, known, machine, does-fit, reads-as}
+use Rattle.whole.specs.Machine.{known, does-fit, reads-as}
 use Rattle.lattice.specs.Lattice.{density, d3q19}
-use Rattle.lattice.specs.Body.{partsOf, Bounded}
+use Rattle.lattice.specs.Body.{partsOf}
 use Rattle.lattice.proofs.Pairs.{sum-one, sum-pair}
-use Rattle.lattice.proofs.Reading.{reading, inside}
+use Rattle.lattice.proofs.Reading.{reading}
 use Rattle.lattice.proofs.moments.density.Statement.{statement}
 use Rattle.lattice.proofs.moments.density.Tie as tie
 

@@ -1,11 +1,11 @@
 -- `lattice::moments::steady`: the density's two tests, then the definition's comparison of products that fit. Assumes nothing.
-use mathlib.Core.Path.{_≡_, refl, sym, _∙_, ap₂}
-use mathlib.Core.Bool.{Bool, true, false, _&&_}
-use lib.IntN.{ℤ, pos}
+use mathlib.Core.Path.{_≡_}
+use mathlib.Core.Bool.{true}
+use lib.IntN.{pos}
 use lib.Signed.{leZ}
 use mir.Syntax.{w32}
-use Rattle.whole.specs.Order.{leZ-true, ltZ-true, ltZ-false, ≤-leZ, <-leZ}
-use Rattle.whole.specs.Machine.{Val, machine, any, same, does-fit, reads-as}
+use Rattle.whole.specs.Order.{ltZ-true, ltZ-false, ≤-leZ, <-leZ}
+use Rattle.whole.specs.Machine.{machine, any, same, does-fit}
 use Rattle.whole.specs.Tests.{flags, flag-as, clean}
 use Rattle.lattice.specs.Cell.{dense, slow}
 use Rattle.lattice.specs.Body.{steadyFlow}
@@ -36,8 +36,8 @@ returns-2 c =
     let r = any w32 (c .before .before .before .before .before .before .args .v .rho) (c .before .struct-told2 .given .0 .1) in
     rw (low (c .before .before .before), <-leZ {a = c .before .before .before .before .before .before .args .v .rho} {b = pos 1179648} (ltZ-true (clean (c .if2 .taken) (search (machine, flags) depth 20) tt)))
 
-speed2-requires : tie.Need-speed2-requires
-speed2-requires c κs = search needs
+speed-squared-requires : tie.Need-speed-squared-requires
+speed-squared-requires c κs = search needs
 
 mul-result : tie.Need-mul-result
 mul-result c =
@@ -45,7 +45,7 @@ mul-result c =
     let x = s .pre .0 in
     let y = s .pre .1 in
     let z = s .pre .2 in
-    let q = same (c .speed2 .ensures) (search reading depth 20) in
+    let q = same (c .speed-squared .ensures) (search reading depth 20) in
     does-fit (search reading depth 20) tt
 
 times-requires : tie.Need-times-requires
@@ -60,10 +60,10 @@ returns-3 c =
     let y = s .pre .1 in
     let z = s .pre .2 in
     let r = any w32 (s .args .v .rho) (c .before .struct-told4 .given .0 .1) in
-    let q = same (c .before .before .before .speed2 .ensures) (search reading depth 20) in
+    let q = same (c .before .before .before .speed-squared .ensures) (search reading depth 20) in
     let t = same (c .times .ensures) (search machine depth 20) in
     rw (low (e .before .before .before), high e) (flag-as (search (machine, flags) depth 20) tt)
 
 pub steady-spec : {M : Type 1} → statement M
 steady-spec =
-    tie.close (tie.spec returns returns-2 speed2-requires mul-result times-requires returns-3)
+    tie.close (tie.spec returns returns-2 speed-squared-requires mul-result times-requires returns-3)

@@ -1,6 +1,5 @@
 -- `lattice::moments::times`: a product of two numbers of 32 bits fits 64. Assumes nothing.
-use mathlib.Core.Path.{_∙_}
-use Rattle.whole.specs.Machine.{Val, machine, same, does-fit, reads-as}
+use Rattle.whole.specs.Machine.{machine, same, does-fit, reads-as}
 use Rattle.lattice.proofs.Reading.{whole32}
 use borrow.Author.Needs.{needs}
 use Rattle.lattice.proofs.moments.times.Statement.{statement}

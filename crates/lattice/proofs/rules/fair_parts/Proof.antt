@@ -1,5 +1,5 @@
 -- `lattice::rules::fair_parts`: both tests together are the rule of a liquid cell's body. Assumes nothing.
-use mathlib.Core.Path.{_≡_, _∙_, ap₂}
+use mathlib.Core.Path.{_∙_, ap₂}
 use mathlib.Core.Bool.{_&&_}
 use Rattle.lattice.proofs.Bodies.{flow-x, flow-y, flow-z, body-is}
 use borrow.Author.Needs.{needs}
@@ -17,7 +17,7 @@ steady-requires c κs =
     let s = c .before .before in
     let v = c .flow-of .result in
     let e = c .flow-of .ensures .1 in
-    (flow-x (s .args .f) (s .pre) v e, flow-y (s .args .f) (s .pre) v e, flow-z (s .args .f) (s .pre) v e)
+    (flow-x (s .args .f) (s .pre) v e 400000000 tt, flow-y (s .args .f) (s .pre) v e 400000000 tt, flow-z (s .args .f) (s .pre) v e 400000000 tt)
 
 returns : tie.Need-returns
 returns c =

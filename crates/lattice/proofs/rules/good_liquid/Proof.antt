@@ -1,21 +1,20 @@
 -- `lattice::rules::good_liquid`: the tests in the code's order are the definition's; what one has shown the next may lean on. Assumes nothing.
-use mathlib.Core.Path.{_≡_, refl, sym, _∙_, ap, ap₂, subst}
-use mathlib.Core.Bool.{Bool, true, false, _&&_}
+use mathlib.Core.Path.{_≡_, sym, _∙_, ap, ap₂, subst}
+use mathlib.Core.Bool.{Bool, true, _&&_}
 use lib.Dec.{eqb}
 use lib.IntN.{ℤ, pos}
 use lib.Signed.{_<ℤ_}
 use borrow.Author.Tests.{eq-eqb, ne-eqb, not-true, not-false}
 use mir.Syntax.{w32, w64}
 use mir.Val.{toZ, ofZ}
-use mir.Facts.{toZ-ofZ}
 use Rattle.whole.specs.Fold.{all}
-use Rattle.whole.specs.Machine.{Val, Within, same, machine, within-by, reads-as}
-use Rattle.lattice.specs.Lattice.{density, d3q19}
+use Rattle.whole.specs.Machine.{same, machine, within-by, reads-as}
+use Rattle.lattice.specs.Lattice.{d3q19}
 use Rattle.lattice.specs.Cell.{partGood, massGood, fillOf}
 use Rattle.lattice.specs.Body.{partsOf, Tame, steadyFlow, goodBody, goodFluid, goodInterface, eqZ}
 use Rattle.lattice.proofs.Bodies.{inside-bounded, flow-x, flow-y, flow-z, body-is, no-parts, broken, dense-positive}
 use Rattle.lattice.proofs.Equal.{bits-eqZ}
-use Rattle.lattice.proofs.Reading.{reading, whole32, inside}
+use Rattle.lattice.proofs.Reading.{reading, whole32}
 use Rattle.lattice.proofs.Tame.{steady-tame}
 use borrow.Author.Needs.{needs}
 use Rattle.lattice.proofs.rules.good_liquid.Statement.{statement}
@@ -42,7 +41,7 @@ steady-requires c κs =
     let v = c .flow-of .result in
     let e = c .flow-of .ensures .1 in
     let b = inside-bounded f (parts-in (c .before)) in
-    (flow-x f b v e, flow-y f b v e, flow-z f b v e)
+    (flow-x f b v e 400000000 tt, flow-y f b v e 400000000 tt, flow-z f b v e 400000000 tt)
 
 returns-2 : tie.Need-returns-2
 returns-2 c =

@@ -15,7 +15,7 @@ use Rattle.record.specs.Reading.{sidesIn, cellsIn, flagIn, interfacesIn,
 use Rattle.record.proofs.Answers.{or-pass, or-fail}
 use Rattle.record.proofs.Gathered.{interfaces-most, liquids-most}
 use Rattle.record.proofs.Shaped.{ends}
-use Rattle.record.proofs.Flags.{interfaces-are, liquids-are, bad-flag-is}
+use Rattle.record.proofs.FlagPart.{interfaces-are, liquids-are, bad-flag-is}
 use Rattle.record.proofs.shape.behind.Statement.{statement}
 use Rattle.record.proofs.shape.behind.Tie as tie
 

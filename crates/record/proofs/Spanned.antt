@@ -1,0 +1,29 @@
+-- The span of a head lies within the bytes, and of the reader's own head it is the flag section: what is handed back is `readFlags`. Assumes nothing.
+use mathlib.Core.Path.{_≡_, refl, sym, ap, _∙_}
+use mathlib.Core.Bool.{Bool, true, false, cond, _&&_}
+use mathlib.Core.List.{List, []}
+use Prim.Native.Nat.{ℕ, _+_, _-_, _≤_, zero-le}
+use native.Mathlib.Omega.{arith}
+use lib.Dec.{leb}
+use lib.ListN.{length, take, drop}
+use borrow.Author.Tests.{leb-true}
+use Rattle.whole.specs.Bools.{and-right}
+use Rattle.grid.specs.Grid.{sidesGood, cellsOf}
+use Rattle.grid.specs.Outcome.{accepted}
+use Rattle.record.specs.declared.Head.{Head}
+use Rattle.record.specs.declared.Span.{Span}
+use Rattle.record.specs.Promise.{spanOf}
+
+-- a span within n bytes
+pub record Inside (n : ℕ) (p : Span) : Type 0 where
+  pub order : p .from ≤ p .to
+  pub most : p .to ≤ n
+
+pub span-inside : (n : ℕ) (h : Head) → Inside n (spanOf n h)
+span-inside n h = go (accepted (h .answer) && sidesGood (h .sides) && leb (84 + cellsOf (h .sides)) n) refl
+  where
+    go : (t : Bool) → (accepted (h .answer) && sidesGood (h .sides) && leb (84 + cellsOf (h .sides)) n) ≡ t → Inside n (spanOf n h)
+    go true e =
+        let l : 84 + cellsOf (h .sides) ≤ n = leb-true (84 + cellsOf (h .sides)) n (and-right (accepted (h .answer) && sidesGood (h .sides)) (leb (84 + cellsOf (h .sides)) n) e) in
+        rw e (record { order = omega arith; most = l })
+    go false e = rw e (record { order = zero-le; most = zero-le })

@@ -1,0 +1,38 @@
+-- What reader and writer promise of their answer and of every lent slice, refused or not: each equals the outcome's definition. Assumes nothing.
+use mathlib.Core.Path.{_≡_}
+use mathlib.Core.Bool.{Bool, _&&_, cond}
+use mathlib.Core.List.{List, []}
+use Prim.Native.Nat.{ℕ, _+_, _-_}
+use denote.Ref.{RefT, now}
+use lib.Dec.{leb}
+use lib.IntN.{ℤ}
+use lib.ListN.{take, drop}
+use Rattle.grid.specs.Grid.{sidesGood, cellsOf}
+use Rattle.grid.specs.Outcome.{accepted}
+use Rattle.grid.specs.State.{Lent}
+use Rattle.record.specs.declared.Head.{Head}
+use Rattle.record.specs.declared.Span.{Span}
+use Rattle.record.specs.Reading.{readHead, readSet}
+
+-- the set that the reader is lent lacks the flags
+abbrev pub flagless : List ℤ → List ℤ → List ℕ → List ℤ → Lent
+flagless parts masses fills carry = record { flags = []; parts = parts; masses = masses; fills = fills; carry = carry }
+
+-- the reader: its answer with sides, settings and origin, and the four slices
+pub record Read (r : List ℕ) (a : Lent) (head : Head) (parts masses : List ℤ) (fills : List ℕ) (carry : List ℤ) : Type 0 where
+  pub head-is : head ≡ readHead r a
+  pub parts-are : parts ≡ readSet r a .parts
+  pub masses-are : masses ≡ readSet r a .masses
+  pub fills-are : fills ≡ readSet r a .fills
+  pub carry-is : carry ≡ readSet r a .carry
+
+-- where the flag section of a head stands in bytes of this length; the part that a refusal, or a head of another record, hands back is empty
+abbrev pub spanOf : ℕ → Head → Span
+spanOf n h =
+    cond (accepted (h .answer) && sidesGood (h .sides) && leb (84 + cellsOf (h .sides)) n) (record { from = 84; to = 84 + cellsOf (h .sides) }) (record { from = 0; to = 0 })
+
+-- r is that part of the caller's bytes s, and no copy: it stands in the memory of s
+pub record Own (s : RefT (List ℕ)) (p : Span) (r : RefT (List ℕ)) : Type 0 where
+  pub bytes : now r ≡ take (p .to - p .from) (drop (p .from) (now s))
+  pub block : r .ptr .0 ≡ s .ptr .0
+  pub place : r .ptr .1 ≡ s .ptr .1 + p .from

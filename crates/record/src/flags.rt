@@ -1,0 +1,37 @@
+// The flag section as the caller's own bytes.
+use crate::Head;
+use crate::Span;
+use crate::section::passed;
+use grid::extent::cells;
+use grid::extent::good_sides;
+ghost use mathlib.Core.Path.{_≡_};
+ghost use lib.ListN.{length};
+ghost use Rattle.record.specs.Promise.{spanOf, Own};
+
+fn span(n: usize, h: Head) -> Span
+    ensures { λ r. ⌜ r ≡ spanOf n h ⌝ }
+{
+    let a = h.answer;
+    if !passed(a) {
+        return Span { from: 0, to: 0 };
+    }
+    let s = h.sides;
+    if !good_sides(s) {
+        return Span { from: 0, to: 0 };
+    }
+    let end = 84 + cells(s);
+    if n < end {
+        return Span { from: 0, to: 0 };
+    }
+    Span { from: 84, to: end }
+}
+
+// The flags of the record that gave this head; a part of `rec`, and no copy.
+pub fn flags_of(rec: &[u8], h: Head) -> &[u8]
+    ensures { λ r. ⌜ Own (rec .entry) (spanOf (length (now (rec .entry))) h) r ⌝ }
+{
+    let p = span(rec.len(), h);
+    let from = p.from;
+    let to = p.to;
+    &rec[from..to]
+}
