@@ -1,6 +1,6 @@
 -- What streams into a cell, as the code reads it: by places, by pairs of directions, by the neighbour's flag. Assumes nothing.
 use mathlib.Core.Path.{_≡_, refl, sym, ap, ap₂, _∙_, subst}
-use mathlib.Core.Bool.{Bool, true, false, cond, false≢true}
+use mathlib.Core.Bool.{Bool, true, false, _||_, cond, false≢true}
 use mathlib.Core.List.{List}
 use Prim.Native.Nat.{ℕ, zero, suc, _+_, _-_, _*_, _%_, _≤_, _<_}
 use native.Mathlib.Nat.{add-zero}
@@ -62,6 +62,13 @@ liquid-case zero r a o h = absurd (false≢true h)
 liquid-case (suc zero) r a o h = refl
 liquid-case (suc (suc zero)) r a o h = refl
 liquid-case (suc (suc (suc n))) r a o h = absurd (false≢true h)
+
+-- the code's test
+pub liquid-test : (f : ℕ) → (eqb f 1 || eqb f 2) ≡ liquid f
+liquid-test zero = refl
+liquid-test (suc zero) = refl
+liquid-test (suc (suc zero)) = refl
+liquid-test (suc (suc (suc n))) = ap₂ (λ (a b : Bool). a || b) (ne-eqb (suc (suc (suc n))) 1 (λ e. omega arith)) (ne-eqb (suc (suc (suc n))) 2 (λ e. omega arith))
 
 -- what is neither above 2 nor 0
 pub wet : (f : ℕ) → (2 < f → ⊥) → (f ≡ 0 → ⊥) → liquid f ≡ true

@@ -42,7 +42,7 @@ poised s g a r = record {
   cells = λ c h. sym (alone a c) ∙ ready-cell s g a r c h;
 }
 
-few : (s : Sides) → sidesGood s ≡ true → cellsOf s ≤ 262144
+pub few : (s : Sides) → sidesGood s ≡ true → cellsOf s ≤ 262144
 unfolding cellsOf
 few s h = good-sides s h .all
 

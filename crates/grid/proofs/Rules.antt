@@ -1,6 +1,6 @@
 -- Test 6's place: the lowest cell that breaks a rule, N for the carry alone, N + 1 if nothing is broken. Assumes nothing.
-use mathlib.Core.Path.{_≡_, refl, sym, ap, ap₂, _∙_}
-use mathlib.Core.Bool.{Bool, true, false, not, cond, _&&_, _||_, false≢true}
+use mathlib.Core.Path.{_≡_, refl, sym, ap, _∙_}
+use mathlib.Core.Bool.{Bool, true, false, not, cond, _&&_, false≢true}
 use mathlib.Core.List.{List, [], _∷_}
 use Prim.Native.Nat.{ℕ, zero, suc, _+_, _*_, _≤_, _<_}
 use native.Mathlib.Decide.{ℕ-discrete}
@@ -19,6 +19,7 @@ use Rattle.whole.specs.Tab.{getD-tab}
 use Rattle.whole.specs.Search.{first-is, first-all}
 use Rattle.lattice.specs.Lattice.{d3q19, density}
 use Rattle.lattice.specs.Cell.{carryGood, massGood, fillOf}
+use Rattle.lattice.specs.Body.{partsOf, goodBody, goodFluid, goodInterface}
 use Rattle.grid.specs.State.{State, stateOf, liquid, byFlag}
 use Rattle.grid.specs.Step.{fillFor}
 use Rattle.grid.specs.Good.{eqZ, bodyGood, dryGood, interfaceGood, fluidGood, fillGood, cellGood, badRule}
@@ -78,14 +79,6 @@ module _ (flags : List ℕ) (parts masses : List ℤ) (fills : List ℕ) (carry 
 
 -- ---- one cell
 
--- the code's test of a kind
-pub liquid-is : (f : ℕ) → (eqb f 1 || eqb f 2) ≡ liquid f
-liquid-is zero = refl
-liquid-is (suc zero) = refl
-liquid-is (suc (suc zero)) = refl
-liquid-is (suc (suc (suc m))) =
-    ap₂ (λ (x y : Bool). x || y) (ne-eqb (suc (suc (suc m))) 1 (λ e. absurd (omega arith))) (ne-eqb (suc (suc (suc m))) 2 (λ e. absurd (omega arith)))
-
 -- a number that is 0 by its bits
 zero-bits : (z : ℤ) → SFits w32 z → eqb (ofZ w32 z) 0 ≡ eqZ z (pos 0)
 zero-bits z h = by (ℕ-discrete (ofZ w32 z) 0)
@@ -132,10 +125,9 @@ module _ (flags : List ℕ) (parts masses : List ℤ) (fills : List ℕ) (c : �
   flag-is = getD-there flags c 3 0 there
 
   pub wet-cell : liquid (getD flags c 0) ≡ true
-      → cond (eqb (getD flags c 0) 2) (bodyGood d3q19 read && eqZ (getD masses c (pos 0)) (density d3q19 read) && eqb (getD fills c 0) 65536)
-      (bodyGood d3q19 read && massGood (getD masses c (pos 0)) && eqb (getD fills c 0) (fillOf (getD masses c (pos 0)) (density d3q19 read)))
+      → cond (eqb (getD flags c 0) 2) (goodFluid d3q19 (partsOf v) (getD masses c (pos 0)) (getD fills c 0)) (goodInterface d3q19 (partsOf v) (getD masses c (pos 0)) (getD fills c 0))
       ≡ cellGood d3q19 T c
-  unfolding cellGood interfaceGood fluidGood fillGood stateOf
+  unfolding cellGood interfaceGood fluidGood fillGood stateOf goodFluid goodInterface goodBody bodyGood
   wet-cell l =
       wet-cases (getD flags c 0) (bodyGood d3q19 read) (dryGood d3q19 T c) (getD masses c (pos 0)) (density d3q19 read) (getD fills c 0) l
       ∙ rw (sym (body-same d3q19 (T .part c) read part-is), sym (density-same d3q19 (T .part c) read part-is), sym flag-is) refl

@@ -199,3 +199,11 @@ module _ (flags : List ℕ) (parts : List ℤ) (off : List ℕ) (low : ℕ) (g :
   unfolding streamed sight stateOf d3q19
   streamed-in zero h = loose (own-in 0 h)
   streamed-in (suc n) h = arrives-in (pairOpp (suc n)) (suc n) (opposite-some n) (opposite-most n (omega arith)) (omega arith)
+
+  -- read into an array
+  pub bounded-streamed : (x : List ℤ) → x ≡ tab 19 (streamed S c) → Bounded x 2097152 2097152
+  bounded-streamed x e = record { rest = at 0 (omega arith); at = λ k z h. at k h }
+    where
+      at : (k : ℕ) → k < 19 → Within (partsOf x k) 2097152
+      at k h =
+          subst (λ (y : ℤ). Within y 2097152) (sym (ap (λ (y : List ℤ). getD y k (pos 0)) e ∙ getD-tab 19 (streamed S c) (pos 0) k h)) (streamed-in k (omega arith))

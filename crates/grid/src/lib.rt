@@ -1,15 +1,26 @@
 // Layer 2, the grid: states, check, step and run. Knows the promises of lattice.
+pub mod birth;
 pub mod cells;
+pub mod checking;
 pub mod convert;
 pub mod copying;
 pub mod extent;
+pub mod filling;
 pub mod fluid;
+pub mod giving;
+pub mod kinds;
 pub mod layer;
+pub mod leaning;
 pub mod lengths;
 pub mod marks;
+pub mod moving;
 pub mod neighbours;
+pub mod passing;
 pub mod sets;
+pub mod settling;
+pub mod straying;
 pub mod streaming;
+pub mod trading;
 
 // The sides of a grid, in cells.
 pub struct Sides {

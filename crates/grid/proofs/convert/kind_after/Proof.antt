@@ -45,19 +45,29 @@ kept-flag (suc (suc (suc zero))) m filled emptied h j k e g = refl
 kept-flag (suc (suc (suc (suc f)))) m filled emptied h j k e g = absurd (omega arith)
 
 returns : tie.Need-returns
-returns c = filled-flag (c .before .args .f) (c .before .args .m) (c .before .args .filled) (c .before .args .emptied) (c .before .pre .1) (c .if1 .taken)
+returns c =
+    let a = c .before in
+    filled-flag (a .args .f) (a .args .m) (a .args .filled) (a .args .emptied) (a .pre .1) (c .if1 .taken)
 
 returns-2 : tie.Need-returns-2
-returns-2 c = emptied-flag (c .before .before .args .f) (c .before .before .args .m) (c .before .before .args .filled) (c .before .before .args .emptied) (c .before .before .pre .1) (c .if2 .taken)
+returns-2 c =
+    let a = c .before .before in
+    emptied-flag (a .args .f) (a .args .m) (a .args .filled) (a .args .emptied) (a .pre .1) (c .if2 .taken)
 
 returns-3 : tie.Need-returns-3
-returns-3 c = born-flag (c .before .before .before .args .f) (c .before .before .before .args .m) (c .before .before .before .args .filled) (c .before .before .before .args .emptied) (c .before .before .if1 .left) (c .before .if2 .left) (c .if3 .taken)
+returns-3 c =
+    let a = c .before .before .before in
+    born-flag (a .args .f) (a .args .m) (a .args .filled) (a .args .emptied) (c .before .before .if1 .left) (c .before .if2 .left) (c .if3 .taken)
 
 returns-4 : tie.Need-returns-4
-returns-4 c = bared-flag (c .before .before .before .before .args .f) (c .before .before .before .before .args .m) (c .before .before .before .before .args .filled) (c .before .before .before .before .args .emptied) (c .before .before .before .if1 .left) (c .before .before .if2 .left) (c .if4 .taken)
+returns-4 c =
+    let a = c .before .before .before .before in
+    bared-flag (a .args .f) (a .args .m) (a .args .filled) (a .args .emptied) (c .before .before .before .if1 .left) (c .before .before .if2 .left) (c .if4 .taken)
 
 returns-5 : tie.Need-returns-5
-returns-5 c = kept-flag (c .before .before .before .before .args .f) (c .before .before .before .before .args .m) (c .before .before .before .before .args .filled) (c .before .before .before .before .args .emptied) (c .before .before .before .before .pre .0) (c .before .before .before .if1 .left) (c .before .before .if2 .left) (c .before .if3 .left) (c .if4 .left)
+returns-5 c =
+    let a = c .before .before .before .before in
+    kept-flag (a .args .f) (a .args .m) (a .args .filled) (a .args .emptied) (a .pre .0) (c .before .before .before .if1 .left) (c .before .before .if2 .left) (c .before .if3 .left) (c .if4 .left)
 
 pub kind-after-spec : {M : Type 1} → statement M
 kind-after-spec = tie.close (tie.spec returns returns-2 returns-3 returns-4 returns-5)
