@@ -9,3 +9,4 @@ pub mod ByFlag
 pub mod Taking
 pub mod ReadBy
 pub mod Spanned
+pub mod WrittenBy
