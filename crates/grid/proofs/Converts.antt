@@ -40,7 +40,7 @@ ready-flagged : (s : Sides) (g : Settings) (a : Lent) → Ready s g a → Flagge
 unfolding goodAnswer gridOf box cellsOf stateOf
 ready-flagged s g a r = record { sides = r .sides; count = r .sized .flags; tested = none-found (gridOf s .cells) 4 _ _ (r .good) .0 }
 
-ready-poised : (s : Sides) (g : Settings) (a : Lent) → Ready s g a → Poised s g a
+pub ready-poised : (s : Sides) (g : Settings) (a : Lent) → Ready s g a → Poised s g a
 unfolding gridOf box cellsOf d3q19
 ready-poised s g a r = record {
   sides = r .sides;

@@ -66,3 +66,6 @@ pub mod Entries
 pub mod Runs
 pub mod Turns
 pub mod Converts
+pub mod Uncarried
+pub mod Finishes
+pub mod Entrance

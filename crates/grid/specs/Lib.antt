@@ -18,3 +18,4 @@ pub mod PutAt
 pub mod Halfway
 pub mod Flowed
 pub mod Turns
+pub mod Finished

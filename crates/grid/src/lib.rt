@@ -5,6 +5,7 @@ pub mod checking;
 pub mod convert;
 pub mod copying;
 pub mod entering;
+pub mod entry;
 pub mod extent;
 pub mod filling;
 pub mod fluid;

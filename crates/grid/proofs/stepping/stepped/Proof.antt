@@ -1,86 +1,68 @@
+-- `grid::stepping::stepped`: the next state, or after a refusal the copy. Assumes nothing.
 use borrow.Author.Needs.{needs}
+use mathlib.Core.Path.{sym, ap, _∙_}
+use lib.ListN.{length, length-replicate}
+use Rattle.grid.specs.State.{Lent}
+use Rattle.grid.proofs.Finishes.{refused-advanced, done-advanced}
 use Rattle.grid.proofs.stepping.stepped.Statement.{statement}
 use Rattle.grid.proofs.stepping.stepped.Tie as tie
-use Rattle.grid.proofs.stepping.stepped.Reads as reads
-use Rattle.grid.proofs.stepping.stepped.Lts as lts
-use Rattle.grid.proofs.copying.clear.Reads as clear-reads
-use Rattle.grid.proofs.sets.copied.Reads as copied-reads
-use Rattle.grid.proofs.stepping.advanced.Reads as advanced-reads
 
--- src/stepping.rt:122:9
 advanced-requires : tie.Need-advanced-requires
-advanced-requires c κs = search needs
+advanced-requires c κs = c .before .before .before .before .before .before .before .before .before .before .before .pre
 
--- src/stepping.rt:137:28
 enum-known-a : tie.Need-enum-known-a
 enum-known-a c = search needs
 
--- src/stepping.rt:138:9
 copied-requires : tie.Need-copied-requires
-copied-requires c κs = ?
+copied-requires c κs = c .before .before .before .before .before .before .before .before .before .before .before .before .before .before .before .before .before .advanced .ensures .alike
 
--- src/stepping.rt:150:9
 clear-requires : tie.Need-clear-requires
 clear-requires c κs = search needs
 
--- src/stepping.rt:151:9
 same-length : tie.Need-same-length
-same-length c = search needs
+same-length c = ap (λ (x : Lent). length (x .flags)) (c .before .before .before .before .before .before .before .before .before .before .before .copied .ensures) ∙ sym (c .before .before .before .before .before .before .before .before .before .before .before .before .before .before .before .before .before .before .before .before .before .before .before .before .before .before .before .before .before .before .before .before .before .before .before .before .before .before .before .before .before .pre .alike .flags)
 
--- src/stepping.rt:151:9
 same-length-2 : tie.Need-same-length-2
-same-length-2 c = search needs
+same-length-2 c = ap (λ (x : Lent). length (x .parts)) (c .before .before .before .before .before .before .before .before .before .before .before .copied .ensures) ∙ sym (c .before .before .before .before .before .before .before .before .before .before .before .before .before .before .before .before .before .before .before .before .before .before .before .before .before .before .before .before .before .before .before .before .before .before .before .before .before .before .before .before .before .pre .alike .parts)
 
--- src/stepping.rt:151:9
 same-length-3 : tie.Need-same-length-3
-same-length-3 c = search needs
+same-length-3 c = ap (λ (x : Lent). length (x .masses)) (c .before .before .before .before .before .before .before .before .before .before .before .copied .ensures) ∙ sym (c .before .before .before .before .before .before .before .before .before .before .before .before .before .before .before .before .before .before .before .before .before .before .before .before .before .before .before .before .before .before .before .before .before .before .before .before .before .before .before .before .before .pre .alike .masses)
 
--- src/stepping.rt:151:9
 same-length-4 : tie.Need-same-length-4
-same-length-4 c = search needs
+same-length-4 c = ap (λ (x : Lent). length (x .fills)) (c .before .before .before .before .before .before .before .before .before .before .before .copied .ensures) ∙ sym (c .before .before .before .before .before .before .before .before .before .before .before .before .before .before .before .before .before .before .before .before .before .before .before .before .before .before .before .before .before .before .before .before .before .before .before .before .before .before .before .before .before .pre .alike .fills)
 
--- src/stepping.rt:151:9
 same-length-5 : tie.Need-same-length-5
-same-length-5 c = search needs
+same-length-5 c = ap (λ (x : Lent). length (x .carry)) (c .before .before .before .before .before .before .before .before .before .before .before .copied .ensures) ∙ sym (c .before .before .before .before .before .before .before .before .before .before .before .before .before .before .before .before .before .before .before .before .before .before .before .before .before .before .before .before .before .before .before .before .before .before .before .before .before .before .before .before .before .pre .alike .carry)
 
--- src/stepping.rt:151:9
 same-length-6 : tie.Need-same-length-6
-same-length-6 c = search needs
+same-length-6 c = ap length (c .before .before .clear .ensures) ∙ length-replicate _ 0 ∙ c .before .before .before .before .before .before .before .before .before .before .before .before .before .before .before .before .before .before .before .before .before .before .before .before .before .before .before .before .before .advanced .ensures .marks-kept ∙ sym (c .before .before .before .before .before .before .before .before .before .before .before .before .before .before .before .before .before .before .before .before .before .before .before .before .before .before .before .before .before .before .before .before .before .before .before .before .before .before .before .before .before .pre .marks-room)
 
--- src/stepping.rt:151:9
 returns : tie.Need-returns
-returns c = ?
+returns c = refused-advanced (c .before .before .before .before .before .before .before .before .before .before .before .before .before .before .before .before .before .before .a .given .1) (c .before .before .before .before .before .before .before .before .before .before .before .before .before .before .before .before .before .before .before .before .before .before .before .before .before .before .before .before .before .advanced .ensures) (c .before .before .before .before .before .before .before .before .before .before .before .copied .ensures) (c .before .before .clear .ensures)
 
 enum-told : tie.Need-enum-told
 enum-told c = search needs
 
--- src/stepping.rt:104:1
 same-length-7 : tie.Need-same-length-7
-same-length-7 c = search needs
+same-length-7 c = c .before .before .before .before .before .before .before .before .before .before .before .advanced .ensures .alike .flags ∙ sym (c .before .before .before .before .before .before .before .before .before .before .before .before .before .before .before .before .before .before .before .before .before .before .before .pre .alike .flags)
 
--- src/stepping.rt:104:1
 same-length-8 : tie.Need-same-length-8
-same-length-8 c = search needs
+same-length-8 c = c .before .before .before .before .before .before .before .before .before .before .before .advanced .ensures .alike .parts ∙ sym (c .before .before .before .before .before .before .before .before .before .before .before .before .before .before .before .before .before .before .before .before .before .before .before .pre .alike .parts)
 
--- src/stepping.rt:104:1
 same-length-9 : tie.Need-same-length-9
-same-length-9 c = search needs
+same-length-9 c = c .before .before .before .before .before .before .before .before .before .before .before .advanced .ensures .alike .masses ∙ sym (c .before .before .before .before .before .before .before .before .before .before .before .before .before .before .before .before .before .before .before .before .before .before .before .pre .alike .masses)
 
--- src/stepping.rt:104:1
 same-length-10 : tie.Need-same-length-10
-same-length-10 c = search needs
+same-length-10 c = c .before .before .before .before .before .before .before .before .before .before .before .advanced .ensures .alike .fills ∙ sym (c .before .before .before .before .before .before .before .before .before .before .before .before .before .before .before .before .before .before .before .before .before .before .before .pre .alike .fills)
 
--- src/stepping.rt:104:1
 same-length-11 : tie.Need-same-length-11
-same-length-11 c = search needs
+same-length-11 c = c .before .before .before .before .before .before .before .before .before .before .before .advanced .ensures .alike .carry ∙ sym (c .before .before .before .before .before .before .before .before .before .before .before .before .before .before .before .before .before .before .before .before .before .before .before .pre .alike .carry)
 
--- src/stepping.rt:104:1
 same-length-12 : tie.Need-same-length-12
-same-length-12 c = search needs
+same-length-12 c = c .before .before .before .before .before .before .before .before .before .before .before .advanced .ensures .marks-kept ∙ sym (c .before .before .before .before .before .before .before .before .before .before .before .before .before .before .before .before .before .before .before .before .before .before .before .pre .marks-room)
 
--- src/stepping.rt:104:1
 returns-2 : tie.Need-returns-2
-returns-2 c = ?
+returns-2 c = done-advanced (c .enum-told .given .1) (c .before .before .before .before .before .before .before .before .before .before .before .advanced .ensures)
 
 pub stepped-spec : {M : Type 1} → statement M
 stepped-spec =
