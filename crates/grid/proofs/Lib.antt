@@ -62,7 +62,6 @@ pub mod Strays
 pub mod Impacts
 pub mod Handed
 pub mod Walked
-pub mod Entries
 pub mod Runs
 pub mod Turns
 pub mod Converts

@@ -6,8 +6,9 @@ use mathlib.Core.List.{List}
 use Prim.Native.Nat.{ℕ, suc, _+_, _-_, _≤_, _<_}
 use native.Mathlib.Nat.{add-zero}
 use native.Mathlib.Omega.{arith}
+use lib.Dec.{leb}
 use lib.ListN.{length, replicate, length-replicate}
-use borrow.Author.Tests.{eq-eqb}
+use borrow.Author.Tests.{eq-eqb, le-leb, lt-leb}
 use Rattle.lattice.specs.Lattice.{d3q19}
 use Rattle.lattice.specs.declared.Settings.{Settings}
 use Rattle.lattice.proofs.Paired.{paired19}
@@ -23,12 +24,14 @@ use Rattle.grid.specs.Between.{Sized, Ready}
 use Rattle.grid.specs.Halfway.{Alike, Stepping, Advanced}
 use Rattle.grid.specs.Promise.{RanTo}
 use Rattle.grid.specs.Turns.{here, there, Crossed, Evened, Went}
+use Rattle.grid.proofs.Accepted.{passed}
 use Rattle.grid.proofs.Box.{grid-laid}
 use Rattle.grid.proofs.Listed.{same-listed, lengths-listed}
 use Rattle.grid.proofs.Prepared.{sized}
 use Rattle.grid.proofs.Reached.{step-good}
 use Rattle.grid.proofs.Conserved.{good-any}
-use Rattle.grid.proofs.Entries.{sized-alike, alike-sized}
+use Rattle.grid.proofs.Finishes.{alike-sized, like-sized}
+use Rattle.grid.proofs.Entrance.{may-step}
 
 -- ---- an accepted step of a set that is ready
 module _ (s : Sides) (g : Settings) (a : Lent) where
@@ -154,7 +157,7 @@ going-first steps s g a b marks h = record {
   most = omega arith;
   ready = h .ready;
   first = h .ready .sized;
-  second = alike-sized (cellsOf s) a b (h .ready .sized) (h .alike);
+  second = like-sized (h .ready .sized) (h .alike);
   room = h .marks-room;
   marked = h .marks-room;
   left = left-first s g marks steps a;
@@ -162,8 +165,8 @@ going-first steps s g a b marks h = record {
 
 module _ (steps : ℕ) (s : Sides) (g : Settings) (start : Lent) (marks₀ : List ℕ) (k : ℕ) where
   pub going-alike : (back : Bool) (a b : Lent) (marks : List ℕ) → Going steps s g start marks₀ k back a b marks → Alike (here back a b) (there back a b)
-  going-alike true a b marks i = sized-alike (cellsOf s) b a (i .second) (i .first)
-  going-alike false a b marks i = sized-alike (cellsOf s) a b (i .first) (i .second)
+  going-alike true a b marks i = alike-sized (i .second) (i .first)
+  going-alike false a b marks i = alike-sized (i .first) (i .second)
 
   pub going-stepping : (back : Bool) (a b : Lent) (marks : List ℕ) → Going steps s g start marks₀ k back a b marks → Stepping s g (here back a b) (there back a b) marks
   going-stepping back a b marks i = record {
@@ -240,6 +243,19 @@ module _ (steps : ℕ) (s : Sides) (g : Settings) (start : Lent) (marks₀ : Lis
 
 -- ---- the run itself, by what admitted it
 module _ (steps : ℕ) (s : Sides) (g : Settings) (a b : Lent) (marks : List ℕ) where
+  -- the number of steps is asked first
+  pub refuses-steps : 1000 < steps → Refused 9 0 ≡ runEntry steps s g a b marks
+  unfolding runEntry
+  refuses-steps h = rw (lt-leb steps 1000 h) refl
+
+  pub then-entered : steps ≤ 1000 → entryAnswer s g a b marks Done ≡ runEntry steps s g a b marks
+  unfolding runEntry
+  then-entered h = rw (le-leb steps 1000 h) refl
+
+  pub run-stepping : runEntry steps s g a b marks ≡ Done → Stepping s g a b marks
+  unfolding runEntry
+  run-stepping e = may-step s g a b marks (passed (leb steps 1000) 9 0 _ e .1)
+
   pub not-admitted : (n p : ℕ) → Refused n p ≡ runEntry steps s g a b marks → RanTo steps s g a b marks 0 (Refused n p) a b marks
   unfolding runCount runAnswer runFirst runSecond runMarks
   not-admitted n p e = record {

@@ -2,7 +2,7 @@
 use crate::Answer;
 use crate::Sides;
 use crate::copying;
-use crate::entering;
+use crate::entry;
 use crate::sets;
 use crate::stepping;
 use lattice::Settings;
@@ -208,7 +208,7 @@ fn admitted(
     if steps > 1000 {
         return Answer::Refused(9, 0);
     }
-    entering::entered(
+    entry::entered(
         flags,
         parts,
         mass,

@@ -1,7 +1,7 @@
 -- `grid::running::admitted`: the number of steps first, then tests 1 to 6. Assumes nothing.
 use borrow.Author.Needs.{needs}
 use mathlib.Core.Path.{_∙_}
-use Rattle.grid.proofs.Entries.{refuses-steps, then-entered}
+use Rattle.grid.proofs.Runs.{refuses-steps, then-entered}
 use Rattle.grid.proofs.running.admitted.Statement.{statement}
 use Rattle.grid.proofs.running.admitted.Tie as tie
 

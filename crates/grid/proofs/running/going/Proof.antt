@@ -6,7 +6,7 @@ use Prim.Native.Nat.{_-_}
 use native.Mathlib.Omega.{arith}
 use Rattle.grid.specs.Halfway.{Alike}
 use Rattle.grid.specs.Turns.{lent}
-use Rattle.grid.proofs.Entries.{sized-alike, alike-sized}
+use Rattle.grid.proofs.Finishes.{alike-sized, like-sized}
 use Rattle.grid.proofs.Runs.{Going, going-first, going-stepping, going-alike, going-on, going-stops, going-ends}
 use Rattle.grid.proofs.running.going.Statement.{statement}
 use Rattle.grid.proofs.running.going.Tie as tie
@@ -40,10 +40,10 @@ before-end d = d .before .before .before .before .before .before .before .before
 -- ---- at the loop's head both sets have the lengths that they had
 module _ (d : tie.At-loop Inv-loop μ-loop) where
   first-same : Alike (lent (entry d .args .flags .now) (entry d .args .parts .now) (entry d .args .mass .now) (entry d .args .fill .now) (entry d .args .carry .now)) (lent (d .loop .flags) (d .loop .parts) (d .loop .mass) (d .loop .fill) (d .loop .carry))
-  first-same = sized-alike _ _ _ (entry d .pre .ready .sized) (d .loop .inv .first)
+  first-same = alike-sized (entry d .pre .ready .sized) (d .loop .inv .first)
 
   second-same : Alike (lent (entry d .args .flags2 .now) (entry d .args .parts2 .now) (entry d .args .mass2 .now) (entry d .args .fill2 .now) (entry d .args .carry2 .now)) (lent (d .loop .flags2) (d .loop .parts2) (d .loop .mass2) (d .loop .fill2) (d .loop .carry2))
-  second-same = sized-alike _ _ _ (alike-sized _ _ _ (entry d .pre .ready .sized) (entry d .pre .alike)) (d .loop .inv .second)
+  second-same = alike-sized (like-sized (entry d .pre .ready .sized) (entry d .pre .alike)) (d .loop .inv .second)
 
 loop-holds : tie.Need-loop-holds Inv-loop μ-loop
 loop-holds c = going-first _ _ _ _ _ _ (c .before .before .before .before .before .pre)

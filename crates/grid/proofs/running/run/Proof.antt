@@ -1,8 +1,7 @@
 -- `grid::running::run`: what does not admit it is answered and nothing is written; else the run of a set that is ready. Assumes nothing.
 use borrow.Author.Needs.{needs}
 use mathlib.Core.Path.{sym, _∙_}
-use Rattle.grid.proofs.Entries.{run-stepping}
-use Rattle.grid.proofs.Runs.{not-admitted, admitted-went}
+use Rattle.grid.proofs.Runs.{run-stepping, not-admitted, admitted-went}
 use Rattle.grid.proofs.running.run.Statement.{statement}
 use Rattle.grid.proofs.running.run.Tie as tie
 
