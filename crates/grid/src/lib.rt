@@ -4,7 +4,6 @@ pub mod cells;
 pub mod checking;
 pub mod convert;
 pub mod copying;
-pub mod entering;
 pub mod entry;
 pub mod extent;
 pub mod filling;
