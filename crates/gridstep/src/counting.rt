@@ -1,0 +1,57 @@
+// What a state's line counts: the cells of a kind, and the masses together.
+use lattice::limits::fair_carry;
+use whole::wide;
+ghost use mathlib.Core.Path.{_≡_};
+ghost use mathlib.Core.Bool.{cond};
+ghost use Prim.Native.Nat.{_≤_};
+ghost use lib.Dec.{eqb};
+ghost use lib.IntN.{pos, natAbs, _+ℤ_};
+ghost use lib.ListN.{length};
+ghost use Rattle.lattice.specs.Cell.{carryGood};
+ghost use Rattle.gridstep.specs.Counts.{cellsWith, massSum};
+
+fn one(flag: u8, wanted: u8) -> usize
+    ensures { λ r. ⌜ r ≡ cond (eqb flag wanted) 1 0 ⌝ }
+{
+    if flag == wanted {
+        return 1;
+    }
+    0
+}
+
+pub fn cells_with(flags: &[u8], wanted: u8) -> usize
+    ensures { λ r. ⌜ r ≡ cellsWith wanted (now (flags .entry)) ⌝ }
+{
+    let mut found = 0;
+    let mut c = 0;
+    while c < flags.len() {
+        found += one(flags[c], wanted);
+        c += 1;
+    }
+    found
+}
+
+fn mass_sum(masses: &[i32]) -> i64
+    requires { ⌜ length (now masses) ≤ 862 ⌝ }
+    ensures { λ r. ⌜ r ≡ massSum (now (masses .entry)) ⌝ }
+    ensures { λ r. ⌜ natAbs r ≤ 1851131068416 ⌝ }
+{
+    let mut sum: i64 = 0;
+    let mut c = 0;
+    while c < masses.len() {
+        sum += wide(masses[c]);
+        c += 1;
+    }
+    sum
+}
+
+// The masses and the carry together. A carry that no accepted record and no step gives is told as no total.
+pub fn total(masses: &[i32], carry: i64) -> i64
+    requires { ⌜ length (now masses) ≤ 862 ⌝ }
+    ensures { λ r. ⌜ r ≡ cond (carryGood carry) (massSum (now (masses .entry)) +ℤ carry) (pos 0) ⌝ }
+{
+    if fair_carry(carry) {
+        return mass_sum(masses) + carry;
+    }
+    0
+}

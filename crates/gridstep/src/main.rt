@@ -1,0 +1,47 @@
+// gridstep: reads one record from standard input, makes one step, and prints what the grid held before and after it.
+mod counting;
+mod playing;
+mod telling;
+
+use console::line;
+use console::room::room;
+use libc::STDIN_FILENO;
+
+// Room for 862 cells: the most whose record, all cells interface, might still be within 65,536 bytes.
+fn play(rec: &[u8]) {
+    let n = room(rec, 862);
+    let mut parts = [0i32; 16378];
+    let mut masses = [0i32; 862];
+    let mut fills = [0u32; 862];
+    let mut carry = [0i64; 1];
+    let mut flags2 = [0u8; 862];
+    let mut parts2 = [0i32; 16378];
+    let mut masses2 = [0i32; 862];
+    let mut fills2 = [0u32; 862];
+    let mut carry2 = [0i64; 1];
+    let mut marks = [0u8; 862];
+    playing::play(
+        rec,
+        &mut parts[..19 * n],
+        &mut masses[..n],
+        &mut fills[..n],
+        &mut carry,
+        &mut flags2[..n],
+        &mut parts2[..19 * n],
+        &mut masses2[..n],
+        &mut fills2[..n],
+        &mut carry2,
+        &mut marks[..n],
+    );
+}
+
+// One byte more than a record may have is read, so that one too long is known.
+fn main() {
+    let mut bytes = [0u8; 65537];
+    let got = io::read_full(STDIN_FILENO, &mut bytes);
+    if got > 65536 {
+        line::answer(b"record", 10, 65536);
+        return;
+    }
+    play(&bytes[..got]);
+}
