@@ -60,7 +60,7 @@ pub(crate) fn first_bad(
 }
 
 // Tests 4 to 6 of a set whose sides and lengths are good.
-pub(crate) fn checked(
+pub fn checked(
     flags: &[u8],
     parts: &[i32],
     masses: &[i32],

@@ -5,7 +5,7 @@ ghost use Prim.Native.Nat.{_*_, _≤_};
 ghost use lib.Dec.{eqb};
 
 // Whether N flags, 19N parts, N masses, N fills and one carry are lent.
-pub(crate) fn good_lengths(
+pub fn good_lengths(
     flags: usize,
     parts: usize,
     masses: usize,
