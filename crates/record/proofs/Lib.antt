@@ -10,3 +10,4 @@ pub mod Taking
 pub mod ReadBy
 pub mod Spanned
 pub mod WrittenBy
+pub mod SameBytes
