@@ -10,10 +10,11 @@ use borrow.Author.Tests.{leb-true}
 use Rattle.grid.specs.declared.Answer.{Answer}
 use Rattle.grid.specs.declared.Answer.the-variants.{Done, Refused}
 use Rattle.grid.specs.Grid.{sidesGood, gridOf}
+use Rattle.grid.specs.State.{Lent}
 use Rattle.grid.specs.Good.{badFlag}
 use Rattle.grid.specs.Outcome.{accepted, orRefuse, ifNone}
 use Rattle.record.specs.Layout.{massesFrom, partsFrom, lengthOf}
-use Rattle.record.specs.Reading.{whole, slicesFit, sidesIn, cellsIn, flagIn, interfacesIn, liquidsIn, shapeAnswer}
+use Rattle.record.specs.Reading.{whole, slicesFit, sidesIn, cellsIn, flagIn, interfacesIn, liquidsIn, shapeAnswer, contentAnswer, readAnswer}
 use Rattle.record.specs.Passes.{Held, Sound}
 use Rattle.record.proofs.Answers.{whole-held, Chain, chain-or, chain-whole, chain-both, chain-then, or-true}
 
@@ -127,3 +128,11 @@ module _ (r : List ℕ) (p m f k : ℕ) where
       let n = cellsIn r in
       let all = chain-both (opens r p m f k) (λ rest. fronts r n (flagged r (ends r n (interfacesIn r) (liquidsIn r) rest))) (chain-opens r p m f k) e in
       opened r p m f k (all .0) .2
+
+-- an accepted record has passed them
+pub shape-accepted : (r : List ℕ) (a : Lent) → accepted (readAnswer r a) ≡ true
+    → accepted (shapeAnswer r (length (a .parts)) (length (a .masses)) (length (a .fills)) (length (a .carry)) Done) ≡ true
+unfolding readAnswer
+shape-accepted r a e =
+    chain-both (shapeAnswer r (length (a .parts)) (length (a .masses)) (length (a .fills)) (length (a .carry))) (λ rest. contentAnswer r)
+    (chain-shape r (length (a .parts)) (length (a .masses)) (length (a .fills)) (length (a .carry))) e .0
