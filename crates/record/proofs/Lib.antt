@@ -11,3 +11,4 @@ pub mod ReadBy
 pub mod Spanned
 pub mod WrittenBy
 pub mod SameBytes
+pub mod ReadBack
