@@ -12,3 +12,4 @@ pub mod Spanned
 pub mod WrittenBy
 pub mod SameBytes
 pub mod ReadBack
+pub mod Unique
