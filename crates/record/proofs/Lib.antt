@@ -10,5 +10,6 @@ pub mod Taking
 pub mod ReadBy
 pub mod Spanned
 pub mod WrittenBy
-pub mod Unique
 pub mod SameBytes
+pub mod ReadBack
+pub mod Unique

@@ -6,7 +6,7 @@ use mathlib.Core.List.{List}
 use Prim.Native.Nat.{ℕ, _+_, _*_, _≤_}
 use lib.Dec.{leb}
 use lib.ListN.{length}
-use borrow.Author.Tests.{leb-true}
+use borrow.Author.Tests.{leb-true, le-leb}
 use Rattle.grid.specs.declared.Answer.{Answer}
 use Rattle.grid.specs.declared.Answer.the-variants.{Done, Refused}
 use Rattle.grid.specs.Grid.{sidesGood, gridOf}
@@ -16,7 +16,7 @@ use Rattle.grid.specs.Outcome.{accepted, orRefuse, ifNone}
 use Rattle.record.specs.Layout.{massesFrom, partsFrom, lengthOf}
 use Rattle.record.specs.Reading.{whole, slicesFit, sidesIn, cellsIn, flagIn, interfacesIn, liquidsIn, shapeAnswer, contentAnswer, readAnswer}
 use Rattle.record.specs.Passes.{Held, Sound}
-use Rattle.record.proofs.Answers.{whole-held, Chain, chain-or, chain-whole, chain-both, chain-then, or-true}
+use Rattle.record.proofs.Answers.{whole-held, Chain, chain-or, chain-whole, chain-both, chain-then, or-true, or-pass, whole-there}
 
 -- ---- the four groups
 abbrev pub opens : List ℕ → ℕ → ℕ → ℕ → ℕ → Answer → Answer
@@ -136,3 +136,25 @@ unfolding readAnswer
 shape-accepted r a e =
     chain-both (shapeAnswer r (length (a .parts)) (length (a .masses)) (length (a .fills)) (length (a .carry))) (λ rest. contentAnswer r)
     (chain-shape r (length (a .parts)) (length (a .masses)) (length (a .fills)) (length (a .carry))) e .0
+
+-- and a record that holds them passes
+pub shape-passes : (r : List ℕ) (p m f k : ℕ) (rest : Answer) → Sound r → slicesFit (cellsIn r) p m f k ≡ true → shapeAnswer r p m f k rest ≡ rest
+unfolding shapeAnswer
+shape-passes r p m f k rest s fit =
+    let n = cellsIn r in
+    let i = interfacesIn r in
+    let l = liquidsIn r in
+    let place = badFlag (gridOf (sidesIn r)) (flagIn r) in
+    let last = orRefuse (leb (length r) (lengthOf n i l)) 10 (lengthOf n i l) rest in
+    let back = flagged r (ends r n i l rest) in
+    whole-there r 1 0 3 4 _ (s .first)
+    ∙ or-pass 1 0 _ (s .sides)
+    ∙ or-pass 2 0 (fronts r n back) fit
+    ∙ whole-there r 2 16 5 4 _ (s .settings)
+    ∙ whole-there r 3 40 3 8 _ (s .origin)
+    ∙ whole-there r 4 68 1 8 _ (s .carry)
+    ∙ whole-there r 5 80 n 1 back (s .flags)
+    ∙ or-pass 4 place (ends r n i l rest) (le-leb n place (s .tested))
+    ∙ whole-there r 6 (massesFrom n) i 4 _ (s .masses)
+    ∙ whole-there r 7 (partsFrom n i) (19 * l) 4 last (s .parts)
+    ∙ or-pass 10 (lengthOf n i l) rest (le-leb (length r) (lengthOf n i l) (s .end))

@@ -27,7 +27,7 @@ use Rattle.grid.specs.Good.{badFlag, badFluid, badRule}
 use Rattle.grid.specs.Outcome.{accepted, orRefuse, ifNone, goodAnswer, lengthsGood, settingsGood}
 use Rattle.grid.specs.Between.{Sized}
 use Rattle.grid.proofs.Prepared.{sized}
-use Rattle.grid.proofs.Accepted.{accepted-done}
+use Rattle.grid.proofs.Accepted.{accepted-done, done-accepted}
 use Rattle.record.specs.declared.Site.{Site}
 use Rattle.record.specs.declared.Written.{Written}
 use Rattle.record.specs.Layout.{siteGood, Small, recordOf, recordLength}
@@ -150,3 +150,7 @@ module _ (s : Sides) (g : Settings) (t : Site) (a : Lent) where
           answer-is = rw done (ap (λ (k : ℕ). record { answer = Done; bytes = k }) is);
           room-is = rw done (e ∙ front-put room (recordOf s g t a) (omega arith) ∙ ap (λ (k : ℕ). recordOf s g t a ++ drop k room) long);
         }
+
+    -- what an accepted write has shown
+    pub write-fit : writeAnswer s g t a room ≡ Done → Fit
+    write-fit e = fit (chain-both fits (λ rest. last) chain-fits (done-accepted (fits last) (sym answer-is ∙ e)) .0)

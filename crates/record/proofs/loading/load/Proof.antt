@@ -145,7 +145,7 @@ module _ {M : Type 1} (𝓤 : URA M) (H : Heap 𝓤) (A : Atoms 𝓤) (W : Given
 
   shut-at : (an : Answer) (s : Sides) (g : Settings) (t : Site) (f : RefT (List ℕ))
       → ent 𝓤 (sem 𝓤 H A (fsep (D.the-row .own (record { answer = an; sides = s; settings = g; site = t }) (D′.lowered (record { answer = an; sides = s; settings = g; site = t }) ∷ [])) (fsep (ShrSlice (named 0) κ u8 .own f (v f ∷ [])) ftrue)))
-        (sem 𝓤 H A (L.the-row α .own (made (record { answer = an; sides = s; settings = g; site = t }) f) (L′.lowered (made (record { answer = an; sides = s; settings = g; site = t }) f) ∷ [])))
+      (sem 𝓤 H A (L.the-row α .own (made (record { answer = an; sides = s; settings = g; site = t }) f) (L′.lowered (made (record { answer = an; sides = s; settings = g; site = t }) f) ∷ [])))
   shut-at Done s g t f = own-shut 𝓤 H A W (L.the-type α) (L′.the-laws α) (record { answer = Done; sides = s; settings = g; site = t }, (f, tt))
   shut-at (Refused n p) s g t f = own-shut 𝓤 H A W (L.the-type α) (L′.the-laws α) (record { answer = Refused n p; sides = s; settings = g; site = t }, (f, tt))
 
@@ -204,7 +204,7 @@ module _ {M : Type 1} (𝓤 : URA M) (H : Heap 𝓤) (A : Atoms 𝓤) (W : Given
         rewrite ! 24 (λ (u : Val). ‵ (fat fullShare (sliceTy (tyRef erased imm (tyInt w8))) l7 0 u)) (ap only (shr-slice-tells (named 0) κ u8 f _ is′)) refl $ rewrite ! 0 (λ (us : List Val). ‵ (ShrSlice (named 0) κ u8 .own f us)) (shr-slice-tells (named 0) κ u8 f _ is′) refl $
         -- [what flags owns; the token; what rec owns; the other tokens; the last lists; _15; …]
         assigns ! (agg ! (and-then ! (load ! (from ! (stop !)) (look ! 26 refl)) (and-then ! (load ! (from ! (stop !)) (look ! 24 refl)) (no-more !)))) (from ! (stop !)) (init ! 38 refl (typed-at (h .answer) (h .sides) (h .settings) (h .site) f, (LL.lawful D.the-type D′.the-laws 𝓤 H A W .typed h _ (whole-head h w is) .0 .1, (shr-slice-lawful 𝓤 H A W (named 0) κ u8 .typed f (v f ∷ []) (whole-flags f u is′) .0 .1, tt)))) $
-        returns ! (look ! 38 refl) $ forget ! 8 refl $ forget ! 10 refl $ forget ! 12 refl $ forget ! 14 refl $ forget ! 16 refl $ forget ! 18 refl $ forget ! 20 refl $ forget ! 22 refl $ forget ! 24 refl $ forget ! 26 refl $ forget ! 28 refl $ forget ! 30 refl $ forget ! 32 refl $ forget ! 34 refl $ forget ! 36 refl $ forget ! 38 refl $ 
+        returns ! (look ! 38 refl) $ forget ! 8 refl $ forget ! 10 refl $ forget ! 12 refl $ forget ! 14 refl $ forget ! 16 refl $ forget ! 18 refl $ forget ! 20 refl $ forget ! 22 refl $ forget ! 24 refl $ forget ! 26 refl $ forget ! 28 refl $ forget ! 30 refl $ forget ! 32 refl $ forget ! 34 refl $ forget ! 36 refl $ forget ! 38 refl $
         move ! (38 ∷ 39 ∷ []) $ free1 ! $ move ! (36 ∷ 37 ∷ []) $ free1 ! $ move ! (34 ∷ 35 ∷ []) $ free1 ! $ move ! (32 ∷ 33 ∷ []) $ free1 ! $ move ! (30 ∷ 31 ∷ []) $ free1 ! $ move ! (28 ∷ 29 ∷ []) $ free1 ! $ move ! (26 ∷ 27 ∷ []) $ free1 ! $ move ! (24 ∷ 25 ∷ []) $ free1 ! $ move ! (22 ∷ 23 ∷ []) $ free1 ! $ move ! (20 ∷ 21 ∷ []) $ free1 ! $ move ! (18 ∷ 19 ∷ []) $ free1 ! $ move ! (16 ∷ 17 ∷ []) $ free1 ! $ move ! (14 ∷ 15 ∷ []) $ free1 ! $ move ! (12 ∷ 13 ∷ []) $ free1 ! $ move ! (10 ∷ 11 ∷ []) $ free1 ! $ move ! (8 ∷ 9 ∷ []) $ free1 ! $ free0 ! $
         by ! (exits h f zs (whole-head h w is) e e′ m1 m2 m3 m4))))))))))))))))))))))))))))))
 
