@@ -11,5 +11,6 @@ pub mod ReadBy
 pub mod Spanned
 pub mod WrittenBy
 pub mod SameBytes
+pub mod WrittenAgain
 pub mod ReadBack
 pub mod Unique

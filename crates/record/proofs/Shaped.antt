@@ -13,6 +13,7 @@ use Rattle.grid.specs.Grid.{sidesGood, gridOf}
 use Rattle.grid.specs.State.{Lent}
 use Rattle.grid.specs.Good.{badFlag}
 use Rattle.grid.specs.Outcome.{accepted, orRefuse, ifNone}
+use Rattle.grid.proofs.Accepted.{accepted-done}
 use Rattle.record.specs.Layout.{massesFrom, partsFrom, lengthOf}
 use Rattle.record.specs.Reading.{whole, slicesFit, sidesIn, cellsIn, flagIn, interfacesIn, liquidsIn, shapeAnswer, contentAnswer, readAnswer}
 use Rattle.record.specs.Passes.{Held, Sound}
@@ -136,6 +137,13 @@ unfolding readAnswer
 shape-accepted r a e =
     chain-both (shapeAnswer r (length (a .parts)) (length (a .masses)) (length (a .fills)) (length (a .carry))) (λ rest. contentAnswer r)
     (chain-shape r (length (a .parts)) (length (a .masses)) (length (a .fills)) (length (a .carry))) e .0
+
+pub content-accepted : (r : List ℕ) (a : Lent) → accepted (readAnswer r a) ≡ true → contentAnswer r ≡ Done
+unfolding readAnswer
+content-accepted r a e =
+    accepted-done (contentAnswer r)
+    (chain-both (shapeAnswer r (length (a .parts)) (length (a .masses)) (length (a .fills)) (length (a .carry))) (λ rest. contentAnswer r)
+    (chain-shape r (length (a .parts)) (length (a .masses)) (length (a .fills)) (length (a .carry))) e .1)
 
 -- and a record that holds them passes
 pub shape-passes : (r : List ℕ) (p m f k : ℕ) (rest : Answer) → Sound r → slicesFit (cellsIn r) p m f k ≡ true → shapeAnswer r p m f k rest ≡ rest
