@@ -62,6 +62,7 @@ pub mod Strays
 pub mod Impacts
 pub mod Handed
 pub mod Walked
+pub mod Runs
 pub mod Turns
 pub mod Converts
 pub mod Uncarried

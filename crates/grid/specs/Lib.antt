@@ -17,4 +17,5 @@ pub mod Sources
 pub mod PutAt
 pub mod Halfway
 pub mod Flowed
+pub mod Turns
 pub mod Finished

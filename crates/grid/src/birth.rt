@@ -185,7 +185,7 @@ fn visit(
 }
 
 // The parts of every cell that was empty and is interface; whether all of them keep the rules of a liquid cell.
-pub fn newborn(
+pub(crate) fn newborn(
     flags: &[u8],
     parts: &[i32],
     flags2: &[u8],

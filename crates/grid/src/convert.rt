@@ -30,7 +30,7 @@ fn kind_after(f: u8, m: u8, filled: bool, emptied: bool) -> u8
 }
 
 // Pass 3: the new flags. The second set's are a copy of the old ones; the first and the last cells, all wall, are left as they are.
-pub fn new_flags(flags: &[u8], marks: &[u8], next: &mut [u8], s: Sides)
+pub(crate) fn new_flags(flags: &[u8], marks: &[u8], next: &mut [u8], s: Sides)
     requires { ⌜ Marked s (now flags) (now marks) × (now next ≡ now flags) ⌝ }
     ensures { λ r. ⌜ now (next .exit) ≡ tab (cellsOf s) (turnedFlag s (now (flags .entry)) (now (marks .entry))) ⌝ }
 {

@@ -33,7 +33,7 @@ fn fair_for(f: u8, m: i32) -> bool
 }
 
 // The fill of every cell; whether every interface cell's mass is in its range.
-pub fn new_fills(flags: &[u8], parts: &[i32], mass: &[i32], fill: &mut [u32]) -> bool
+pub(crate) fn new_fills(flags: &[u8], parts: &[i32], mass: &[i32], fill: &mut [u32]) -> bool
     requires { ⌜ Fillable (now flags) (now parts) (now mass) × (length (now fill) ≡ length (now flags)) ⌝ }
     ensures { λ r. ⌜ Refilled (now (flags .entry)) (now (parts .entry)) (now (mass .entry)) (now (fill .exit)) r ⌝ }
 {

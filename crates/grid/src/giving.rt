@@ -30,7 +30,7 @@ fn opposite(i: usize) -> usize
 }
 
 // The excess of cell c with mark m: mass less density for a filled cell, the mass for an emptied one.
-pub fn excess(parts: &[i32], masses: &[i32], m: u8, c: usize) -> i64
+pub(crate) fn excess(parts: &[i32], masses: &[i32], m: u8, c: usize) -> i64
     requires { ⌜ Weighed (now parts) (now masses) c ⌝ }
     ensures { λ r. ⌜ r ≡ excessAt (now (parts .entry)) (now (masses .entry)) m c ⌝ }
 {
@@ -116,7 +116,14 @@ fn gifts(
 }
 
 // Pass 6: each interface cell takes what its converted neighbours give. It reads masses of converted cells and writes others.
-pub fn gather(flags: &[u8], fill: &[u32], parts: &[i32], masses: &mut [i32], marks: &[u8], s: Sides)
+pub(crate) fn gather(
+    flags: &[u8],
+    fill: &[u32],
+    parts: &[i32],
+    masses: &mut [i32],
+    marks: &[u8],
+    s: Sides,
+)
     requires { ⌜ Gathering s (now flags) (now fill) (now parts) (now masses) (now marks) ⌝ }
     ensures { λ r. ⌜ now (masses .exit) ≡ tab (cellsOf s) (gatheredAt (now (flags .entry)) (now (fill .entry)) (now (parts .entry)) (now (masses .entry)) (now (marks .entry)) (tab 19 (offsetOf s)) (lowOf s)) ⌝ }
 {

@@ -17,6 +17,7 @@ pub mod marks;
 pub mod moving;
 pub mod neighbours;
 pub mod passing;
+pub mod running;
 pub mod sets;
 pub mod settling;
 pub mod stepping;

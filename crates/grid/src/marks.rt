@@ -18,7 +18,7 @@ fn open_mark(f: u8, walled: bool) -> u8
 }
 
 // Pass 0: marks 1 at fluid cells with no wall beside them.
-pub fn mark_open(flags: &[u8], marks: &mut [u8], s: Sides)
+pub(crate) fn mark_open(flags: &[u8], marks: &mut [u8], s: Sides)
     requires { ⌜ (sidesGood s ≡ true) × (length (now flags) ≡ cellsOf s) × (length (now marks) ≡ cellsOf s) ⌝ }
     ensures { λ r. ⌜ now (marks .exit) ≡ tab (cellsOf s) (openedMark s (now (flags .entry)) (now (marks .entry))) ⌝ }
 {
@@ -42,7 +42,7 @@ fn kept(filled: bool) -> u8
 }
 
 // Pass 2: a cell to be emptied beside a filled one is let off.
-pub fn settle_marks(marks: &mut [u8], s: Sides)
+pub(crate) fn settle_marks(marks: &mut [u8], s: Sides)
     requires { ⌜ Emptying s (now marks) ⌝ }
     ensures { λ r. ⌜ now (marks .exit) ≡ tab (cellsOf s) (keptMark s (now (marks .entry))) ⌝ }
 {

@@ -57,7 +57,7 @@ fn put_moved(f: [i32; 19], parts2: &mut [i32], c: usize, g: Settings) -> Put
 }
 
 // Stages 1 to 4 of cell c: zeros where it is not liquid.
-pub fn put_parts(
+pub(crate) fn put_parts(
     flags: &[u8],
     parts: &[i32],
     parts2: &mut [i32],

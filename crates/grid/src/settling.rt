@@ -20,7 +20,7 @@ fn settle_cell(parts: &mut [i32], masses: &mut [i32], c: usize, m: u8)
 }
 
 // Every marked cell is settled.
-pub fn settle(parts: &mut [i32], masses: &mut [i32], marks: &mut [u8])
+pub(crate) fn settle(parts: &mut [i32], masses: &mut [i32], marks: &mut [u8])
     requires { ⌜ Settling (now parts) (now masses) (now marks) ⌝ }
     ensures { λ r. ⌜ Settled (now (parts .entry)) (now (masses .entry)) (now (marks .entry)) (now (parts .exit)) (now (masses .exit)) (now (marks .exit)) ⌝ }
 {

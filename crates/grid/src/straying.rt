@@ -36,7 +36,7 @@ fn lost(
 }
 
 // Pass 5: the carry, before any mass changes.
-pub fn new_carry(
+pub(crate) fn new_carry(
     flags: &[u8],
     parts: &[i32],
     masses: &[i32],

@@ -19,7 +19,7 @@ ghost use Rattle.grid.specs.Sight.{flowing, noSettings, sight, Bodied, A
 ghost use Rattle.grid.specs.Sources.{Mirrored, sourceOf, Immersed, Beside};
 
 // Where part i that streams straight into a cell lies, counted from the first part of the cell c - low.
-pub fn sources(off: [usize; 19], low: usize) -> [usize; 19]
+pub(crate) fn sources(off: [usize; 19], low: usize) -> [usize; 19]
     requires { ⌜ Mirrored off low ⌝ }
     ensures { λ r. ⌜ r ≡ tab 19 (sourceOf off) ⌝ }
 {
@@ -71,7 +71,13 @@ fn arriving(
 }
 
 // The parts that stream into a liquid cell. By pairs, so that the loop unrolls whole.
-pub fn streamed(flags: &[u8], parts: &[i32], off: &[usize; 19], low: usize, c: usize) -> [i32; 19]
+pub(crate) fn streamed(
+    flags: &[u8],
+    parts: &[i32],
+    off: &[usize; 19],
+    low: usize,
+    c: usize,
+) -> [i32; 19]
     requires { ⌜ Bodied (now flags) (now parts) × Around (length (now flags)) (now off) low c × (liquid (getD (now flags) c 3) ≡ true) ⌝ }
     ensures { λ r. ⌜ r ≡ tab 19 (streamed (sight (flowing (now (flags .entry)) (now (parts .entry))) (now (off .entry)) low noSettings) c) ⌝ }
 {
@@ -90,7 +96,7 @@ pub fn streamed(flags: &[u8], parts: &[i32], off: &[usize; 19], low: usize, c: u
 }
 
 // The same, the short way where the mark of pass 0 says that the cell has liquid all around.
-pub fn chosen(
+pub(crate) fn chosen(
     flags: &[u8],
     parts: &[i32],
     mark: u8,

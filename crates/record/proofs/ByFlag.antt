@@ -1,6 +1,6 @@
 -- What goes by a flag, where the flag is known to be of a kind: dry, liquid, interface, fluid. Assumes nothing.
 use mathlib.Core.Path.{_≡_, refl, sym, ap, _∙_}
-use mathlib.Core.Bool.{Bool, true, false, cond}
+use mathlib.Core.Bool.{Bool, true, false, cond, false≢true}
 use mathlib.Core.List.{List}
 use Prim.Native.Nat.{ℕ, zero, suc, _+_, _*_, _<_}
 use native.Mathlib.Omega.{arith}
@@ -50,6 +50,12 @@ wet zero h = absurd (h refl)
 wet (suc zero) h = refl
 wet (suc (suc zero)) h = refl
 wet (suc (suc (suc f))) h = absurd (h refl)
+
+pub by-liquid : (f : ℕ) (z : ℤ) → liquid f ≡ true → byFlag f (pos 0) z z (pos 0) ≡ z
+by-liquid zero z e = absurd (false≢true e)
+by-liquid (suc zero) z e = refl
+by-liquid (suc (suc zero)) z e = refl
+by-liquid (suc (suc (suc f))) z e = absurd (false≢true e)
 
 -- a fill asks for the density of an interface cell alone
 pub fill-twice : (f : ℕ) (m ρ : ℤ) → fillFor f m (byFlag f (pos 0) ρ ρ (pos 0)) ≡ fillFor f m ρ

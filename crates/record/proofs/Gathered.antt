@@ -101,7 +101,7 @@ unfolding massBytes interfaces
 length-masses n flag mass =
     length-gathered 4 n (λ c. byFlag (flag c) [] (i32Of (mass c)) [] []) (λ c. eqb (flag c) 1) (λ c. length-mass (flag c) (mass c))
 
-length-some : (n : ℕ) (part : ℕ → ℤ) → length (gathered n (λ k. i32Of (part k))) ≡ 4 * n
+pub length-some : (n : ℕ) (part : ℕ → ℤ) → length (gathered n (λ k. i32Of (part k))) ≡ 4 * n
 unfolding gathered
 length-some zero part = refl
 length-some (suc n) part =

@@ -9,3 +9,8 @@ pub mod ByFlag
 pub mod Taking
 pub mod ReadBy
 pub mod Spanned
+pub mod WrittenBy
+pub mod SameBytes
+pub mod WrittenAgain
+pub mod ReadBack
+pub mod Unique

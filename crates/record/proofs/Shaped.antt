@@ -6,16 +6,18 @@ use mathlib.Core.List.{List}
 use Prim.Native.Nat.{ℕ, _+_, _*_, _≤_}
 use lib.Dec.{leb}
 use lib.ListN.{length}
-use borrow.Author.Tests.{leb-true}
+use borrow.Author.Tests.{leb-true, le-leb}
 use Rattle.grid.specs.declared.Answer.{Answer}
 use Rattle.grid.specs.declared.Answer.the-variants.{Done, Refused}
 use Rattle.grid.specs.Grid.{sidesGood, gridOf}
+use Rattle.grid.specs.State.{Lent}
 use Rattle.grid.specs.Good.{badFlag}
 use Rattle.grid.specs.Outcome.{accepted, orRefuse, ifNone}
+use Rattle.grid.proofs.Accepted.{accepted-done}
 use Rattle.record.specs.Layout.{massesFrom, partsFrom, lengthOf}
-use Rattle.record.specs.Reading.{whole, slicesFit, sidesIn, cellsIn, flagIn, interfacesIn, liquidsIn, shapeAnswer}
+use Rattle.record.specs.Reading.{whole, slicesFit, sidesIn, cellsIn, flagIn, interfacesIn, liquidsIn, shapeAnswer, contentAnswer, readAnswer}
 use Rattle.record.specs.Passes.{Held, Sound}
-use Rattle.record.proofs.Answers.{whole-held, Chain, chain-or, chain-whole, chain-both, chain-then, or-true}
+use Rattle.record.proofs.Answers.{whole-held, Chain, chain-or, chain-whole, chain-both, chain-then, or-true, or-pass, whole-there}
 
 -- ---- the four groups
 abbrev pub opens : List ℕ → ℕ → ℕ → ℕ → ℕ → Answer → Answer
@@ -127,3 +129,40 @@ module _ (r : List ℕ) (p m f k : ℕ) where
       let n = cellsIn r in
       let all = chain-both (opens r p m f k) (λ rest. fronts r n (flagged r (ends r n (interfacesIn r) (liquidsIn r) rest))) (chain-opens r p m f k) e in
       opened r p m f k (all .0) .2
+
+-- an accepted record has passed them
+pub shape-accepted : (r : List ℕ) (a : Lent) → accepted (readAnswer r a) ≡ true
+    → accepted (shapeAnswer r (length (a .parts)) (length (a .masses)) (length (a .fills)) (length (a .carry)) Done) ≡ true
+unfolding readAnswer
+shape-accepted r a e =
+    chain-both (shapeAnswer r (length (a .parts)) (length (a .masses)) (length (a .fills)) (length (a .carry))) (λ rest. contentAnswer r)
+    (chain-shape r (length (a .parts)) (length (a .masses)) (length (a .fills)) (length (a .carry))) e .0
+
+pub content-accepted : (r : List ℕ) (a : Lent) → accepted (readAnswer r a) ≡ true → contentAnswer r ≡ Done
+unfolding readAnswer
+content-accepted r a e =
+    accepted-done (contentAnswer r)
+    (chain-both (shapeAnswer r (length (a .parts)) (length (a .masses)) (length (a .fills)) (length (a .carry))) (λ rest. contentAnswer r)
+    (chain-shape r (length (a .parts)) (length (a .masses)) (length (a .fills)) (length (a .carry))) e .1)
+
+-- and a record that holds them passes
+pub shape-passes : (r : List ℕ) (p m f k : ℕ) (rest : Answer) → Sound r → slicesFit (cellsIn r) p m f k ≡ true → shapeAnswer r p m f k rest ≡ rest
+unfolding shapeAnswer
+shape-passes r p m f k rest s fit =
+    let n = cellsIn r in
+    let i = interfacesIn r in
+    let l = liquidsIn r in
+    let place = badFlag (gridOf (sidesIn r)) (flagIn r) in
+    let last = orRefuse (leb (length r) (lengthOf n i l)) 10 (lengthOf n i l) rest in
+    let back = flagged r (ends r n i l rest) in
+    whole-there r 1 0 3 4 _ (s .first)
+    ∙ or-pass 1 0 _ (s .sides)
+    ∙ or-pass 2 0 (fronts r n back) fit
+    ∙ whole-there r 2 16 5 4 _ (s .settings)
+    ∙ whole-there r 3 40 3 8 _ (s .origin)
+    ∙ whole-there r 4 68 1 8 _ (s .carry)
+    ∙ whole-there r 5 80 n 1 back (s .flags)
+    ∙ or-pass 4 place (ends r n i l rest) (le-leb n place (s .tested))
+    ∙ whole-there r 6 (massesFrom n) i 4 _ (s .masses)
+    ∙ whole-there r 7 (partsFrom n i) (19 * l) 4 last (s .parts)
+    ∙ or-pass 10 (lengthOf n i l) rest (le-leb (length r) (lengthOf n i l) (s .end))

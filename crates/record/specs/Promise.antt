@@ -7,12 +7,17 @@ use denote.Ref.{RefT, now}
 use lib.Dec.{leb}
 use lib.IntN.{ℤ}
 use lib.ListN.{take, drop}
+use Rattle.lattice.specs.declared.Settings.{Settings}
+use Rattle.grid.specs.declared.Sides.{Sides}
 use Rattle.grid.specs.Grid.{sidesGood, cellsOf}
 use Rattle.grid.specs.Outcome.{accepted}
 use Rattle.grid.specs.State.{Lent}
+use Rattle.record.specs.declared.Site.{Site}
+use Rattle.record.specs.declared.Written.{Written}
 use Rattle.record.specs.declared.Head.{Head}
 use Rattle.record.specs.declared.Span.{Span}
 use Rattle.record.specs.Reading.{readHead, readSet}
+use Rattle.record.specs.Writing.{written, writtenRoom}
 
 -- the set that the reader is lent lacks the flags
 abbrev pub flagless : List ℤ → List ℤ → List ℕ → List ℤ → Lent
@@ -36,3 +41,8 @@ pub record Own (s : RefT (List ℕ)) (p : Span) (r : RefT (List ℕ)) : Type 0 w
   pub bytes : now r ≡ take (p .to - p .from) (drop (p .from) (now s))
   pub block : r .ptr .0 ≡ s .ptr .0
   pub place : r .ptr .1 ≡ s .ptr .1 + p .from
+
+-- the writer: its answer with the record's length, and the room
+pub record Wrote (s : Sides) (g : Settings) (t : Site) (a : Lent) (room : List ℕ) (answer : Written) (after : List ℕ) : Type 0 where
+  pub answer-is : answer ≡ written s g t a room
+  pub room-is : after ≡ writtenRoom s g t a room

@@ -7,6 +7,7 @@ pub mod flags;
 mod front;
 mod given;
 mod load;
+pub mod loading;
 mod number;
 mod put;
 pub mod reader;
@@ -34,6 +35,12 @@ pub struct Head {
     pub sides: Sides,
     pub settings: Settings,
     pub site: Site,
+}
+
+// What the reader hands back: its answer, and the flag section, a part of the caller's own bytes.
+pub struct Loaded<'a> {
+    pub head: Head,
+    pub flags: &'a [u8],
 }
 
 // What the writer answers, with the length of the record; 0 beside a refusal.

@@ -1,0 +1,525 @@
+-- What the writer writes from a good grid, the reader reads back as that grid: the same sides, settings and origin, and the same five lists, into any
+-- slices of the right lengths. The one idea: the record is its sections one after the other, so each number is read where it was put; that a good
+-- state's numbers fit their bytes is what its rules say. Assumes nothing.
+use mathlib.Core.Path.{_≡_, refl, sym, ap, ap₂, _∙_, subst}
+use mathlib.Core.Bool.{Bool, true, false, not, cond, _&&_, false≢true}
+use mathlib.Core.List.{List, [], _∷_, _++_, append-assoc, append-nil}
+use mathlib.Core.Logic.{_⊎_, inl, inr}
+use Prim.Native.Nat.{ℕ, zero, suc, _+_, _*_, _^_, _≤_, _<_}
+use native.Mathlib.Nat.{eq-or-lt-of-le, le-of-suc-le-suc, not-suc-le-zero, le-trans, le-of-eq}
+use native.Mathlib.Omega.{arith}
+use lib.Dec.{eqb, leb}
+use lib.IntN.{ℤ, pos, negsuc, natAbs}
+use lib.Signed.{leZ}
+use lib.ListN.{length, getD, take, drop, length-append}
+use lib.Seq.{take-at, drop-at}
+use borrow.Author.Tests.{leb-true, eq-eqb, not-false}
+use mir.Syntax.{w32, w64}
+use mir.Val.{SFits, toZ, ofZ}
+use Rattle.whole.specs.Bools.{and-left, and-right}
+use Rattle.whole.specs.Bounds.{fits-abs}
+use Rattle.whole.specs.Fold.{all}
+use Rattle.whole.specs.Machine.{Within}
+use Rattle.whole.specs.Search.{all-at, first-none}
+use Rattle.whole.specs.Tab.{upto-all}
+use Rattle.lattice.specs.Lattice.{d3q19, density}
+use Rattle.lattice.specs.Cell.{edgeGood, coordinateGood, carryGood}
+use Rattle.lattice.specs.declared.Settings.{Settings}
+use Rattle.lattice.proofs.Ranges.{between}
+use Rattle.grid.specs.declared.Sides.{Sides}
+use Rattle.grid.specs.declared.Answer.the-variants.{Done}
+use Rattle.grid.specs.Grid.{cellsOf, sidesGood, gridOf, box}
+use Rattle.grid.specs.Good.{eqZ, dryGood, interfaceGood, fluidGood, fillGood, cellGood, badFlag, badFluid, badRule}
+use Rattle.grid.specs.Demands.{Same}
+use Rattle.grid.specs.Outcome.{accepted, ifNone, goodAnswer, settingsGood}
+use Rattle.grid.specs.Sight.{Body}
+use Rattle.grid.specs.Step.{fillFor}
+use Rattle.grid.specs.State.{Lent, State, stateOf, lentOf, byFlag, liquid}
+use Rattle.grid.specs.Passes.{flagOf}
+use Rattle.grid.proofs.Accepted.{done-accepted, skip, none-found, cell-good, sound, eqZ-true}
+use Rattle.grid.proofs.Blocks.{blocks-all}
+use Rattle.grid.proofs.Prepared.{cell-body, cell-mass, cell-fill}
+use Rattle.grid.proofs.Same.{density-same, bad-rule-same}
+use Rattle.grid.proofs.GoodSides.{GoodSides, good-sides}
+use Rattle.record.specs.declared.Site.{Site}
+use Rattle.record.specs.declared.Head.{Head}
+use Rattle.record.specs.Bytes.{bytesOf, value, part, u32At, i32At, i64At, u32Of, i32Of, i64Of, join, gathered}
+use Rattle.record.specs.Layout.{siteGood, section, interfaces, liquids, massBytes, cellBytes, partBytes, massesFrom, partsFrom, lengthOf, headBytes, cellsBytes, recordOf, recordLength}
+use Rattle.record.specs.Reading.{sidesIn, settingsIn, siteIn, carryIn, cellsIn, flagsIn, flagIn, interfacesIn, liquidsIn, slicesFit, contentAnswer, massAt, partAt, massIn, partIn, stateIn, readAnswer, readHead, readFlags, readSet}
+use Rattle.record.specs.Writing.{writeAnswer}
+use Rattle.record.specs.Passes.{Held, Sound}
+use Rattle.record.proofs.Numbers.{value-bytesOf, back, length-bytesOf}
+use Rattle.record.proofs.Gathered.{interfaces-most, liquids-most, length-masses, length-parts, length-cell, length-some}
+use Rattle.record.proofs.Assembled.{length-section, length-head, length-record}
+use Rattle.record.proofs.WrittenBy.{Fit, small, write-fit}
+use Rattle.record.proofs.Answers.{or-pass}
+use Rattle.record.proofs.Shaped.{shape-passes}
+
+-- the claim
+abbrev pub Claim : Type 0
+Claim =
+    (s : Sides) (g : Settings) (t : Site) (a : Lent) (room : List ℕ) (b : Lent) → writeAnswer s g t a room ≡ Done
+    → slicesFit (cellsOf s) (length (b .parts)) (length (b .masses)) (length (b .fills)) (length (b .carry)) ≡ true
+    → (readHead (recordOf s g t a) b ≡ record { answer = Done; sides = s; settings = g; site = t })
+    × (readFlags (recordOf s g t a) b ≡ a .flags)
+    × (readSet (recordOf s g t a) b ≡ a)
+
+-- ---- what stands where
+look : (p b q r : List ℕ) (at k : ℕ) → r ≡ p ++ (b ++ q) → length p ≡ at → length b ≡ k → part k at r ≡ b
+look p b q r at k e l m =
+    ap (part k at) e ∙ ap (take k) (drop-at p (b ++ q) at l) ∙ take-at b q k m
+
+-- what a cell gave stands behind what the cells before it gave
+record Split (whole before here : List ℕ) : Type 0 where
+  rest : List ℕ
+  is : whole ≡ before ++ (here ++ rest)
+
+split : (n c : ℕ) (f : ℕ → List ℕ) (z : List ℕ) → c < n → Split (gathered n f ++ z) (gathered c f) (f c)
+unfolding gathered
+split zero c f z h = absurd (not-suc-le-zero h)
+split (suc n) c f z h = go (eq-or-lt-of-le (le-of-suc-le-suc h)) (λ k. split n c f (f n ++ z) k)
+  where
+    go : (c ≡ n) ⊎ (c < n) → (c < n → Split (gathered n f ++ (f n ++ z)) (gathered c f) (f c)) → Split ((gathered n f ++ f n) ++ z) (gathered c f) (f c)
+    go (inl e) r = record { rest = z; is = append-assoc (gathered n f) (f n) z ∙ ap (λ (k : ℕ). gathered k f ++ (f k ++ z)) (sym e) }
+    go (inr k) r = let w = r k in record { rest = w .rest; is = append-assoc (gathered n f) (f n) z ∙ w .is }
+
+-- ---- sections 1 to 4: their numbers, whatever follows
+module _ (s : Sides) (g : Settings) (t : Site) (k : ℤ) (y : List ℕ) where
+  abbrev h : List ℕ
+  h = headBytes s g t k ++ y
+
+  counts : (u32At h 0 ≡ 3) × (u32At h 16 ≡ 5) × (u32At h 40 ≡ 3) × (u32At h 68 ≡ 1)
+  unfolding headBytes join bytesOf value
+  counts = (refl, refl, refl, refl)
+
+  sides-back : s .nx < 4294967296 → s .ny < 4294967296 → s .nz < 4294967296 → sidesIn h ≡ s
+  unfolding headBytes join bytesOf sidesIn
+  sides-back x y z =
+      let ex : u32At h 4 ≡ s .nx = value-bytesOf 4 (s .nx) x in
+      let ey : u32At h 8 ≡ s .ny = value-bytesOf 4 (s .ny) y in
+      let ez : u32At h 12 ≡ s .nz = value-bytesOf 4 (s .nz) z in
+      ap₂ (λ (u v : ℕ). record { nx = u; ny = v; nz = u32At h 12 }) ex ey ∙ ap (λ (w : ℕ). record { nx = s .nx; ny = s .ny; nz = w }) ez
+
+  settings-back : SFits w32 (g .p) → SFits w32 (g .gx) → SFits w32 (g .gy) → SFits w32 (g .gz) → settingsIn h ≡ g
+  unfolding headBytes join bytesOf settingsIn
+  settings-back fp fx fy fz =
+      let p : i32At h 20 ≡ g .p = back w32 4 (g .p) fp refl in
+      let x : i32At h 24 ≡ g .gx = back w32 4 (g .gx) fx refl in
+      let y : i32At h 28 ≡ g .gy = back w32 4 (g .gy) fy refl in
+      let z : i32At h 32 ≡ g .gz = back w32 4 (g .gz) fz refl in
+      ap₂ (λ (u v : ℤ). record { p = u; gx = v; gy = i32At h 28; gz = i32At h 32 }) p x ∙ ap₂ (λ (u v : ℤ). record { p = g .p; gx = g .gx; gy = u; gz = v }) y z
+
+  site-back : SFits w32 (t .edge) → SFits w64 (t .x) → SFits w64 (t .y) → SFits w64 (t .z) → siteIn h ≡ t
+  unfolding headBytes join bytesOf siteIn
+  site-back fe fx fy fz =
+      let e : i32At h 36 ≡ t .edge = back w32 4 (t .edge) fe refl in
+      let x : i64At h 44 ≡ t .x = back w64 8 (t .x) fx refl in
+      let y : i64At h 52 ≡ t .y = back w64 8 (t .y) fy refl in
+      let z : i64At h 60 ≡ t .z = back w64 8 (t .z) fz refl in
+      ap₂ (λ (u v : ℤ). record { edge = u; x = v; y = i64At h 52; z = i64At h 60 }) e x ∙ ap₂ (λ (u v : ℤ). record { edge = t .edge; x = t .x; y = u; z = v }) y z
+
+  carry-back : SFits w64 k → carryIn h ≡ k
+  unfolding headBytes join bytesOf carryIn
+  carry-back f = back w64 8 k f refl
+
+-- ---- sections 5 to 7
+module _ (s : Sides) (g : Settings) (t : Site) (k : ℤ) (n : ℕ) (flags : List ℕ) (mass : ℕ → ℤ) (p : ℕ → ℕ → ℤ) (ln : length flags ≡ n) where
+  abbrev F : ℕ → ℕ
+  F = flagOf flags
+
+  abbrev I : ℕ
+  I = interfaces n (flagOf flags)
+
+  abbrev L : ℕ
+  L = liquids n (flagOf flags)
+
+  abbrev hd : List ℕ
+  hd = headBytes s g t k
+
+  abbrev five : List ℕ
+  five = section n (flags ∷ [])
+
+  abbrev six : List ℕ
+  six = section I (massBytes n F mass ∷ [])
+
+  abbrev seven : List ℕ
+  seven = section (19 * L) (partBytes n F p ∷ [])
+
+  abbrev r : List ℕ
+  r = hd ++ cellsBytes n flags mass p
+
+  -- where each section begins, and its numbers
+  to-five : length hd ≡ 80
+  to-five = length-head s g t k
+
+  to-six : length (hd ++ five) ≡ massesFrom n
+  to-six = length-append hd five ∙ omega (arith, length-head s g t k, length-section n flags)
+
+  to-seven : length ((hd ++ five) ++ six) ≡ partsFrom n I
+  to-seven = length-append (hd ++ five) six ∙ omega (arith, to-six, length-section I (massBytes n F mass), length-masses n F mass)
+
+  behind-count : (q : List ℕ) (m at : ℕ) → length q ≡ at → length (q ++ u32Of m) ≡ at + 4
+  behind-count q m at e = length-append q (u32Of m) ∙ ap₂ (λ (i j : ℕ). i + j) e (length-bytesOf 4 m)
+
+  number : (q z : List ℕ) (m at : ℕ) → r ≡ q ++ (u32Of m ++ z) → length q ≡ at → m < 4294967296 → u32At r at ≡ m
+  number q z m at e l h = ap value (look q (u32Of m) z r at 4 e l (length-bytesOf 4 m)) ∙ value-bytesOf 4 m h
+
+  count-five : n < 4294967296 → u32At r 80 ≡ n
+  unfolding cellsBytes join
+  count-five h = number hd _ n 80 (ap (λ (l : List ℕ). hd ++ l) (append-assoc (u32Of n) (flags ++ []) _)) to-five h
+
+  flags-back : part n 84 r ≡ flags
+  unfolding cellsBytes join
+  flags-back = look (hd ++ u32Of n) flags (six ++ (seven ++ [])) r 84 n (simp (append-assoc, append-nil)) (behind-count hd n 80 to-five) ln
+
+  count-six : I < 4294967296 → u32At r (massesFrom n) ≡ I
+  unfolding cellsBytes join
+  count-six h =
+      number (hd ++ five) _ I (massesFrom n)
+      (sym (append-assoc hd five _) ∙ ap (λ (l : List ℕ). (hd ++ five) ++ l) (append-assoc (u32Of I) (massBytes n F mass ++ []) _)) to-six h
+
+  count-seven : 19 * L < 4294967296 → u32At r (partsFrom n I) ≡ 19 * L
+  unfolding cellsBytes join
+  count-seven h = number ((hd ++ five) ++ six) ((partBytes n F p ++ []) ++ []) (19 * L) (partsFrom n I) (simp append-assoc) to-seven h
+
+  mass-back : (c : ℕ) → c < n → F c ≡ 1 → SFits w32 (mass c) → i32At r (massesFrom n + 4 + 4 * interfaces c F) ≡ mass c
+  unfolding cellsBytes join massBytes
+  mass-back c h one fits =
+      let f : ℕ → List ℕ = λ a. byFlag (F a) [] (i32Of (mass a)) [] [] in
+      let z = seven ++ [] in
+      let w = split n c f z h in
+      let here : f c ≡ i32Of (mass c) = ap (λ (q : ℕ). byFlag q [] (i32Of (mass c)) [] []) one in
+      let front = (hd ++ five) ++ u32Of I in
+      let is : r ≡ (front ++ gathered c f) ++ (f c ++ w .rest) =
+      region f z ∙ ap (λ (l : List ℕ). front ++ l) (w .is) ∙ sym (append-assoc front (gathered c f) (f c ++ w .rest)) in
+      let long : length (front ++ gathered c f) ≡ massesFrom n + 4 + 4 * interfaces c F =
+      length-append front (gathered c f) ∙ ap₂ (λ (i j : ℕ). i + j) (behind-count (hd ++ five) I (massesFrom n) to-six) (length-masses c F mass) in
+      ap (λ (l : List ℕ). toZ w32 (value l)) (look (front ++ gathered c f) (f c) (w .rest) r (massesFrom n + 4 + 4 * interfaces c F) 4 is long (ap length here ∙ length-bytesOf 4 (ofZ w32 (mass c))) ∙ here)
+      ∙ back w32 4 (mass c) fits refl
+    where
+      region : (f : ℕ → List ℕ) (z : List ℕ) → hd ++ (five ++ ((u32Of I ++ (gathered n f ++ [])) ++ z)) ≡ ((hd ++ five) ++ u32Of I) ++ (gathered n f ++ z)
+      region f z = simp (append-assoc, append-nil)
+
+  part-back : (c j : ℕ) → c < n → j < 19 → liquid (F c) ≡ true → SFits w32 (p c j) → i32At r (partsFrom n I + 4 + 4 * (19 * liquids c F + j)) ≡ p c j
+  unfolding cellsBytes join partBytes cellBytes
+  part-back c j h l wet fits =
+      let f : ℕ → List ℕ = λ a. byFlag (F a) [] (cellBytes (p a)) (cellBytes (p a)) [] in
+      let e : ℕ → List ℕ = λ i. i32Of (p c i) in
+      let w = split n c f [] h in
+      let here : f c ≡ gathered 19 e = by-liquid-list (F c) (cellBytes (p c)) wet in
+      let v = split 19 j e (w .rest) l in
+      let front = ((hd ++ five) ++ six) ++ u32Of (19 * L) in
+      let is : r ≡ ((front ++ gathered c f) ++ gathered j e) ++ (e j ++ v .rest) =
+      region f
+      ∙ ap (λ (q : List ℕ). front ++ q) (w .is ∙ ap (λ (q : List ℕ). gathered c f ++ (q ++ w .rest)) here ∙ ap (λ (q : List ℕ). gathered c f ++ q) (v .is))
+      ∙ sym (append-assoc front (gathered c f) (gathered j e ++ (e j ++ v .rest)))
+      ∙ sym (append-assoc (front ++ gathered c f) (gathered j e) (e j ++ v .rest)) in
+      let long : length ((front ++ gathered c f) ++ gathered j e) ≡ partsFrom n I + 4 + 4 * (19 * liquids c F + j) =
+      length-append (front ++ gathered c f) (gathered j e)
+      ∙ omega (arith, length-append front (gathered c f), behind-count ((hd ++ five) ++ six) (19 * L) (partsFrom n I) to-seven, length-parts c F p, length-some j (p c)) in
+      ap (λ (q : List ℕ). toZ w32 (value q)) (look ((front ++ gathered c f) ++ gathered j e) (e j) (v .rest) r (partsFrom n I + 4 + 4 * (19 * liquids c F + j)) 4 is long (length-bytesOf 4 (ofZ w32 (p c j))))
+      ∙ back w32 4 (p c j) fits refl
+    where
+      by-liquid-list : (f : ℕ) (x : List ℕ) → liquid f ≡ true → byFlag f [] x x [] ≡ x
+      by-liquid-list zero x q = absurd (false≢true q)
+      by-liquid-list (suc zero) x q = refl
+      by-liquid-list (suc (suc zero)) x q = refl
+      by-liquid-list (suc (suc (suc f))) x q = absurd (false≢true q)
+
+      region : (f : ℕ → List ℕ) → hd ++ (five ++ (six ++ ((u32Of (19 * L) ++ (gathered n f ++ [])) ++ []))) ≡ (((hd ++ five) ++ six) ++ u32Of (19 * L)) ++ (gathered n f ++ [])
+      region f = simp (append-assoc, append-nil)
+
+-- ---- numbers of a good grid fit their bytes
+fits-word : {z : ℤ} → Within z 2147483647 → SFits w32 z
+fits-word {z} w = fits-abs {w = w32} {z = z} (let h = w .abs in omega arith)
+
+near : {z : ℤ} (k : ℕ) → Within z k → k ≤ 2147483647 → SFits w32 z
+near {z} k w h = fits-word (record { abs = omega (arith, w .abs) })
+
+fits-long : {z : ℤ} → natAbs z ≤ 1000000000000 → SFits w64 z
+fits-long {z} h = fits-abs {w = w64} {z = z} (omega arith)
+
+coordinate-fits : (x : ℤ) → coordinateGood x ≡ true → SFits w64 x
+coordinate-fits x e =
+    let l = leZ (negsuc 9999999999) x in
+    let u = leZ x (pos 10000000000) in
+    let b : leb (natAbs x) 10000000000 ≡ true = sym (between 9999999999 x) ∙ ap₂ (λ (p q : Bool). p && q) (and-right l u e) (and-left l u e) in
+    fits-long (let h = leb-true (natAbs x) 10000000000 b in omega arith)
+
+-- by kinds
+part-kinds : (f : ℕ) (x z : ℤ) → (liquid f ≡ true → x ≡ z) → (liquid f ≡ false → z ≡ pos 0) → byFlag f (pos 0) x x (pos 0) ≡ z
+part-kinds zero x z w d = sym (d refl)
+part-kinds (suc zero) x z w d = w refl
+part-kinds (suc (suc zero)) x z w d = w refl
+part-kinds (suc (suc (suc f))) x z w d = sym (d refl)
+
+mass-kinds : (f : ℕ) (x m ρ : ℤ) → (f ≡ 1 → x ≡ m) → byFlag f (pos 0) x ρ (pos 0) ≡ byFlag f (pos 0) m ρ (pos 0)
+mass-kinds zero x m ρ e = refl
+mass-kinds (suc zero) x m ρ e = e refl
+mass-kinds (suc (suc zero)) x m ρ e = refl
+mass-kinds (suc (suc (suc f))) x m ρ e = refl
+
+dry-kinds : (f : ℕ) (d i l : Bool) → liquid f ≡ false → byFlag f d i l d ≡ true → d ≡ true
+dry-kinds zero d i l e h = h
+dry-kinds (suc zero) d i l e h = absurd (false≢true (sym e))
+dry-kinds (suc (suc zero)) d i l e h = absurd (false≢true (sym e))
+dry-kinds (suc (suc (suc f))) d i l e h = h
+
+-- equal lists make an equal set
+same-lent : {a b : Lent} → a .flags ≡ b .flags → a .parts ≡ b .parts → a .masses ≡ b .masses → a .fills ≡ b .fills → a .carry ≡ b .carry → a ≡ b
+same-lent {a} {b} f p m l c =
+    ap₂ (λ (x : List ℕ) (y : List ℤ). record { flags = x; parts = y; masses = a .masses; fills = a .fills; carry = a .carry }) f p
+    ∙ ap₂ (λ (x : List ℤ) (y : List ℕ). record { flags = b .flags; parts = b .parts; masses = x; fills = y; carry = a .carry }) m l
+    ∙ ap (λ (x : List ℤ). record { flags = b .flags; parts = b .parts; masses = b .masses; fills = b .fills; carry = x }) c
+
+head-same : {s u : Sides} {g h : Settings} {t v : Site} → s ≡ u → g ≡ h → t ≡ v
+    → _≡_ {A = Head} (record { answer = Done; sides = s; settings = g; site = t }) (record { answer = Done; sides = u; settings = h; site = v })
+head-same {u = u} {h = h} {t = t} e f k =
+    ap₂ (λ (x : Sides) (y : Settings). record { answer = Done; sides = x; settings = y; site = t }) e f
+    ∙ ap (λ (x : Site). record { answer = Done; sides = u; settings = h; site = x }) k
+
+-- the searches look at the flags alone
+flag-in : (r : List ℕ) → badFlag (gridOf (sidesIn r)) (flagOf (flagsIn r)) ≡ badFlag (gridOf (sidesIn r)) (flagIn r)
+unfolding flagIn
+flag-in r = refl
+
+fluid-in : (r : List ℕ) → badFluid 18 (gridOf (sidesIn r)) (flagOf (flagsIn r)) ≡ badFluid 18 (gridOf (sidesIn r)) (flagIn r)
+unfolding flagIn
+fluid-in r = refl
+
+-- ---- the record of a good grid
+module _ (s : Sides) (g : Settings) (t : Site) (a : Lent) (fit : Fit s g t a) where
+  abbrev S : State
+  S = stateOf 18 a
+
+  abbrev n : ℕ
+  n = cellsOf s
+
+  abbrev rec : List ℕ
+  rec = recordOf s g t a
+
+  -- the three tests of its state
+  tests : (n ≤ badFlag (gridOf s) (S .flag)) × (n ≤ badFluid 18 (gridOf s) (S .flag)) × (suc n ≤ badRule d3q19 n S)
+  unfolding goodAnswer gridOf box cellsOf d3q19
+  tests =
+      let four = none-found (cellsOf s) 4 (badFlag (gridOf s) (S .flag)) _ (fit .good) in
+      let five = none-found (cellsOf s) 5 (badFluid 18 (gridOf s) (S .flag)) _ (four .1) in
+      let six = none-found (suc (cellsOf s)) 6 (badRule d3q19 (cellsOf s) S) Done (five .1) in
+      (four .0, five .0, six .0)
+
+  cells-good : (c : ℕ) → c < n → cellGood d3q19 S c ≡ true
+  unfolding gridOf box cellsOf
+  cells-good c h = cell-good d3q19 (gridOf s) S (tests .2) c h
+
+  massed : (c : ℕ) → c < n → S .mass c ≡ byFlag (S .flag c) (pos 0) (S .mass c) (density d3q19 (S .part c)) (pos 0)
+  unfolding gridOf box cellsOf
+  massed c h = sound d3q19 (gridOf s) S Done (fit .good) .0 .massed c h
+
+  carry-good : carryGood (S .carry) ≡ true
+  unfolding badRule
+  carry-good =
+      not-false (carryGood (S .carry))
+      (sym (ap (λ (b : Bool). cond b (not (carryGood (S .carry))) (not (cellGood d3q19 S n))) (eq-eqb n n refl))
+      ∙ first-none (suc n) (λ c. cond (eqb c n) (not (carryGood (S .carry))) (not (cellGood d3q19 S c))) (tests .2) n (omega arith))
+
+  dry-parts : (c k : ℕ) → c < n → k ≤ 18 → liquid (S .flag c) ≡ false → S .part c k ≡ pos 0
+  unfolding cellGood dryGood d3q19
+  dry-parts c k h l e =
+      let D = dryGood d3q19 S c in
+      let kinds = byFlag (S .flag c) D (interfaceGood d3q19 S c) (fluidGood d3q19 S c) D in
+      let d = dry-kinds (S .flag c) D (interfaceGood d3q19 S c) (fluidGood d3q19 S c) e (and-left kinds (fillGood d3q19 S c) (cells-good c h)) in
+      eqZ-true (S .part c k) (pos 0)
+      (all-at 19 (λ j. eqZ (S .part c j) (pos 0)) (and-right (eqZ (S .mass c) (pos 0)) (all 19 (λ j. eqZ (S .part c j) (pos 0))) d) k (omega arith))
+
+  -- ---- its head
+  small-sides : GoodSides s
+  small-sides = good-sides s (fit .sides)
+
+  sites : (edgeGood (t .edge) ≡ true) × (coordinateGood (t .x) ≡ true) × (coordinateGood (t .y) ≡ true) × (coordinateGood (t .z) ≡ true)
+  unfolding siteGood
+  sites =
+      let A = settingsGood g in
+      let E = edgeGood (t .edge) in
+      let X = coordinateGood (t .x) in
+      let Y = coordinateGood (t .y) in
+      let Z = coordinateGood (t .z) in
+      let all = fit .site in
+      let y = and-left (A && E && X && Y) Z all in
+      let x = and-left (A && E && X) Y y in
+      (and-right A E (and-left (A && E) X x), and-right (A && E) X x, and-right (A && E && X) Y y, and-right (A && E && X && Y) Z all)
+
+  sides-so : sidesIn rec ≡ s
+  unfolding recordOf
+  sides-so =
+      sides-back s g t (S .carry) _ (let h = small-sides .x .high in omega arith) (let h = small-sides .y .high in omega arith) (let h = small-sides .z .high in omega arith)
+
+  settings-so : settingsIn rec ≡ g
+  unfolding recordOf
+  settings-so = let w = small g t (fit .site) in settings-back s g t (S .carry) _ (fits-word (w .p)) (fits-word (w .gx)) (fits-word (w .gy)) (fits-word (w .gz))
+
+  site-so : siteIn rec ≡ t
+  unfolding recordOf
+  site-so =
+      site-back s g t (S .carry) _ (fits-word (small g t (fit .site) .edge)) (coordinate-fits (t .x) (sites .1)) (coordinate-fits (t .y) (sites .2)) (coordinate-fits (t .z) (sites .3))
+
+  carry-so : carryIn rec ≡ S .carry
+  unfolding recordOf
+  carry-so = carry-back s g t (S .carry) _ (fits-long (leb-true (natAbs (S .carry)) 1000000000000 carry-good))
+
+  -- ---- its cells
+  cells-so : cellsIn rec ≡ n
+  unfolding cellsIn
+  cells-so = ap cellsOf sides-so
+
+  flags-so : flagsIn rec ≡ a .flags
+  unfolding flagsIn recordOf
+  flags-so = ap (λ (k : ℕ). part k 84 rec) cells-so ∙ flags-back s g t (S .carry) n (a .flags) (S .mass) (S .part) (fit .lengths .flags)
+
+  interfaces-so : interfacesIn rec ≡ interfaces n (flagOf (a .flags))
+  unfolding interfacesIn flagIn
+  interfaces-so = ap₂ (λ (k : ℕ) (l : List ℕ). interfaces k (flagOf l)) cells-so flags-so
+
+  liquids-so : liquidsIn rec ≡ liquids n (flagOf (a .flags))
+  unfolding liquidsIn flagIn
+  liquids-so = ap₂ (λ (k : ℕ) (l : List ℕ). liquids k (flagOf l)) cells-so flags-so
+
+  body : (c : ℕ) → c < n → liquid (S .flag c) ≡ true → Body (S .part c)
+  body c h l = cell-body n S cells-good c h l
+
+  part-so : (c k : ℕ) → c < n → k ≤ 18 → partIn rec c k ≡ S .part c k
+  unfolding partIn partAt flagIn recordOf stateOf
+  part-so c k h l =
+      let at : ℕ → ℕ → List ℕ → ℤ = λ m i o. i32At rec (partsFrom m i + 4 + 4 * (19 * liquids c (flagOf o) + k)) in
+      ap₂ (λ (m i : ℕ). byFlag (flagOf (flagsIn rec) c) (pos 0) (at m i (flagsIn rec)) (at m i (flagsIn rec)) (pos 0)) cells-so interfaces-so
+      ∙ ap (λ (o : List ℕ). byFlag (flagOf o c) (pos 0) (at n (interfaces n (flagOf (a .flags))) o) (at n (interfaces n (flagOf (a .flags))) o) (pos 0)) flags-so
+      ∙ part-kinds (flagOf (a .flags) c) (at n (interfaces n (flagOf (a .flags))) (a .flags)) (S .part c k)
+      (λ e. part-back s g t (S .carry) n (a .flags) (S .mass) (S .part) (fit .lengths .flags) c k h (omega arith) e (near 1179648 (body c h e .parts k l) (omega arith)))
+      (λ e. dry-parts c k h l e)
+
+  density-so : (c : ℕ) → c < n → density d3q19 (partIn rec c) ≡ density d3q19 (S .part c)
+  unfolding d3q19
+  density-so c h = density-same d3q19 (partIn rec c) (S .part c) (λ k l. part-so c k h l)
+
+  mass-so : (c : ℕ) → c < n → massIn rec c ≡ S .mass c
+  unfolding massIn massAt flagIn recordOf stateOf
+  mass-so c h =
+      let at : ℕ → List ℕ → ℤ = λ m o. i32At rec (massesFrom m + 4 + 4 * interfaces c (flagOf o)) in
+      ap₂ (λ (m : ℕ) (ρ : ℤ). byFlag (flagOf (flagsIn rec) c) (pos 0) (at m (flagsIn rec)) ρ (pos 0)) cells-so (density-so c h)
+      ∙ ap (λ (o : List ℕ). byFlag (flagOf o c) (pos 0) (at n o) (density d3q19 (S .part c)) (pos 0)) flags-so
+      ∙ mass-kinds (flagOf (a .flags) c) (at n (a .flags)) (S .mass c) (density d3q19 (S .part c))
+      (λ e. mass-back s g t (S .carry) n (a .flags) (S .mass) (S .part) (fit .lengths .flags) c h e (near 2359296 (cell-mass n S cells-good c h e) (omega arith)))
+      ∙ sym (massed c h)
+
+  fill-so : (c : ℕ) → c < n → stateIn rec .fill c ≡ S .fill c
+  unfolding stateIn flagIn stateOf
+  fill-so c h =
+      ap₂ (λ (m ρ : ℤ). fillFor (flagOf (flagsIn rec) c) m ρ) (mass-so c h) (density-so c h)
+      ∙ ap (λ (o : List ℕ). fillFor (flagOf o c) (S .mass c) (density d3q19 (S .part c))) flags-so
+      ∙ sym (cell-fill n S cells-good c h)
+
+  flag-so : (c : ℕ) → flagIn rec c ≡ S .flag c
+  unfolding flagIn stateOf
+  flag-so c = ap (λ (o : List ℕ). flagOf o c) flags-so
+
+  same-state : Same 18 n (stateIn rec) S
+  unfolding stateIn
+  same-state = record { flags = λ c h. flag-so c; parts = λ c k h l. part-so c k h l; masses = λ c h. mass-so c h; fills = λ c h. fill-so c h; carries = carry-so }
+
+  lattice-same : Same (d3q19 .q) n (stateIn rec) S
+  unfolding d3q19
+  lattice-same = same-state
+
+  -- the five lists
+  one : (l : List ℤ) → length l ≡ 1 → (getD l 0 (pos 0) ∷ []) ≡ l
+  one [] e = absurd (omega arith)
+  one (x ∷ []) e = refl
+  one (x ∷ y ∷ l) e = absurd (omega arith)
+
+  lists-so : lentOf 18 n (stateIn rec) ≡ a
+  unfolding lentOf stateIn stateOf
+  lists-so =
+      let L = fit .lengths in
+      let flags = sym (upto-all 3 (flagIn rec) (a .flags) n (L .flags) (λ c h. sym (flag-so c))) in
+      let parts = sym (blocks-all (partIn rec) (a .parts) n (L .parts) (λ c k h l. sym (part-so c k h (omega arith)))) in
+      let masses = sym (upto-all (pos 0) (massIn rec) (a .masses) n (L .masses) (λ c h. sym (mass-so c h))) in
+      let fills = sym (upto-all 0 (stateIn rec .fill) (a .fills) n (L .fills) (λ c h. sym (fill-so c h))) in
+      let carry = ap (λ (z : ℤ). z ∷ []) carry-so ∙ one (a .carry) (L .carry) in
+      same-lent flags parts masses fills carry
+
+  -- ---- the reader's tests
+  long-so : length rec ≡ lengthOf n (interfaces n (flagOf (a .flags))) (liquids n (flagOf (a .flags)))
+  unfolding recordLength stateOf
+  long-so = length-record s g t a (fit .lengths .flags)
+
+  few : n ≤ 262144
+  unfolding cellsOf
+  few = small-sides .all
+
+  few-interfaces : interfaces n (flagOf (a .flags)) ≤ n
+  few-interfaces = interfaces-most n (flagOf (a .flags))
+
+  few-liquids : liquids n (flagOf (a .flags)) ≤ n
+  few-liquids = liquids-most n (flagOf (a .flags))
+
+  is-sound : Sound rec
+  unfolding recordOf stateOf
+  is-sound =
+      let k = counts s g t (S .carry) (cellsBytes n (a .flags) (S .mass) (S .part)) in
+      let I = interfaces n (flagOf (a .flags)) in
+      let L = liquids n (flagOf (a .flags)) in
+      let e = long-so in
+      let l = fit .lengths .flags in
+      record {
+        first = record { count = k .0; inside = omega arith };
+        sides = ap sidesGood sides-so ∙ fit .sides;
+        settings = record { count = k .1; inside = omega arith };
+        origin = record { count = k .2; inside = omega arith };
+        carry = record { count = k .3; inside = omega arith };
+        flags = subst (λ (m : ℕ). Held rec 80 m 1) (sym cells-so) (record { count = count-five s g t (S .carry) n (a .flags) (S .mass) (S .part) l (omega (arith, few)); inside = omega arith });
+        tested =
+            subst (λ (m : ℕ). m ≤ badFlag (gridOf (sidesIn rec)) (flagIn rec)) (sym cells-so)
+            (le-trans (tests .0) (le-of-eq (ap₂ (λ (z : Sides) (o : List ℕ). badFlag (gridOf z) (flagOf o)) (sym sides-so) (sym flags-so) ∙ same-flags)));
+        masses =
+            subst (λ (m : ℕ). Held rec (massesFrom m) (interfacesIn rec) 4) (sym cells-so)
+            (subst (λ (i : ℕ). Held rec (massesFrom n) i 4) (sym interfaces-so)
+            (record { count = count-six s g t (S .carry) n (a .flags) (S .mass) (S .part) l (omega (arith, few, few-interfaces)); inside = omega arith }));
+        parts =
+            subst (λ (m : ℕ). Held rec (partsFrom m (interfacesIn rec)) (19 * liquidsIn rec) 4) (sym cells-so)
+            (subst (λ (i : ℕ). Held rec (partsFrom n i) (19 * liquidsIn rec) 4) (sym interfaces-so)
+            (subst (λ (w : ℕ). Held rec (partsFrom n I) (19 * w) 4) (sym liquids-so)
+            (record { count = count-seven s g t (S .carry) n (a .flags) (S .mass) (S .part) l (omega (arith, few, few-liquids)); inside = omega arith })));
+        end = le-of-eq (e ∙ sym (ap₂ (λ (i w : ℕ). lengthOf (cellsIn rec) i w) interfaces-so liquids-so ∙ ap (λ (m : ℕ). lengthOf m I L) cells-so));
+      }
+    where
+      same-flags : badFlag (gridOf (sidesIn rec)) (flagOf (flagsIn rec)) ≡ badFlag (gridOf (sidesIn rec)) (flagIn rec)
+      same-flags = flag-in rec
+
+  content-so : contentAnswer rec ≡ Done
+  unfolding contentAnswer stateOf
+  content-so =
+      let m = cellsIn rec in
+      let place = badFluid 18 (gridOf (sidesIn rec)) (flagIn rec) in
+      let rules = badRule d3q19 m (stateIn rec) in
+      let shut : m ≤ place =
+      le-trans (le-of-eq cells-so) (le-trans (tests .1) (le-of-eq (ap₂ (λ (z : Sides) (o : List ℕ). badFluid 18 (gridOf z) (flagOf o)) (sym sides-so) (sym flags-so) ∙ fluid-in rec))) in
+      let kept : suc m ≤ rules =
+      subst (λ (k : ℕ). suc k ≤ badRule d3q19 k (stateIn rec)) (sym cells-so) (le-trans (tests .2) (le-of-eq (sym (bad-rule-same d3q19 n (stateIn rec) S same)))) in
+      or-pass 3 0 _ (ap₂ siteGood settings-so site-so ∙ fit .site) ∙ skip m 5 place (ifNone (suc m) 6 rules Done) shut ∙ skip (suc m) 6 rules Done kept
+    where
+      same : Same (d3q19 .q) n (stateIn rec) S
+      same = lattice-same
+
+pub read-back : Claim
+unfolding readHead readFlags readSet readAnswer
+read-back s g t a room b done fits =
+    let fit = write-fit s g t a room done in
+    let r = recordOf s g t a in
+    let ok : readAnswer r b ≡ Done =
+    shape-passes r (length (b .parts)) (length (b .masses)) (length (b .fills)) (length (b .carry)) (contentAnswer r) (is-sound s g t a fit)
+    (ap (λ (n : ℕ). slicesFit n (length (b .parts)) (length (b .masses)) (length (b .fills)) (length (b .carry))) (cells-so s g t a fit) ∙ fits)
+    ∙ content-so s g t a fit in
+    let yes-it : accepted (readAnswer r b) ≡ true = done-accepted (readAnswer r b) ok in (
+      rw yes-it (head-same (sides-so s g t a fit) (settings-so s g t a fit) (site-so s g t a fit)),
+      rw yes-it (flags-so s g t a fit),
+      rw yes-it (ap (λ (m : ℕ). lentOf 18 m (stateIn r)) (cells-so s g t a fit) ∙ lists-so s g t a fit),
+    )
