@@ -42,7 +42,10 @@ fn play(rec: &[u8], steps: usize) {
 fn main() {
     let steps = asking::steps_asked();
     if steps > 4294967295 {
-        io::write_all(STDERR_FILENO, b"gridrun: how many steps? usage: gridrun K, K a whole number below 4294967296\n");
+        io::write_all(
+            STDERR_FILENO,
+            b"gridrun: how many steps? usage: gridrun K, K a whole number below 4294967296\n",
+        );
         return;
     }
     let mut bytes = [0u8; 331869];

@@ -137,7 +137,18 @@ fn proceed(
         s,
         g,
     );
-    save(is_reached, s, g, t, flags, parts, masses, fills, carry, room);
+    save(
+        is_reached,
+        s,
+        g,
+        t,
+        flags,
+        parts,
+        masses,
+        fills,
+        carry,
+        room,
+    );
 }
 
 // A refused record gives one line.
