@@ -1,4 +1,4 @@
--- `console::line::magnitude` is the number without its sign. Assumes nothing.
+-- `whole::magnitude` is the number without its sign. Assumes nothing.
 use mathlib.Core.Path.{_≡_}
 use mathlib.Core.Bool.{true, false}
 use Prim.Native.Nat.{_-_}
@@ -8,9 +8,9 @@ use lib.Signed.{ltZ}
 use mir.Syntax.{w64}
 use mir.Val.{bits, ofZ}
 use mir.ValLaws.{toZ-ofZ}
-use Rattle.console.proofs.Signs.{Cast, below, above, some}
-use Rattle.console.proofs.line.magnitude.Statement.{statement}
-use Rattle.console.proofs.line.magnitude.Tie as tie
+use Rattle.whole.proofs.Signs.{Cast, below, above, some}
+use Rattle.whole.proofs.magnitude.Statement.{statement}
+use Rattle.whole.proofs.magnitude.Tie as tie
 
 negative : (c : tie.Then1) → ltZ (c .before .args .x) (pos 0) ≡ true
 negative c = rw (toZ-ofZ w64 (c .before .args .x) (c .before .fits .x)) at (c .if1 .taken)
