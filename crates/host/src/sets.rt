@@ -6,7 +6,10 @@ use grid::checking;
 use grid::running;
 use grid::stepping;
 use lattice::Settings;
+ghost use Rattle.grid.specs.Turns.{lent};
+ghost use Rattle.host.specs.Promise.{sidesOf, settingsOf, CheckTold, StepTold, RunTold};
 
+// The check of one lent set.
 #[no_mangle]
 pub extern "C" fn skw_check(
     flags: &[u8],
@@ -18,13 +21,16 @@ pub extern "C" fn skw_check(
     ny: usize,
     nz: usize,
     place: &mut usize,
-) -> u8 {
+) -> u8
+    ensures { λ r. ⌜ CheckTold (sidesOf nx ny nz) (lent (now (flags .entry)) (now (parts .entry)) (now (masses .entry)) (now (fills .entry)) (now (carry .entry))) r (now (place .exit)) ⌝ }
+{
     let s = Sides { nx, ny, nz };
     let a = checking::check(flags, parts, masses, fills, carry, s);
     *place = place_of(a);
     number_of(a)
 }
 
+// One step from the first set to the second.
 #[no_mangle]
 pub extern "C" fn skw_step(
     flags: &[u8],
@@ -46,7 +52,9 @@ pub extern "C" fn skw_step(
     gy: i64,
     gz: i64,
     place: &mut usize,
-) -> u8 {
+) -> u8
+    ensures { λ r. ⌜ StepTold (sidesOf nx ny nz) (settingsOf p gx gy gz) (lent (now (flags .entry)) (now (parts .entry)) (now (masses .entry)) (now (fills .entry)) (now (carry .entry))) (lent (now (flags2 .entry)) (now (parts2 .entry)) (now (masses2 .entry)) (now (fills2 .entry)) (now (carry2 .entry))) (now (marks .entry)) r (now (place .exit)) (lent (now (flags2 .exit)) (now (parts2 .exit)) (now (masses2 .exit)) (now (fills2 .exit)) (now (carry2 .exit))) (now (marks .exit)) ⌝ }
+{
     let s = Sides { nx, ny, nz };
     let g = Settings { p, gx, gy, gz };
     let a = stepping::step(
@@ -68,6 +76,7 @@ pub extern "C" fn skw_step(
     number_of(a)
 }
 
+// At most `steps` steps between the two sets; how many were made.
 #[no_mangle]
 pub extern "C" fn skw_run(
     steps: usize,
@@ -91,7 +100,9 @@ pub extern "C" fn skw_run(
     gz: i64,
     number: &mut u8,
     place: &mut usize,
-) -> usize {
+) -> usize
+    ensures { λ r. ⌜ RunTold steps (sidesOf nx ny nz) (settingsOf p gx gy gz) (lent (now (flags .entry)) (now (parts .entry)) (now (masses .entry)) (now (fills .entry)) (now (carry .entry))) (lent (now (flags2 .entry)) (now (parts2 .entry)) (now (masses2 .entry)) (now (fills2 .entry)) (now (carry2 .entry))) (now (marks .entry)) r (now (number .exit)) (now (place .exit)) (lent (now (flags .exit)) (now (parts .exit)) (now (masses .exit)) (now (fills .exit)) (now (carry .exit))) (lent (now (flags2 .exit)) (now (parts2 .exit)) (now (masses2 .exit)) (now (fills2 .exit)) (now (carry2 .exit))) (now (marks .exit)) ⌝ }
+{
     let s = Sides { nx, ny, nz };
     let g = Settings { p, gx, gy, gz };
     let ran = running::run(

@@ -11,7 +11,11 @@ use tunnel::Point;
 use tunnel::cell::cell_point;
 use tunnel::column::column_depth;
 use tunnel::placing;
+ghost use Rattle.tunnel.specs.Point.{pointOf};
+ghost use Rattle.tunnel.specs.Depth.{depthOf};
+ghost use Rattle.host.specs.Promise.{sidesOf, millimetres, PlaceTold, PointTold, DepthTold};
 
+// The cell that holds a survey point.
 #[no_mangle]
 pub extern "C" fn skw_place(
     nx: usize,
@@ -26,7 +30,9 @@ pub extern "C" fn skw_place(
     z: i64,
     cell: &mut usize,
     place: &mut usize,
-) -> u8 {
+) -> u8
+    ensures { λ r. ⌜ PlaceTold (sidesOf nx ny nz) edge (millimetres ox oy oz) (millimetres x y z) r (now (place .exit)) (now (cell .exit)) ⌝ }
+{
     let s = Sides { nx, ny, nz };
     let origin = Point {
         x: ox,
@@ -40,6 +46,7 @@ pub extern "C" fn skw_place(
     placed_number(a)
 }
 
+// The centre of a cell and its fill.
 #[no_mangle]
 pub extern "C" fn skw_point(
     nx: usize,
@@ -52,7 +59,9 @@ pub extern "C" fn skw_point(
     z: &mut f32,
     fill: &mut f32,
     place: &mut usize,
-) -> u8 {
+) -> u8
+    ensures { λ r. ⌜ PointTold (pointOf (sidesOf nx ny nz) (now (fills .entry)) cell) r (now (place .exit)) (now (x .exit)) (now (y .exit)) (now (z .exit)) (now (fill .exit)) ⌝ }
+{
     let s = Sides { nx, ny, nz };
     let c = cell_point(s, fills, cell);
     *x = c.x;
@@ -63,6 +72,7 @@ pub extern "C" fn skw_point(
     c.number
 }
 
+// The depth of column (x, y): kind 0 refused, 1 solid, 2 dry, 3 deep.
 #[no_mangle]
 pub extern "C" fn skw_depth(
     nx: usize,
@@ -75,7 +85,9 @@ pub extern "C" fn skw_depth(
     kind: &mut u8,
     depth: &mut f32,
     place: &mut usize,
-) -> u8 {
+) -> u8
+    ensures { λ r. ⌜ DepthTold (depthOf (sidesOf nx ny nz) (now (flags .entry)) (now (fills .entry)) x y) r (now (place .exit)) (now (kind .exit)) (now (depth .exit)) ⌝ }
+{
     let s = Sides { nx, ny, nz };
     let a = column_depth(s, flags, fills, x, y);
     *kind = depth_kind(a);
