@@ -1,8 +1,8 @@
--- `host::readings::skw_depth`: the depth's answer, told as number, place, kind and value. Assumes nothing.
+-- `host::depth::skw_depth`: the depth's answer, told as number, place, kind and value. Assumes nothing.
 use borrow.Author.Needs.{needs}
 use Rattle.host.proofs.Depths.{depth-told}
-use Rattle.host.proofs.readings.skw_depth.Statement.{statement}
-use Rattle.host.proofs.readings.skw_depth.Tie as tie
+use Rattle.host.proofs.depth.skw_depth.Statement.{statement}
+use Rattle.host.proofs.depth.skw_depth.Tie as tie
 
 column-depth-requires : tie.Need-column-depth-requires
 column-depth-requires c κs = search needs

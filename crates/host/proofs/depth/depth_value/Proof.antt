@@ -1,8 +1,8 @@
--- `host::answers::depth_value`: in each case but the last the literal 0.0. Assumes nothing.
+-- `host::depth::depth_value`: in each case but the last the literal 0.0. Assumes nothing.
 use borrow.Author.Needs.{needs}
 use lib.Ieee.{ofBits}
-use Rattle.host.proofs.answers.depth_value.Statement.{statement}
-use Rattle.host.proofs.answers.depth_value.Tie as tie
+use Rattle.host.proofs.depth.depth_value.Statement.{statement}
+use Rattle.host.proofs.depth.depth_value.Tie as tie
 
 enum-told : tie.Need-enum-told
 enum-told c = search needs

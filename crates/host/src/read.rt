@@ -1,16 +1,14 @@
-// The reader and the writer of grid records.
+// The reader.
 use crate::answers::number_of;
 use crate::answers::place_of;
 use grid::Sides;
 use lattice::Settings;
 use record::Site;
-use record::flags::span;
-use record::reader::read;
-use record::writer::write;
+use record::flags;
+use record::reader;
 ghost use mathlib.Core.Path.{_≡_};
-ghost use Rattle.grid.specs.Turns.{lent};
 ghost use Rattle.record.specs.Promise.{flagless};
-ghost use Rattle.host.specs.Promise.{sidesOf, settingsOf, siteOf, ReadTold, WriteTold};
+ghost use Rattle.host.specs.Promise.{sidesOf, settingsOf, siteOf, ReadTold};
 
 fn put_sides(s: Sides, nx: &mut usize, ny: &mut usize, nz: &mut usize)
     ensures { λ _. ⌜ sidesOf (now (nx .exit)) (now (ny .exit)) (now (nz .exit)) ≡ s ⌝ }
@@ -71,57 +69,17 @@ pub extern "C" fn skw_read(
 ) -> u8
     ensures { λ r. ⌜ ReadTold (now (rec .entry)) (flagless (now (parts .entry)) (now (masses .entry)) (now (fills .entry)) (now (carry .entry))) r (now (place .exit)) (sidesOf (now (nx .exit)) (now (ny .exit)) (now (nz .exit))) (settingsOf (now (p .exit)) (now (gx .exit)) (now (gy .exit)) (now (gz .exit))) (siteOf (now (edge .exit)) (now (ox .exit)) (now (oy .exit)) (now (oz .exit))) (now («flags_from» .exit)) (now («flags_to» .exit)) (now (parts .exit)) (now (masses .exit)) (now (fills .exit)) (now (carry .exit)) ⌝ }
 {
-    let h = read(rec, parts, masses, fills, carry);
+    let h = reader::read(rec, parts, masses, fills, carry);
     let s = h.sides;
     let g = h.settings;
     let t = h.site;
     let a = h.answer;
-    let f = span(rec.len(), h);
+    let f = flags::span(rec.len(), h);
     put_sides(s, nx, ny, nz);
     put_settings(g, p, gx, gy, gz);
     put_site(t, edge, ox, oy, oz);
     *flags_from = f.from;
     *flags_to = f.to;
-    *place = place_of(a);
-    number_of(a)
-}
-
-// The record of a grid, from the front of the room.
-#[no_mangle]
-pub extern "C" fn skw_write(
-    nx: usize,
-    ny: usize,
-    nz: usize,
-    p: i64,
-    gx: i64,
-    gy: i64,
-    gz: i64,
-    edge: i64,
-    ox: i64,
-    oy: i64,
-    oz: i64,
-    flags: &[u8],
-    parts: &[i32],
-    masses: &[i32],
-    fills: &[u32],
-    carry: &[i64],
-    room: &mut [u8],
-    bytes: &mut usize,
-    place: &mut usize,
-) -> u8
-    ensures { λ r. ⌜ WriteTold (sidesOf nx ny nz) (settingsOf p gx gy gz) (siteOf edge ox oy oz) (lent (now (flags .entry)) (now (parts .entry)) (now (masses .entry)) (now (fills .entry)) (now (carry .entry))) (now (room .entry)) r (now (place .exit)) (now (bytes .exit)) (now (room .exit)) ⌝ }
-{
-    let s = Sides { nx, ny, nz };
-    let g = Settings { p, gx, gy, gz };
-    let t = Site {
-        edge,
-        x: ox,
-        y: oy,
-        z: oz,
-    };
-    let w = write(s, g, t, flags, parts, masses, fills, carry, room);
-    let a = w.answer;
-    *bytes = w.bytes;
     *place = place_of(a);
     number_of(a)
 }

@@ -1,10 +1,10 @@
--- `host::records::skw_write`: the writer's own promise, its answer told as number, place and length. Assumes nothing.
+-- `host::write::skw_write`: the writer's own promise, its answer told as number, place and length. Assumes nothing.
 use borrow.Author.Needs.{needs}
 use mathlib.Core.Path.{refl}
 use Rattle.host.proofs.Returned.{settings-back, site-back}
 use Rattle.host.proofs.Told.{write-told}
-use Rattle.host.proofs.records.skw_write.Statement.{statement}
-use Rattle.host.proofs.records.skw_write.Tie as tie
+use Rattle.host.proofs.write.skw_write.Statement.{statement}
+use Rattle.host.proofs.write.skw_write.Tie as tie
 
 write-requires : tie.Need-write-requires
 write-requires c κs = search needs

@@ -1,8 +1,8 @@
--- `host::records::skw_read`: the reader's own promise, its head told number by number and its flags as a span. Assumes nothing.
+-- `host::read::skw_read`: the reader's own promise, its head told number by number and its flags as a span. Assumes nothing.
 use borrow.Author.Needs.{needs}
 use Rattle.host.proofs.Told.{read-told}
-use Rattle.host.proofs.records.skw_read.Statement.{statement}
-use Rattle.host.proofs.records.skw_read.Tie as tie
+use Rattle.host.proofs.read.skw_read.Statement.{statement}
+use Rattle.host.proofs.read.skw_read.Tie as tie
 
 read-requires : tie.Need-read-requires
 read-requires c κs = search needs

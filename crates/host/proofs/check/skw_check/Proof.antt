@@ -1,9 +1,9 @@
--- `host::sets::skw_check`: number and place of what the check answers. Assumes nothing.
+-- `host::check::skw_check`: number and place of what the check answers. Assumes nothing.
 use borrow.Author.Needs.{needs}
 use mathlib.Core.Path.{ap, _∙_}
 use Rattle.grid.specs.Outcome.{numberOf, placeOf}
-use Rattle.host.proofs.sets.skw_check.Statement.{statement}
-use Rattle.host.proofs.sets.skw_check.Tie as tie
+use Rattle.host.proofs.check.skw_check.Statement.{statement}
+use Rattle.host.proofs.check.skw_check.Tie as tie
 
 check-requires : tie.Need-check-requires
 check-requires c κs = search needs
