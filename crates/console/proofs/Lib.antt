@@ -1,2 +1,4 @@
 pub mod Signs
 pub mod Rooms
+pub mod Decimals
+pub mod Amounts
