@@ -1,0 +1,81 @@
+// gridstep: records by seed, and every prefix and changed byte of the small ones. Its whole output is compared.
+
+use oracle::text::{gridstep, GRIDSTEP_BYTES};
+
+use crate::programs::Starter;
+use crate::report::{apart, Outcome, Total, Wish};
+use crate::small::SMALL;
+use crate::source::Source;
+
+/// Good records, and as many damaged ones.
+const SEEDS: u64 = 1200;
+
+/// All that gridstep can answer: to a step, and to a record.
+const ANSWERS: [&str; 11] = [
+    "step 0",
+    "step 7",
+    "step 8",
+    "record 1",
+    "record 2",
+    "record 3",
+    "record 4",
+    "record 5",
+    "record 6",
+    "record 10",
+    "record 11",
+];
+
+/// The step's number, or the record's.
+fn met(wanted: &str) -> String {
+    let line = wanted.lines().find(|line| !line.starts_with("before")).unwrap_or_default();
+    line.split(' ').take(2).collect::<Vec<&str>>().join(" ")
+}
+
+fn outcome(starter: &Starter, source: Source) -> Outcome {
+    let bytes = source.bytes();
+    let wanted = gridstep(&bytes);
+    let differs = match starter.output("gridstep", &[], &bytes) {
+        Ok(given) => apart(wanted.as_bytes(), &given),
+        Err(error) => Some(error),
+    };
+    Outcome { met: met(&wanted), differs: differs.map(|text| format!("gridstep, {source}: {text}")) }
+}
+
+pub fn compare(starter: &Starter, wish: &Wish, total: &mut Total) {
+    let mut part = |title: &str, sources: Vec<Source>, wanted: &[&str]| {
+        total.compare(title, wish, sources.len(), wanted, |number| outcome(starter, sources[number]));
+    };
+
+    let seeds = wish.from..wish.from + SEEDS;
+    let mut sources: Vec<Source> =
+        seeds.flat_map(|seed| [Source::Good(seed), Source::Damaged(seed)]).collect();
+    // About the most bytes that it takes, and the most cells: 861 and 864.
+    sources.extend((0..3).map(|more| Source::Followed(SMALL[0], GRIDSTEP_BYTES - 1 + more)));
+    sources.push(Source::Followed(SMALL[0], 3 * GRIDSTEP_BYTES));
+    sources.extend([Source::Solid([3, 41, 7]), Source::Solid([12, 6, 12])]);
+    part(
+        &format!(
+            "gridstep on {SEEDS} good and {SEEDS} damaged records, seeds from {}, and 6 at the limits of its room",
+            wish.from
+        ),
+        sources,
+        &ANSWERS,
+    );
+
+    let lengths: Vec<(_, usize)> = SMALL.iter().map(|&small| (small, small.record().len())).collect();
+    let cut = lengths.iter().flat_map(|&(small, length)| (0..=length).map(move |to| Source::Cut(small, to)));
+    part("gridstep on every prefix of three small records", cut.collect(), &["step 0", "record 10"]);
+
+    let changed = lengths.iter().flat_map(|&(small, length)| {
+        let record = small.record();
+        (0..length).flat_map(move |at| {
+            let byte = record[at];
+            (0..8).map(move |bit| Source::Changed(small, at, byte ^ 1 << bit))
+        })
+    });
+    part(
+        "gridstep on three small records with every single byte changed to 8 others, one for each of its bits",
+        changed.collect(),
+        &["step 0", "step 7", "record 1", "record 3", "record 4", "record 6", "record 11"],
+    );
+}
