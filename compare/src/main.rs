@@ -1,7 +1,7 @@
 // The comparison: the proved programs beside the independent program, by seed. Status 1 if anything differs.
 
-mod gridrun;
-mod gridstep;
+#[cfg(linked)]
+mod library;
 mod programs;
 mod report;
 mod small;
@@ -9,18 +9,47 @@ mod source;
 
 use std::process::ExitCode;
 
-use programs::Starter;
+use programs::{gridread, gridrun, gridstep, Starter};
 use report::{Total, Wish};
 
 const USAGE: &str = "compare [--from SEED] [--first] [PART...], from the top of the repository
-  PART      gridstep, gridrun; all if not said
+  PART      gridstep, gridrun, gridread or library; all if not said
   --from    the first seed, 0 if not said
   --first   stop a part at its first difference";
 
-/// A part by its name, which is also the program's.
-type Part = (&'static str, fn(&Starter, &Wish, &mut Total));
+/// A program by its name, or the library.
+#[derive(Clone, Copy)]
+enum Part {
+    Program(&'static str, fn(&Starter, &Wish, &mut Total)),
+    Library,
+}
 
-const PARTS: [Part; 2] = [("gridstep", gridstep::compare), ("gridrun", gridrun::compare)];
+const PARTS: [Part; 4] = [
+    Part::Program("gridstep", gridstep::compare),
+    Part::Program("gridrun", gridrun::compare),
+    Part::Program("gridread", gridread::compare),
+    Part::Library,
+];
+
+impl Part {
+    fn name(self) -> &'static str {
+        match self {
+            Part::Program(name, _) => name,
+            Part::Library => "library",
+        }
+    }
+}
+
+#[cfg(linked)]
+fn library(wish: &Wish, total: &mut Total) -> Result<(), String> {
+    library::compare(wish, total);
+    Ok(())
+}
+
+#[cfg(not(linked))]
+fn library(_: &Wish, _: &mut Total) -> Result<(), String> {
+    Err("no library is linked: compare/run links it".to_string())
+}
 
 fn wish(mut words: impl Iterator<Item = String>) -> Option<(Wish, Vec<Part>)> {
     let mut wish = Wish { from: 0, first: false };
@@ -29,7 +58,7 @@ fn wish(mut words: impl Iterator<Item = String>) -> Option<(Wish, Vec<Part>)> {
         match word.as_str() {
             "--from" => wish.from = words.next()?.parse().ok()?,
             "--first" => wish.first = true,
-            name => parts.push(*PARTS.iter().find(|(part, _)| *part == name)?),
+            name => parts.push(*PARTS.iter().find(|part| part.name() == name)?),
         }
     }
     if parts.is_empty() {
@@ -41,12 +70,17 @@ fn wish(mut words: impl Iterator<Item = String>) -> Option<(Wish, Vec<Part>)> {
 /// All parts, once everything they need is there.
 fn compare(wish: &Wish, parts: &[Part]) -> Result<Total, String> {
     let starter = Starter::find()?;
-    for (program, _) in parts {
-        starter.has(program)?;
+    for part in parts {
+        if let Part::Program(program, _) = part {
+            starter.has(program)?;
+        }
     }
     let mut total = Total::default();
-    for (_, part) in parts {
-        part(&starter, wish, &mut total);
+    for part in parts {
+        match part {
+            Part::Program(_, compare) => compare(&starter, wish, &mut total),
+            Part::Library => library(wish, &mut total)?,
+        }
     }
     Ok(total)
 }

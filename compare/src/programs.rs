@@ -1,5 +1,9 @@
 // Starts a proved program on the bytes of its standard input, under the kit's emulator where it needs one.
 
+pub mod gridread;
+pub mod gridrun;
+pub mod gridstep;
+
 use std::io::{ErrorKind, Read, Write};
 use std::path::{Path, PathBuf};
 use std::process::{Command, Stdio};

@@ -14,17 +14,36 @@ pub struct Wish {
     pub first: bool,
 }
 
-/// One comparison: what both sides answered in a word or two, and what the difference is, with its seed.
+/// What was asked, and what both sides answered: the refusal's number or a word.
+#[derive(Clone, Debug, PartialEq, Eq, PartialOrd, Ord)]
+pub struct Met {
+    call: String,
+    /// So that 10 comes after 9.
+    digits: usize,
+    answer: String,
+}
+
+impl Met {
+    pub fn new(call: &str, answer: impl ToString) -> Met {
+        let answer = answer.to_string();
+        Met { call: call.to_string(), digits: answer.len(), answer }
+    }
+}
+
+/// One comparison: what it met, and what the difference is, with its seed.
 pub struct Outcome {
-    pub met: String,
+    pub met: Met,
     pub differs: Option<String>,
 }
 
+/// A call, and the answers that must be met, lest the comparison pass for want of cases.
+pub type Wanted<'a> = [(&'a str, &'a [&'a str])];
+
 #[derive(Default)]
 struct Findings {
-    met: BTreeMap<String, usize>,
+    met: BTreeMap<Met, usize>,
     /// By number, so that they are told in order though two threads find them.
-    differ: BTreeMap<usize, String>,
+    differ: BTreeMap<usize, Vec<String>>,
 }
 
 /// All parts together.
@@ -39,34 +58,39 @@ pub struct Total {
 const TOLD: usize = 10;
 
 impl Total {
-    /// Makes comparisons 0 to count − 1, as many at a time as there are processors, and tells what they met. Each of `wanted` must be met, lest
-    /// the comparison pass for want of cases.
+    /// Makes groups of comparisons 0 to count − 1, as many at a time as there are processors, and tells what they met.
     pub fn compare(
         &mut self,
         title: &str,
         wish: &Wish,
         count: usize,
-        wanted: &[&str],
-        one: impl Fn(usize) -> Outcome + Sync,
+        wanted: &Wanted,
+        group: impl Fn(usize) -> Vec<Outcome> + Sync,
     ) {
         println!("compare: {title}");
         let start = Instant::now();
-        let findings = gather(wish, count, one);
+        let (findings, whole) = gather(wish, count, group);
         let made: usize = findings.met.values().sum();
-        let met: Vec<String> = findings.met.iter().map(|(met, count)| format!("{met}: {count}")).collect();
-        println!("         {made} compared in {:.0} s; {}", start.elapsed().as_secs_f64(), met.join(", "));
-        for text in findings.differ.values().take(TOLD) {
+        let differ: Vec<&String> = findings.differ.values().flatten().collect();
+        let seconds = start.elapsed().as_secs_f64();
+        println!("         {made} compared in {seconds:.0} s, {} differ; {}", differ.len(), findings.told());
+        for text in differ.iter().take(TOLD) {
             println!("         DIFFERS {text}");
         }
-        if findings.differ.len() > TOLD {
-            println!("         and {} more", findings.differ.len() - TOLD);
+        if differ.len() > TOLD {
+            println!("         and {} more", differ.len() - TOLD);
         }
         self.compared += made;
-        self.differ += findings.differ.len();
-        if made == count {
-            for missing in wanted.iter().filter(|wanted| !findings.met.contains_key(**wanted)) {
-                println!("         NEVER MET {missing}");
-                self.never_met += 1;
+        self.differ += differ.len();
+        // A part that was stopped has not met everything.
+        if whole {
+            for (call, answers) in wanted {
+                for answer in
+                    answers.iter().filter(|answer| !findings.met.contains_key(&Met::new(call, answer)))
+                {
+                    println!("         NEVER MET {call} {answer}");
+                    self.never_met += 1;
+                }
             }
         }
     }
@@ -81,7 +105,20 @@ impl Total {
     }
 }
 
-fn gather(wish: &Wish, count: usize, one: impl Fn(usize) -> Outcome + Sync) -> Findings {
+impl Findings {
+    /// How often each answer was met, by call.
+    fn told(&self) -> String {
+        let mut calls: BTreeMap<&str, Vec<String>> = BTreeMap::new();
+        for (met, count) in &self.met {
+            calls.entry(&met.call).or_default().push(format!("{} ×{count}", met.answer));
+        }
+        let calls = calls.into_iter().map(|(call, answers)| format!("{call} {}", answers.join(", ")));
+        calls.collect::<Vec<String>>().join("; ")
+    }
+}
+
+/// What all groups found, and whether all were made.
+fn gather(wish: &Wish, count: usize, group: impl Fn(usize) -> Vec<Outcome> + Sync) -> (Findings, bool) {
     let (next, stop) = (AtomicUsize::new(0), AtomicBool::new(false));
     let findings = Mutex::new(Findings::default());
     let work = || {
@@ -90,12 +127,14 @@ fn gather(wish: &Wish, count: usize, one: impl Fn(usize) -> Outcome + Sync) -> F
             if number >= count {
                 break;
             }
-            let outcome = one(number);
+            let outcomes = group(number);
             let mut findings = findings.lock().expect("no comparison panics");
-            *findings.met.entry(outcome.met).or_default() += 1;
-            if let Some(text) = outcome.differs {
-                findings.differ.insert(number, text);
-                stop.store(wish.first, Ordering::Relaxed);
+            for outcome in outcomes {
+                *findings.met.entry(outcome.met).or_default() += 1;
+                if let Some(text) = outcome.differs {
+                    findings.differ.entry(number).or_default().push(text);
+                    stop.store(wish.first, Ordering::Relaxed);
+                }
             }
         }
     };
@@ -104,7 +143,7 @@ fn gather(wish: &Wish, count: usize, one: impl Fn(usize) -> Outcome + Sync) -> F
             scope.spawn(work);
         }
     });
-    findings.into_inner().expect("no comparison panics")
+    (findings.into_inner().expect("no comparison panics"), !stop.into_inner())
 }
 
 /// Where two byte strings part, and their first lines.

@@ -2,8 +2,8 @@
 
 use oracle::text::gridrun;
 
-use crate::programs::Starter;
-use crate::report::{apart, Outcome, Total, Wish};
+use super::Starter;
+use crate::report::{apart, Met, Outcome, Total, Wanted, Wish};
 use crate::small::SMALL;
 use crate::source::Source;
 
@@ -13,30 +13,17 @@ const DAMAGED: u64 = 120;
 const STEPS: [u32; 4] = [1, 2, 7, 60];
 
 /// All that gridrun can answer: to a run, and to a record.
-const ANSWERS: [&str; 12] = [
-    "run 0",
-    "run 7",
-    "run 8",
-    "run 9",
-    "record 1",
-    "record 2",
-    "record 3",
-    "record 4",
-    "record 5",
-    "record 6",
-    "record 10",
-    "record 11",
-];
+const ANSWERS: &Wanted =
+    &[("run", &["0", "7", "8", "9"]), ("record", &["1", "2", "3", "4", "5", "6", "10", "11"])];
 
 /// The run's number without its count, or the record's.
-fn met(wanted: &[u8]) -> String {
+fn met(wanted: &[u8]) -> Met {
     let line = wanted.split(|&byte| byte == b'\n').next().unwrap_or_default();
-    let line = String::from_utf8_lossy(line).into_owned();
-    let words: Vec<&str> = line.split(' ').collect();
-    match words[..] {
-        ["run", _, number, _] => format!("run {number}"),
-        ["record", number, _] => format!("record {number}"),
-        _ => line,
+    let line = String::from_utf8_lossy(line);
+    match line.split(' ').collect::<Vec<&str>>()[..] {
+        ["run", _, number, _] => Met::new("run", number),
+        ["record", number, _] => Met::new("record", number),
+        _ => Met::new(&line, ""),
     }
 }
 
@@ -72,8 +59,8 @@ pub fn compare(starter: &Starter, wish: &Wish, total: &mut Total) {
          three small ones at 0, 1000, 1001 and 4294967295 steps",
         wish.from
     );
-    total.compare(&title, wish, runs.len(), &ANSWERS, |number| {
+    total.compare(&title, wish, runs.len(), ANSWERS, |number| {
         let (source, steps) = runs[number];
-        outcome(starter, source, steps)
+        vec![outcome(starter, source, steps)]
     });
 }

@@ -2,8 +2,8 @@
 
 use oracle::text::{gridstep, GRIDSTEP_BYTES};
 
-use crate::programs::Starter;
-use crate::report::{apart, Outcome, Total, Wish};
+use super::Starter;
+use crate::report::{apart, Met, Outcome, Total, Wanted, Wish};
 use crate::small::SMALL;
 use crate::source::Source;
 
@@ -11,24 +11,14 @@ use crate::source::Source;
 const SEEDS: u64 = 1200;
 
 /// All that gridstep can answer: to a step, and to a record.
-const ANSWERS: [&str; 11] = [
-    "step 0",
-    "step 7",
-    "step 8",
-    "record 1",
-    "record 2",
-    "record 3",
-    "record 4",
-    "record 5",
-    "record 6",
-    "record 10",
-    "record 11",
-];
+const ANSWERS: &Wanted =
+    &[("step", &["0", "7", "8"]), ("record", &["1", "2", "3", "4", "5", "6", "10", "11"])];
 
 /// The step's number, or the record's.
-fn met(wanted: &str) -> String {
+fn met(wanted: &str) -> Met {
     let line = wanted.lines().find(|line| !line.starts_with("before")).unwrap_or_default();
-    line.split(' ').take(2).collect::<Vec<&str>>().join(" ")
+    let mut words = line.split(' ');
+    Met::new(words.next().unwrap_or_default(), words.next().unwrap_or_default())
 }
 
 fn outcome(starter: &Starter, source: Source) -> Outcome {
@@ -42,8 +32,8 @@ fn outcome(starter: &Starter, source: Source) -> Outcome {
 }
 
 pub fn compare(starter: &Starter, wish: &Wish, total: &mut Total) {
-    let mut part = |title: &str, sources: Vec<Source>, wanted: &[&str]| {
-        total.compare(title, wish, sources.len(), wanted, |number| outcome(starter, sources[number]));
+    let mut part = |title: &str, sources: Vec<Source>, wanted: &Wanted| {
+        total.compare(title, wish, sources.len(), wanted, |number| vec![outcome(starter, sources[number])]);
     };
 
     let seeds = wish.from..wish.from + SEEDS;
@@ -53,18 +43,16 @@ pub fn compare(starter: &Starter, wish: &Wish, total: &mut Total) {
     sources.extend((0..3).map(|more| Source::Followed(SMALL[0], GRIDSTEP_BYTES - 1 + more)));
     sources.push(Source::Followed(SMALL[0], 3 * GRIDSTEP_BYTES));
     sources.extend([Source::Solid([3, 41, 7]), Source::Solid([12, 6, 12])]);
-    part(
-        &format!(
-            "gridstep on {SEEDS} good and {SEEDS} damaged records, seeds from {}, and 6 at the limits of its room",
-            wish.from
-        ),
-        sources,
-        &ANSWERS,
+    let title = format!(
+        "gridstep on {SEEDS} good and {SEEDS} damaged records, seeds from {}, and 6 at the limits of its room",
+        wish.from
     );
+    part(&title, sources, ANSWERS);
 
     let lengths: Vec<(_, usize)> = SMALL.iter().map(|&small| (small, small.record().len())).collect();
     let cut = lengths.iter().flat_map(|&(small, length)| (0..=length).map(move |to| Source::Cut(small, to)));
-    part("gridstep on every prefix of three small records", cut.collect(), &["step 0", "record 10"]);
+    let wanted: &Wanted = &[("step", &["0"]), ("record", &["10"])];
+    part("gridstep on every prefix of three small records", cut.collect(), wanted);
 
     let changed = lengths.iter().flat_map(|&(small, length)| {
         let record = small.record();
@@ -73,9 +61,8 @@ pub fn compare(starter: &Starter, wish: &Wish, total: &mut Total) {
             (0..8).map(move |bit| Source::Changed(small, at, byte ^ 1 << bit))
         })
     });
-    part(
-        "gridstep on three small records with every single byte changed to 8 others, one for each of its bits",
-        changed.collect(),
-        &["step 0", "step 7", "record 1", "record 3", "record 4", "record 6", "record 11"],
-    );
+    let title =
+        "gridstep on three small records with every single byte changed to 8 others, each of its bits turned";
+    let wanted: &Wanted = &[("step", &["0", "7"]), ("record", &["1", "3", "4", "6", "11"])];
+    part(title, changed.collect(), wanted);
 }
