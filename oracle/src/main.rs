@@ -8,9 +8,9 @@ use std::time::Instant;
 use oracle::damage::bad;
 use oracle::hunt::{hunt, EVENTS};
 use oracle::scenes::good;
-use oracle::text::{gridread, gridrun, gridstep, Query, GRIDSTEP_BYTES};
+use oracle::text::{gridread, gridrun, gridstep, requests, GRIDSTEP_BYTES};
 
-const USAGE: &str = "usage: oracle gridstep | gridrun K | gridread [place X Y Z | point C | depth X Y]... \
+const USAGE: &str = "usage: oracle gridstep | gridrun K | gridread (place X Y Z | point C | depth X Y)... \
 | make good|bad SEED | batch good|bad FROM TO DIR (TO itself left out) | hunt SEEDS STEPS";
 
 /// The record of a kind and a seed.
@@ -22,23 +22,6 @@ fn maker(kind: &str) -> Option<Maker> {
         "bad" => Some(|seed| bad(seed).bytes),
         _ => None,
     }
-}
-
-fn queries(mut arguments: &[&str]) -> Option<Vec<Query>> {
-    let mut queries = Vec::new();
-    while !arguments.is_empty() {
-        let (query, rest) = match arguments {
-            ["place", x, y, z, rest @ ..] => {
-                (Query::Place([x.parse().ok()?, y.parse().ok()?, z.parse().ok()?]), rest)
-            }
-            ["point", cell, rest @ ..] => (Query::Point(cell.parse().ok()?), rest),
-            ["depth", x, y, rest @ ..] => (Query::Depth(x.parse().ok()?, y.parse().ok()?), rest),
-            _ => return None,
-        };
-        queries.push(query);
-        arguments = rest;
-    }
-    Some(queries)
 }
 
 fn input(most: u64) -> std::io::Result<Vec<u8>> {
@@ -80,8 +63,8 @@ fn obey(arguments: &[&str]) -> Option<std::io::Result<ExitCode>> {
             input(u64::MAX).and_then(|bytes| print(&gridrun(&bytes, steps)))
         }
         ["gridread", rest @ ..] => {
-            let queries = queries(rest)?;
-            input(u64::MAX).and_then(|bytes| print(gridread(&bytes, &queries).as_bytes()))
+            let requests = requests(rest)?;
+            input(u64::MAX).and_then(|bytes| print(gridread(&bytes, &requests).as_bytes()))
         }
         ["make", kind, seed] => print(&maker(kind)?(seed.parse().ok()?)),
         ["batch", kind, from, to, folder] => {

@@ -1,5 +1,7 @@
 // What the programs print: gridstep's text, and the lines of gridrun and gridread.
 
+use std::str::FromStr;
+
 use crate::grid::Refusal;
 use crate::readings::{cell_point, depth, place, Depth};
 use crate::record::{read_within, write};
@@ -81,38 +83,75 @@ pub fn gridrun(bytes: &[u8], steps: u32) -> Vec<u8> {
     output
 }
 
-/// A question to gridread.
+/// A request to gridread.
 #[derive(Clone, Copy, Debug, PartialEq, Eq)]
-pub enum Query {
+pub enum Request {
     Place([i64; 3]),
     Point(u64),
     Depth(u64, u64),
 }
 
-/// gridread's whole output, a line for each question.
-pub fn gridread(bytes: &[u8], queries: &[Query]) -> String {
+impl Request {
+    /// The arguments that ask for it.
+    pub fn words(&self) -> Vec<String> {
+        let (name, numbers) = match self {
+            Request::Place(point) => ("place", point.map(|number| number.to_string()).to_vec()),
+            Request::Point(cell) => ("point", vec![cell.to_string()]),
+            Request::Depth(x, y) => ("depth", vec![x.to_string(), y.to_string()]),
+        };
+        [vec![name.to_string()], numbers].concat()
+    }
+}
+
+/// A number of digits alone, with a sign before them where one may stand.
+fn number<T: FromStr>(word: &str, signed: bool) -> Option<T> {
+    let digits = word.strip_prefix('-').filter(|_| signed).unwrap_or(word);
+    let spelled = word.len() <= 64 && !digits.is_empty() && digits.bytes().all(|byte| byte.is_ascii_digit());
+    word.parse().ok().filter(|_| spelled)
+}
+
+/// The requests that gridread's arguments make; none where one cannot be read, or where there is none.
+pub fn requests(mut arguments: &[&str]) -> Option<Vec<Request>> {
+    let mut requests = Vec::new();
+    while !arguments.is_empty() {
+        let (request, rest) = match arguments {
+            ["place", x, y, z, rest @ ..] => {
+                (Request::Place([number(x, true)?, number(y, true)?, number(z, true)?]), rest)
+            }
+            ["point", cell, rest @ ..] => (Request::Point(number(cell, false)?), rest),
+            ["depth", x, y, rest @ ..] => (Request::Depth(number(x, false)?, number(y, false)?), rest),
+            _ => return None,
+        };
+        requests.push(request);
+        arguments = rest;
+    }
+    (!requests.is_empty()).then_some(requests)
+}
+
+/// gridread's whole output, a line for each request.
+pub fn gridread(bytes: &[u8], requests: &[Request]) -> String {
     let (reading, store) = match read_within(bytes, ROOM) {
         Ok(accepted) => accepted,
         Err(refusal) => return refused_record(refusal),
     };
     let sides = reading.sides;
-    let answer = |query: &Query| match *query {
-        Query::Place(point) => {
+    let answer = |request: &Request| match *request {
+        Request::Place(point) => {
             place(sides, reading.settings.edge, reading.origin, point).map(|cell| format!("cell {cell}"))
         }
-        Query::Point(cell) => cell_point(sides, &store.fills, cell).map(|point| {
+        Request::Point(cell) => cell_point(sides, &store.fills, cell).map(|point| {
             let [x, y, z] = point.halves;
-            format!("point {x}/2 {y}/2 {z}/2 {}/65536", point.fill)
+            format!("{x}/2 {y}/2 {z}/2 {}/65536", point.fill)
         }),
-        Query::Depth(x, y) => depth(sides, &store.flags, &store.fills, x, y).map(|depth| match depth {
+        Request::Depth(x, y) => depth(sides, &store.flags, &store.fills, x, y).map(|depth| match depth {
             Depth::Solid => "solid".to_string(),
             Depth::Dry => "dry".to_string(),
-            Depth::Deep(sum) => format!("depth {sum}/65536"),
+            Depth::Deep(sum) => format!("{sum}/65536"),
         }),
     };
-    let line = |query: &Query| match answer(query) {
-        Ok(line) => line + "\n",
-        Err(refusal) => format!("refused {}\n", number_and_place(Some(refusal))),
+    let line = |request: &Request| {
+        let told = answer(request).unwrap_or_else(|refusal| number_and_place(Some(refusal)));
+        format!("{} {told}\n", request.words()[0])
     };
-    queries.iter().map(line).collect()
+    requests.iter().map(line).collect()
 }

@@ -1,0 +1,130 @@
+// The library's functions themselves, on raw slices that no record can hold: wrong lengths, any flags, parts, masses, fills and settings.
+// After each call its answers and every lent slice, refused or not, are compared with the independent program's.
+
+mod calls;
+mod cases;
+#[path = "library/raw.rs"]
+mod raw;
+mod reference;
+
+use oracle::record::read_within;
+
+use crate::report::{Met, Outcome, Total, Wanted, Wish};
+use crate::small::{Small, SMALL};
+use crate::source::Source;
+use cases::Case;
+
+/// Cases by seed; each is handed to all eight functions.
+const SEEDS: u64 = 50_000;
+
+/// What a call answers: number and place of the refusal, 0 0 if there is none, and its other values as bits.
+#[derive(Clone, Debug, PartialEq, Eq)]
+pub struct Reply {
+    pub number: u8,
+    pub place: usize,
+    pub values: Vec<u64>,
+}
+
+type Call = fn(&mut Case) -> Reply;
+
+/// A function by its name: the library's, and the independent program's.
+type Pair = (&'static str, Call, Call);
+
+const CHECK: Pair = ("check", calls::check, reference::check);
+const STEP: Pair = ("step", calls::step, reference::step);
+const RUN: Pair = ("run", calls::run, reference::run);
+const READ: Pair = ("read", calls::read, reference::read);
+const WRITE: Pair = ("write", calls::write, reference::write);
+const PLACE: Pair = ("place", calls::place, reference::place);
+const POINT: Pair = ("point", calls::point, reference::point);
+const DEPTH: Pair = ("depth", calls::depth, reference::depth);
+
+const ALL: [Pair; 8] = [CHECK, STEP, RUN, READ, WRITE, PLACE, POINT, DEPTH];
+
+/// All that the functions can answer; accepted depths by their kind.
+const ANSWERS: &Wanted = &[
+    ("check", &["0", "1", "2", "4", "5", "6"]),
+    ("step", &["0", "1", "2", "3", "4", "5", "6", "7", "8"]),
+    ("run", &["0", "1", "2", "3", "4", "5", "6", "7", "8", "9"]),
+    ("read", &["0", "1", "2", "3", "4", "5", "6", "10", "11"]),
+    ("write", &["0", "1", "2", "3", "4", "5", "6", "12"]),
+    ("place", &["0", "1", "3", "13"]),
+    ("point", &["0", "1", "2", "6", "13"]),
+    ("depth", &["solid", "dry", "deep", "1", "2", "4", "6", "13"]),
+];
+
+fn met(call: &'static str, reply: &Reply) -> Met {
+    match (call, reply.number, reply.values.first()) {
+        ("depth", 0, Some(1)) => Met::new(call, "solid"),
+        ("depth", 0, Some(2)) => Met::new(call, "dry"),
+        ("depth", 0, Some(3)) => Met::new(call, "deep"),
+        (_, number, _) => Met::new(call, number),
+    }
+}
+
+/// One function on one case; what the independent program answers and leaves.
+fn called((call, library, reference): Pair, case: &Case, name: &str) -> (Outcome, Reply, Case) {
+    let (mut given_case, mut wanted_case) = (case.clone(), case.clone());
+    let (given, wanted) = (library(&mut given_case), reference(&mut wanted_case));
+    let differs = if given == wanted {
+        wanted_case.apart(&given_case)
+    } else {
+        Some(format!("wanted {wanted:?}, given {given:?}"))
+    };
+    let differs = differs.map(|text| format!("{call}, {name}: {text}"));
+    (Outcome { met: met(call, &wanted), differs }, wanted, wanted_case)
+}
+
+/// A record through the reader and, where it is accepted, the set that was read through the step and the writer.
+fn followed(source: Source, small: Small) -> Vec<Outcome> {
+    let case = Case::of_record(source.bytes(), small.scene().state.cells.len());
+    let (read, reply, after) = called(READ, &case, &source.to_string());
+    let mut outcomes = vec![read];
+    if let Some(case) = after.read(&reply) {
+        outcomes.extend([STEP, WRITE].map(|pair| called(pair, &case, &source.to_string()).0));
+    }
+    outcomes
+}
+
+pub fn compare(wish: &Wish, total: &mut Total) {
+    let title =
+        format!("the library's eight functions on raw slices, {SEEDS} cases, seeds from {}", wish.from);
+    total.compare(&title, wish, SEEDS as usize, ANSWERS, |number| {
+        let seed = wish.from + number as u64;
+        let case = Case::of(seed);
+        let name = format!("raw seed {seed}");
+        ALL.map(|pair| called(pair, &case, &name).0).into()
+    });
+
+    let mut sources = Vec::new();
+    for small in SMALL {
+        let record = small.record();
+        sources.extend((0..=record.len()).map(|length| (Source::Cut(small, length), small)));
+        for (at, &byte) in record.iter().enumerate() {
+            let others = (0..=u8::MAX).filter(|other| *other != byte);
+            sources.extend(others.map(|other| (Source::Changed(small, at, other), small)));
+        }
+    }
+    let title = "the library's reader, then step and writer, on every prefix of three small records and on each with every \
+                 single byte changed to all 255 others";
+    let wanted: &Wanted =
+        &[("read", &["0", "1", "2", "3", "4", "6", "10", "11"]), ("step", &["0", "7"]), ("write", &["0"])];
+    total.compare(title, wish, sources.len(), wanted, |number| {
+        let (source, small) = sources[number];
+        followed(source, small)
+    });
+
+    let rooms: Vec<(Small, usize)> = SMALL
+        .iter()
+        .flat_map(|&small| (0..small.record().len() + 4).map(move |room| (small, room)))
+        .collect();
+    let wanted: &Wanted = &[("write", &["0", "12"])];
+    let title = "the library's writer on three small records, every size of room up to 3 bytes too many";
+    total.compare(title, wish, rooms.len(), wanted, |number| {
+        let (small, room) = rooms[number];
+        let record = small.record();
+        let (reading, store) = read_within(&record, record.len()).expect("a small record is good");
+        let case = Case { room: vec![0xa5; room], ..Case::of_reading(&reading, store) };
+        vec![called(WRITE, &case, &format!("{} in room of {room} bytes", small.name())).0]
+    });
+}

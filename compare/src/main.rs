@@ -1,0 +1,100 @@
+// The comparison: the proved programs beside the independent program, by seed. Status 1 if anything differs.
+
+#[cfg(linked)]
+mod library;
+mod programs;
+mod report;
+mod small;
+mod source;
+
+use std::process::ExitCode;
+
+use programs::{gridread, gridrun, gridstep, Starter};
+use report::{Total, Wish};
+
+const USAGE: &str = "compare [--from SEED] [--first] [PART...], from the top of the repository
+  PART      gridstep, gridrun, gridread or library; all if not said
+  --from    the first seed, 0 if not said
+  --first   stop a part at its first difference";
+
+/// A program by its name, or the library.
+#[derive(Clone, Copy)]
+enum Part {
+    Program(&'static str, fn(&Starter, &Wish, &mut Total)),
+    Library,
+}
+
+const PARTS: [Part; 4] = [
+    Part::Program("gridstep", gridstep::compare),
+    Part::Program("gridrun", gridrun::compare),
+    Part::Program("gridread", gridread::compare),
+    Part::Library,
+];
+
+impl Part {
+    fn name(self) -> &'static str {
+        match self {
+            Part::Program(name, _) => name,
+            Part::Library => "library",
+        }
+    }
+}
+
+#[cfg(linked)]
+fn library(wish: &Wish, total: &mut Total) -> Result<(), String> {
+    library::compare(wish, total);
+    Ok(())
+}
+
+#[cfg(not(linked))]
+fn library(_: &Wish, _: &mut Total) -> Result<(), String> {
+    Err("no library is linked: compare/run links it".to_string())
+}
+
+fn wish(mut words: impl Iterator<Item = String>) -> Option<(Wish, Vec<Part>)> {
+    let mut wish = Wish { from: 0, first: false };
+    let mut parts = Vec::new();
+    while let Some(word) = words.next() {
+        match word.as_str() {
+            "--from" => wish.from = words.next()?.parse().ok()?,
+            "--first" => wish.first = true,
+            name => parts.push(*PARTS.iter().find(|part| part.name() == name)?),
+        }
+    }
+    if parts.is_empty() {
+        parts = PARTS.to_vec();
+    }
+    Some((wish, parts))
+}
+
+/// All parts, once everything they need is there.
+fn compare(wish: &Wish, parts: &[Part]) -> Result<Total, String> {
+    let starter = Starter::find()?;
+    for part in parts {
+        if let Part::Program(program, _) = part {
+            starter.has(program)?;
+        }
+    }
+    let mut total = Total::default();
+    for part in parts {
+        match part {
+            Part::Program(_, compare) => compare(&starter, wish, &mut total),
+            Part::Library => library(wish, &mut total)?,
+        }
+    }
+    Ok(total)
+}
+
+fn main() -> ExitCode {
+    let Some((wish, parts)) = wish(std::env::args().skip(1)) else {
+        eprintln!("{USAGE}");
+        return ExitCode::from(2);
+    };
+    match compare(&wish, &parts) {
+        Ok(total) => total.tell(),
+        Err(error) => {
+            eprintln!("compare: {error}");
+            ExitCode::from(2)
+        }
+    }
+}

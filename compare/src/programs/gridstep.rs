@@ -1,0 +1,68 @@
+// gridstep: records by seed, and every prefix and changed byte of the small ones. Its whole output is compared.
+
+use oracle::text::{gridstep, GRIDSTEP_BYTES};
+
+use super::Starter;
+use crate::report::{apart, Met, Outcome, Total, Wanted, Wish};
+use crate::small::SMALL;
+use crate::source::Source;
+
+/// Good records, and as many damaged ones.
+const SEEDS: u64 = 1200;
+
+/// All that gridstep can answer: to a step, and to a record.
+const ANSWERS: &Wanted =
+    &[("step", &["0", "7", "8"]), ("record", &["1", "2", "3", "4", "5", "6", "10", "11"])];
+
+/// The step's number, or the record's.
+fn met(wanted: &str) -> Met {
+    let line = wanted.lines().find(|line| !line.starts_with("before")).unwrap_or_default();
+    let mut words = line.split(' ');
+    Met::new(words.next().unwrap_or_default(), words.next().unwrap_or_default())
+}
+
+fn outcome(starter: &Starter, source: Source) -> Outcome {
+    let bytes = source.bytes();
+    let wanted = gridstep(&bytes);
+    let differs = match starter.output("gridstep", &[], &bytes) {
+        Ok(given) => apart(wanted.as_bytes(), &given),
+        Err(error) => Some(error),
+    };
+    Outcome { met: met(&wanted), differs: differs.map(|text| format!("gridstep, {source}: {text}")) }
+}
+
+pub fn compare(starter: &Starter, wish: &Wish, total: &mut Total) {
+    let mut part = |title: &str, sources: Vec<Source>, wanted: &Wanted| {
+        total.compare(title, wish, sources.len(), wanted, |number| vec![outcome(starter, sources[number])]);
+    };
+
+    let seeds = wish.from..wish.from + SEEDS;
+    let mut sources: Vec<Source> =
+        seeds.flat_map(|seed| [Source::Good(seed), Source::Damaged(seed)]).collect();
+    // About the most bytes that it takes, and the most cells: 861 and 864.
+    sources.extend((0..3).map(|more| Source::Followed(SMALL[0], GRIDSTEP_BYTES - 1 + more)));
+    sources.push(Source::Followed(SMALL[0], 3 * GRIDSTEP_BYTES));
+    sources.extend([Source::Solid([3, 41, 7]), Source::Solid([12, 6, 12])]);
+    let title = format!(
+        "gridstep on {SEEDS} good and {SEEDS} damaged records, seeds from {}, and 6 at the limits of its room",
+        wish.from
+    );
+    part(&title, sources, ANSWERS);
+
+    let lengths: Vec<(_, usize)> = SMALL.iter().map(|&small| (small, small.record().len())).collect();
+    let cut = lengths.iter().flat_map(|&(small, length)| (0..=length).map(move |to| Source::Cut(small, to)));
+    let wanted: &Wanted = &[("step", &["0"]), ("record", &["10"])];
+    part("gridstep on every prefix of three small records", cut.collect(), wanted);
+
+    let changed = lengths.iter().flat_map(|&(small, length)| {
+        let record = small.record();
+        (0..length).flat_map(move |at| {
+            let byte = record[at];
+            (0..8).map(move |bit| Source::Changed(small, at, byte ^ 1 << bit))
+        })
+    });
+    let title =
+        "gridstep on three small records with every single byte changed to 8 others, each of its bits turned";
+    let wanted: &Wanted = &[("step", &["0", "7"]), ("record", &["1", "3", "4", "6", "11"])];
+    part(title, changed.collect(), wanted);
+}
