@@ -2,9 +2,9 @@
 use crate::answers::number_of;
 use crate::answers::place_of;
 use grid::Sides;
-use grid::running;
 use lattice::Settings;
-ghost use Rattle.grid.specs.Turns.{lent};
+use run::running;
+ghost use Rattle.run.specs.Turns.{lent};
 ghost use Rattle.host.specs.Promise.{sidesOf, settingsOf, RunTold};
 
 // At most `steps` steps between the two sets; how many were made.

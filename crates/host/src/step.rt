@@ -2,9 +2,9 @@
 use crate::answers::number_of;
 use crate::answers::place_of;
 use grid::Sides;
-use grid::stepping;
 use lattice::Settings;
-ghost use Rattle.grid.specs.Turns.{lent};
+use step::stepping;
+ghost use Rattle.run.specs.Turns.{lent};
 ghost use Rattle.host.specs.Promise.{sidesOf, settingsOf, StepTold};
 
 // One step from the first set to the second.
