@@ -4,7 +4,6 @@ use mathlib.Core.Path.{_≡_, refl, sym, ap, ap₂, _∙_}
 use mathlib.Core.Bool.{Bool, true, false, _&&_, cond, false≢true}
 use mathlib.Core.List.{List}
 use Prim.Native.Nat.{ℕ, suc, _+_, _-_, _*_, _≤_, _<_}
-use native.Mathlib.Nat.{mul-le-mul-left}
 use native.Mathlib.Omega.{arith}
 use native.Mathlib.Decide.{decLt, ℕ-discrete}
 use lib.Dec.{leb, ltb, eqb}
@@ -16,18 +15,10 @@ use Rattle.grid.specs.declared.Sides.{Sides}
 use Rattle.grid.specs.Grid.{sidesGood, cellsOf}
 use Rattle.grid.specs.Passes.{Inner, lowOf, inside, besideAt, besideIn, openMark, openedMark, keptMark, Emptying, turnedFlag, Marked, Flagged, flagOf}
 use Rattle.grid.specs.Step.{flagAfter}
-use Rattle.grid.proofs.GoodSides.{good-sides}
 use Rattle.grid.proofs.Walls.{inner}
 use Rattle.grid.proofs.Lists.{getD-there}
 use Rattle.grid.proofs.Beside.{Offsets, beside-is, any-cong}
 use Rattle.grid.proofs.Ranges.{ltb-same, ranged, Ranged, ranged-all}
-
--- the first inner cell and the last are two different planes apart
-pub room : (s : Sides) → sidesGood s ≡ true → lowOf s + lowOf s ≤ cellsOf s
-unfolding lowOf cellsOf
-room s e =
-    let g = good-sides s e in
-    omega (arith, g .x .low, mul-le-mul-left (s .nx) (g .y .low), mul-le-mul-left (s .nx * s .ny) (g .z .low))
 
 pub inside-inner : (s : Sides) (c : ℕ) → inside s c ≡ true → Inner s c
 unfolding inside
@@ -46,9 +37,6 @@ pub range-is : (s : Sides) (low n c : ℕ) → low ≡ lowOf s → n ≡ cellsOf
 unfolding inside
 range-is s low n c l e =
     ap₂ (λ (x y : Bool). x && y) (ap (λ (m : ℕ). leb m c) l) (ltb-same c (n - low) (c + lowOf s) (cellsOf s) (λ h. omega arith) (λ h. omega arith))
-
-pub range-inner : (s : Sides) (low n c : ℕ) → low ≡ lowOf s → n ≡ cellsOf s → low ≤ c → c < n - low → Inner s c
-range-inner s low n c l e h k = record { low = omega arith; high = omega arith }
 
 -- two choices on one test
 pub cond-cong : (t u : Bool) (x y z : ℕ) → t ≡ u → (u ≡ true → x ≡ y) → cond t x z ≡ cond u y z

@@ -18,6 +18,8 @@ pub mod Coordinates
 pub mod Copies
 pub mod Lists
 pub mod Walls
+pub mod Inside
+pub mod Open
 pub mod Beside
 pub mod Prepared
 pub mod Blocks

@@ -2,12 +2,31 @@
 use crate::Sides;
 use crate::neighbours;
 ghost use mathlib.Core.Path.{_≡_};
+ghost use mathlib.Core.Bool.{false};
+ghost use lib.ListN.{length};
 ghost use Rattle.grid.specs.Grid.{gridOf};
 ghost use Rattle.grid.specs.Good.{badFluid};
 ghost use Rattle.grid.specs.Passes.{Flagged, flagOf};
 
+// Whether a fluid cell may have an empty neighbour: if not, none has. No way out of the loop, so that it runs many cells at a time.
+fn any_open(flags: &[u8], s: Sides) -> bool
+    requires { ⌜ Flagged s (now flags) ⌝ }
+    ensures { λ r. ⌜ (r ≡ false → length (now (flags .entry)) ≡ badFluid 18 (gridOf s) (flagOf (now (flags .entry)))) ⌝ }
+{
+    let off = neighbours::offsets(s);
+    let low = neighbours::low_of(s);
+    let end = flags.len() - low;
+    let mut found = false;
+    let mut c = low;
+    while c < end {
+        found = found | (flags[c] == 2) & neighbours::beside(flags, &off, c - low, 0);
+        c += 1;
+    }
+    found
+}
+
 // The lowest-numbered fluid cell that has an empty neighbour; N if there is none.
-pub fn first_open(flags: &[u8], s: Sides) -> usize
+fn lowest_open(flags: &[u8], s: Sides) -> usize
     requires { ⌜ Flagged s (now flags) ⌝ }
     ensures { λ r. ⌜ r ≡ badFluid 18 (gridOf s) (flagOf (now (flags .entry))) ⌝ }
 {
@@ -28,4 +47,15 @@ pub fn first_open(flags: &[u8], s: Sides) -> usize
         c += 1;
     }
     c
+}
+
+// The same, looked for only where there may be one.
+pub fn first_open(flags: &[u8], s: Sides) -> usize
+    requires { ⌜ Flagged s (now flags) ⌝ }
+    ensures { λ r. ⌜ r ≡ badFluid 18 (gridOf s) (flagOf (now (flags .entry))) ⌝ }
+{
+    if any_open(flags, s) {
+        return lowest_open(flags, s);
+    }
+    flags.len()
 }

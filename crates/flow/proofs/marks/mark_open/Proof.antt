@@ -7,7 +7,8 @@ use lib.ListN.{length, getD}
 use Rattle.grid.specs.Passes.{Inner, besideAt, openMark}
 use Rattle.grid.proofs.Beside.{Offsets, above, reach}
 use Rattle.grid.proofs.Ranges.{Ranged, ranged-first, ranged-more}
-use Rattle.flow.proofs.Marking.{room, range-inner, opened}
+use Rattle.grid.proofs.Inside.{room, range-inner}
+use Rattle.flow.proofs.Marking.{opened}
 use Rattle.flow.proofs.marks.mark_open.Statement.{statement}
 use Rattle.flow.proofs.marks.mark_open.Tie as tie
 

@@ -69,8 +69,8 @@ mul-paste c = search needs
 paste-requires : tie.Need-paste-requires
 paste-requires c κs = search needs
 
-fair-parts-requires : tie.Need-fair-parts-requires
-fair-parts-requires c κs = search needs
+fair-requires : tie.Need-fair-requires
+fair-requires c κs = search needs
 
 same-length : tie.Need-same-length
 same-length c = search needs
@@ -86,7 +86,7 @@ returns-2 c flags parts off low l e =
     _ _ _ (s .pre .2) (c .before .before .before .paste .ensures) refl
     (sym (a .steady .ensures) ∙ not-false _ (k .before .before .if1 .left))
     (toZ-ofZ (record { sfits = c .struct-told2 .given .0 .1 }))
-    (c .before .fair-parts .ensures)
+    (c .before .fair .ensures)
 
 pub put-moved-spec : {M : Type 1} → statement M
 put-moved-spec =
@@ -99,6 +99,6 @@ put-moved-spec =
     collided-requires
     mul-paste
     paste-requires
-    fair-parts-requires
+    fair-requires
     same-length
     returns-2)

@@ -27,7 +27,7 @@ use Rattle.flow.specs.Flowed.{Flowable, Flowed, Went, stopped, through}
 use Rattle.flow.specs.PutAt.{PutAt, Putting}
 use Rattle.flow.specs.Sources.{Mirrored, sourceOf}
 use Rattle.flow.specs.Trade.{Traders}
-use Rattle.flow.proofs.Marking.{room}
+use Rattle.grid.proofs.Inside.{room}
 use Rattle.flow.proofs.Mirrored.{mirrored, around, immersed}
 use Rattle.flow.proofs.Poise.{few, liquid-inner, poised-bodied, poised-mass, poised-fill}
 use Rattle.flow.proofs.Walked.{Walked, walked-first, walked-turn, walked-stopped, walked-moved}

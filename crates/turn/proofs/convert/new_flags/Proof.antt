@@ -9,7 +9,8 @@ use Rattle.grid.specs.Passes.{Inner}
 use Rattle.grid.proofs.Walls.{flag-low}
 use Rattle.grid.proofs.Beside.{Offsets, above, reach}
 use Rattle.grid.proofs.Ranges.{Ranged, ranged-first, ranged-more}
-use Rattle.flow.proofs.Marking.{room, range-inner, turnedAt, turned}
+use Rattle.grid.proofs.Inside.{room, range-inner}
+use Rattle.flow.proofs.Marking.{turnedAt, turned}
 use Rattle.turn.proofs.convert.new_flags.Statement.{statement}
 use Rattle.turn.proofs.convert.new_flags.Tie as tie
 
