@@ -1,2 +1,3 @@
-pub mod Signs
 pub mod Rooms
+pub mod Decimals
+pub mod Amounts

@@ -1,7 +1,6 @@
 // Lines of text on standard output, word by word and number by number.
 use libc::STDOUT_FILENO;
-ghost use mathlib.Core.Path.{_≡_};
-ghost use lib.IntN.{natAbs};
+use whole::magnitude;
 
 pub fn word(text: &[u8]) {
     io::write_all(STDOUT_FILENO, text);
@@ -11,16 +10,6 @@ pub fn word(text: &[u8]) {
 pub fn count(n: usize) {
     word(b" ");
     io::print_decimal(STDOUT_FILENO, n as u64);
-}
-
-// `!x` is -x - 1, which fits where -x may not.
-fn magnitude(x: i64) -> u64
-    ensures { λ r. ⌜ r ≡ natAbs x ⌝ }
-{
-    if x < 0 {
-        return !x as u64 + 1;
-    }
-    x as u64
 }
 
 // A space and an amount, which may be negative.

@@ -8,14 +8,5 @@ pub mod Promise
 pub mod Passes
 pub mod Between
 pub mod Sight
-pub mod Trade
-pub mod Gifts
 pub mod Pasted
-pub mod Filled
-pub mod Born
-pub mod Sources
-pub mod PutAt
 pub mod Halfway
-pub mod Flowed
-pub mod Turns
-pub mod Finished

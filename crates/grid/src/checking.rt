@@ -36,13 +36,7 @@ fn good_cell(flags: &[u8], parts: &[i32], masses: &[i32], fills: &[u32], c: usiz
 }
 
 // Test 6, and test 8: the lowest cell that breaks a rule, N for the carry alone, N + 1 if nothing is broken.
-pub(crate) fn first_bad(
-    flags: &[u8],
-    parts: &[i32],
-    masses: &[i32],
-    fills: &[u32],
-    carry: i64,
-) -> usize
+pub fn first_bad(flags: &[u8], parts: &[i32], masses: &[i32], fills: &[u32], carry: i64) -> usize
     requires { ⌜ Sized (length (now flags)) (record { flags = now flags; parts = now parts; masses = now masses; fills = now fills; carry = carry ∷ [] }) ⌝ }
     ensures { λ r. ⌜ r ≡ badRule d3q19 (length (now (flags .entry))) (stateOf 18 (record { flags = now (flags .entry); parts = now (parts .entry); masses = now (masses .entry); fills = now (fills .entry); carry = carry ∷ [] })) ⌝ }
 {

@@ -2,7 +2,7 @@
 ghost use mathlib.Core.Path.{_≡_};
 ghost use lib.ListN.{length, replicate};
 
-pub(crate) fn copy_u8(src: &[u8], dst: &mut [u8])
+pub fn copy_u8(src: &[u8], dst: &mut [u8])
     requires { ⌜ length (now dst) ≡ length (now src) ⌝ }
     ensures { λ r. ⌜ now (dst .exit) ≡ now (src .entry) ⌝ }
 {
@@ -13,7 +13,7 @@ pub(crate) fn copy_u8(src: &[u8], dst: &mut [u8])
     }
 }
 
-pub(crate) fn copy_u32(src: &[u32], dst: &mut [u32])
+pub fn copy_u32(src: &[u32], dst: &mut [u32])
     requires { ⌜ length (now dst) ≡ length (now src) ⌝ }
     ensures { λ r. ⌜ now (dst .exit) ≡ now (src .entry) ⌝ }
 {
@@ -24,7 +24,7 @@ pub(crate) fn copy_u32(src: &[u32], dst: &mut [u32])
     }
 }
 
-pub(crate) fn copy_i32(src: &[i32], dst: &mut [i32])
+pub fn copy_i32(src: &[i32], dst: &mut [i32])
     requires { ⌜ length (now dst) ≡ length (now src) ⌝ }
     ensures { λ r. ⌜ now (dst .exit) ≡ now (src .entry) ⌝ }
 {
@@ -35,7 +35,7 @@ pub(crate) fn copy_i32(src: &[i32], dst: &mut [i32])
     }
 }
 
-pub(crate) fn copy_i64(src: &[i64], dst: &mut [i64])
+pub fn copy_i64(src: &[i64], dst: &mut [i64])
     requires { ⌜ length (now dst) ≡ length (now src) ⌝ }
     ensures { λ r. ⌜ now (dst .exit) ≡ now (src .entry) ⌝ }
 {

@@ -3,7 +3,7 @@ ghost use mathlib.Core.Path.{_≡_};
 ghost use Rattle.grid.specs.State.{liquid};
 
 // Fluid or interface.
-pub(crate) fn is_liquid(f: u8) -> bool
+pub fn is_liquid(f: u8) -> bool
     ensures { λ r. ⌜ r ≡ liquid f ⌝ }
 {
     (f == 1) | (f == 2)

@@ -16,7 +16,7 @@ fn cell_at(s: Sides, x: usize, y: usize, z: usize) -> usize
 }
 
 // The lowest cell that is not in the outer layer.
-pub(crate) fn low_of(s: Sides) -> usize
+pub fn low_of(s: Sides) -> usize
     requires { ⌜ sidesGood s ≡ true ⌝ }
     ensures { λ r. ⌜ r ≡ lowOf s ⌝ }
 {
@@ -24,7 +24,7 @@ pub(crate) fn low_of(s: Sides) -> usize
 }
 
 // The neighbours of the lowest cell, in the order of the directions.
-pub(crate) fn offsets(s: Sides) -> [usize; 19]
+pub fn offsets(s: Sides) -> [usize; 19]
     requires { ⌜ sidesGood s ≡ true ⌝ }
     ensures { λ r. ⌜ r ≡ tab 19 (offsetOf s) ⌝ }
 {
@@ -52,7 +52,7 @@ pub(crate) fn offsets(s: Sides) -> [usize; 19]
 }
 
 // Whether a neighbour's byte is m; k is c - low. By pairs and with no way out, so that the passes above run many cells at a time.
-pub(crate) fn beside(bytes: &[u8], off: &[usize; 19], k: usize, m: u8) -> bool
+pub fn beside(bytes: &[u8], off: &[usize; 19], k: usize, m: u8) -> bool
     requires { ⌜ Reach (now bytes) (now off) k ⌝ }
     ensures { λ r. ⌜ r ≡ besideAt (now (bytes .entry)) (now (off .entry)) k m ⌝ }
 {

@@ -2,6 +2,7 @@
 mod asking;
 mod playing;
 
+use console::decimal::Spelled;
 use console::room::room;
 use libc::STDERR_FILENO;
 use libc::STDIN_FILENO;
@@ -40,15 +41,14 @@ fn play(rec: &[u8], steps: usize) {
 }
 
 fn main() {
-    let steps = asking::steps_asked();
-    if steps > 4294967295 {
+    let Spelled::Number(steps) = asking::steps_asked() else {
         io::write_all(
             STDERR_FILENO,
             b"gridrun: how many steps? usage: gridrun K, K a whole number below 4294967296\n",
         );
         return;
-    }
+    };
     let mut bytes = [0u8; 331869];
     let got = io::read_full(STDIN_FILENO, &mut bytes);
-    play(&bytes[..got], steps);
+    play(&bytes[..got], steps as usize);
 }

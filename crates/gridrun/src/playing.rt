@@ -4,13 +4,13 @@ use console::answers::refused;
 use console::line;
 use grid::Answer;
 use grid::Sides;
-use grid::running;
 use lattice::Settings;
 use libc::STDOUT_FILENO;
 use record::Site;
 use record::flags;
 use record::reader;
 use record::writer;
+use run::running;
 
 // As many bytes as both have.
 fn copy(from: &[u8], to: &mut [u8]) {

@@ -3,10 +3,10 @@ use crate::telling::tell;
 use console::answers::answered;
 use console::answers::refused;
 use grid::Sides;
-use grid::stepping;
 use lattice::Settings;
 use record::flags;
 use record::reader;
+use step::stepping;
 ghost use Prim.Native.Nat.{_≤_};
 ghost use lib.ListN.{length};
 

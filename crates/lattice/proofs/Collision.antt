@@ -38,6 +38,7 @@ ready v p k t e is =
       deep = rw (is .seventy, abs-mul (negsuc 71) (v .rho)) (omega (arith, abs-above (t .low)));
       low = subst (λ (z : ℤ). pos 21743271936 ≤ℤ z) (sym (is .den)) (*ℤ-mono 73728 (t .low));
       den = subst (λ (z : ℤ). Within z 86973087744) (sym (is .den)) (within-by (search reading depth 20) tt);
+      inv = is .inv;
       p = subst (λ (z : ℤ). Within z 2037) (sym (is .p)) (relaxation-in p e);
     }
 

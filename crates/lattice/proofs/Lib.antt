@@ -10,6 +10,7 @@ pub mod Momentum
 pub mod Pairs
 pub mod Ranges
 pub mod Reading
+pub mod Reciprocal
 pub mod Table
 pub mod Tame
 pub mod Weights

@@ -1,6 +1,6 @@
 -- What the code promises of a value with several fields, part by part. Assumes nothing.
 use mathlib.Core.Path.{_≡_}
-use Prim.Native.Nat.{_≤_}
+use Prim.Native.Nat.{_/_, _≤_}
 use lib.IntN.{ℤ, pos, negsuc, natAbs, _+ℤ_, _-ℤ_, _*ℤ_}
 use lib.Signed.{_≤ℤ_, quotZ}
 use Rattle.whole.specs.Machine.{Within}
@@ -25,6 +25,7 @@ pub record CommonIs (v : Flow) (relaxation : ℤ) (k : Common) : Type 0 where
   pub six : k .six ≡ negsuc 5 *ℤ v .rho
   pub seventy : k .seventy ≡ negsuc 71 *ℤ v .rho
   pub den : k .den ≡ pos 73728 *ℤ v .rho
+  pub inv : k .inv ≡ 576460752303423488 / natAbs (k .den)
   pub p : k .p ≡ relaxation
 
 -- its bounds, for a tame flow: every product of a collision fits
@@ -35,6 +36,7 @@ pub record Ready (k : Common) : Type 0 where
   pub deep : 21233664 ≤ natAbs (k .seventy)
   pub low : pos 21743271936 ≤ℤ k .den
   pub den : Within (k .den) 86973087744
+  pub inv : k .inv ≡ 576460752303423488 / natAbs (k .den)
   pub p : Within (k .p) 2037
 
 -- a part, grown by the cut quotient

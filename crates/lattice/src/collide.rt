@@ -4,6 +4,8 @@ use crate::directions::dots;
 use crate::directions::weight_of;
 use crate::moments::speed_squared;
 use crate::moments::times;
+use crate::quotient::quotient;
+use crate::quotient::reciprocal;
 use whole::wide;
 ghost use mathlib.Core.Path.{_≡_};
 ghost use mathlib.Core.Bool.{true};
@@ -14,13 +16,14 @@ ghost use Rattle.lattice.specs.Cell.{relaxationGood};
 ghost use Rattle.lattice.specs.Body.{partsOf, Bounded, vec, Tame, collidedPart};
 ghost use Rattle.lattice.specs.Post.{CommonIs, Ready, grown, Paired};
 
-// What the eighteen collisions of a cell share: 2ρ² − 3|j|², −6ρ, −72ρ, 73,728ρ and p.
+// What the eighteen collisions of a cell share: 2ρ² − 3|j|², −6ρ, −72ρ, 73,728ρ and its reciprocal, and p.
 // The signs keep 32 x 32 → 64 products on Arm, where a factor known to be positive is widened otherwise.
 pub struct Common {
     pub base: i64,
     pub six: i32,
     pub seventy: i32,
     pub den: i64,
+    pub inv: u64,
     pub p: i64,
 }
 
@@ -33,16 +36,18 @@ pub fn common_of(v: Flow, p: i64) -> Common
     requires { ⌜ Tame v × (relaxationGood p ≡ true) ⌝ }
     ensures { λ r. ⌜ CommonIs v p r ⌝ }
 {
+    let den = 73728 * wide(v.rho);
     Common {
         base: 2 * times(v.rho, v.rho) - 3 * speed_squared(v),
         six: -6 * v.rho,
         seventy: -72 * v.rho,
-        den: 73728 * wide(v.rho),
+        den: den,
+        inv: reciprocal(den),
         p: p,
     }
 }
 
-// Part f at weight w and Q = q, relaxed.
+// Part f at weight w and Q = q, relaxed, by the divider.
 fn relaxed(f: i32, w: i64, q: i64, k: Common) -> i32
     requires { ⌜ Ready k × Within f 2097152 × Within w 2 × Within q 26000000000000 ⌝ }
     ensures { λ r. ⌜ (r ≡ grown f w q k) × Within r 33554432 ⌝ }
@@ -50,7 +55,15 @@ fn relaxed(f: i32, w: i64, q: i64, k: Common) -> i32
     f + (k.p * (w * q + times(k.seventy, f)) / k.den) as i32
 }
 
-// Parts f and g of a direction with e·j = d and of its opposite.
+// The same by products.
+fn relaxed_by_products(f: i32, w: i64, q: i64, k: Common) -> i32
+    requires { ⌜ Ready k × Within f 2097152 × Within w 2 × Within q 26000000000000 ⌝ }
+    ensures { λ r. ⌜ (r ≡ grown f w q k) × Within r 33554432 ⌝ }
+{
+    f + quotient(k.p * (w * q + times(k.seventy, f)), k.den, k.inv) as i32
+}
+
+// Parts f and g of a direction with e·j = d and of its opposite: one by products and one by the divider, which work side by side.
 fn relaxed_pair(f: i32, g: i32, w: i64, d: i32, k: Common) -> Pair
     requires { ⌜ Ready k × Within f 2097152 × Within g 2097152 × Within w 2 × Within d 1179648 ⌝ }
     ensures { λ r. ⌜ Paired f g w d k r ⌝ }
@@ -58,7 +71,7 @@ fn relaxed_pair(f: i32, g: i32, w: i64, d: i32, k: Common) -> Pair
     let even = k.base + times(9 * d, d);
     let odd = times(k.six, d);
     Pair {
-        a: relaxed(f, w, even - odd, k),
+        a: relaxed_by_products(f, w, even - odd, k),
         b: relaxed(g, w, even + odd, k),
     }
 }

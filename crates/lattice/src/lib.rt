@@ -8,6 +8,7 @@ pub mod fill;
 pub mod gravity;
 pub mod limits;
 pub mod moments;
+pub mod quotient;
 pub mod rules;
 pub mod stream;
 

@@ -8,7 +8,8 @@ ghost use mathlib.Core.Path.{_≡_};
 ghost use lib.ListN.{length};
 ghost use Rattle.record.specs.Promise.{spanOf, Own};
 
-fn span(n: usize, h: Head) -> Span
+// Where the flags stand in the bytes of the record that gave this head.
+pub fn span(n: usize, h: Head) -> Span
     ensures { λ r. ⌜ r ≡ spanOf n h ⌝ }
 {
     let a = h.answer;

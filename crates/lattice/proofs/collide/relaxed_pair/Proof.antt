@@ -31,16 +31,16 @@ add-even c =
 times-requires-2 : tie.Need-times-requires-2
 times-requires-2 c κs = search needs
 
-sub-relaxed : tie.Need-sub-relaxed
-sub-relaxed c =
+sub-relaxed-by-products : tie.Need-sub-relaxed-by-products
+sub-relaxed-by-products c =
     let d = c .before .before .before .before in
     let b = d .before .pre .0 .base in
     let q = square-is d in
     let o = odd-is c in
     does-fit (search reading depth 20) tt
 
-relaxed-requires : tie.Need-relaxed-requires
-relaxed-requires c κs =
+relaxed-by-products-requires : tie.Need-relaxed-by-products-requires
+relaxed-by-products-requires c κs =
     let d = c .before .before .before .before in
     let s = d .before in
     let f = s .pre .1 in
@@ -58,8 +58,8 @@ add-relaxed c =
     let o = odd-is (c .before) in
     does-fit (search reading depth 20) tt
 
-relaxed-requires-2 : tie.Need-relaxed-requires-2
-relaxed-requires-2 c κs =
+relaxed-requires : tie.Need-relaxed-requires
+relaxed-requires c κs =
     let d = c .before .before .before .before .before in
     let s = d .before in
     let g = s .pre .2 in
@@ -83,8 +83,8 @@ returns c =
     let q = square-is d in
     let o = odd-is (c .before .before) in
     let n = is-least (s .args .k .den) 21743271936 (abs-above (k .low)) in
-    let x = same (c .before .relaxed .ensures .0) (search reading depth 30 fits 5000) in
-    let y = same (c .relaxed2 .ensures .0) (search reading depth 30 fits 5000) in
+    let x = same (c .before .relaxed-by-products .ensures .0) (search reading depth 30 fits 5000) in
+    let y = same (c .relaxed .ensures .0) (search reading depth 30 fits 5000) in
     record {
       a = reads-as (search machine depth 20) tt;
       b = reads-as (search machine depth 20) tt;
@@ -100,8 +100,8 @@ relaxed-pair-spec =
     times-requires
     add-even
     times-requires-2
-    sub-relaxed
-    relaxed-requires
+    sub-relaxed-by-products
+    relaxed-by-products-requires
     add-relaxed
-    relaxed-requires-2
+    relaxed-requires
     returns)

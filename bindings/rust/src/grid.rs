@@ -1,0 +1,173 @@
+// A grid that owns its buffers, and the library's calls over them.
+
+use std::fmt::{Debug, Formatter, Result as Written};
+use std::mem::swap;
+
+use crate::lent;
+use crate::state::Buffers;
+use crate::{
+    CellPoint, Counts, Depth, Point, Refusal, Settings, Sides, Site, State, StateMut, Stopped, Water, WALL,
+};
+
+/// A grid of cells with its water.
+///
+/// It owns two sets of buffers and the work space of a step, so that nothing is allocated while it runs.
+#[derive(Clone)]
+pub struct Grid {
+    pub(crate) sides: Sides,
+    /// The state.
+    pub(crate) first: Buffers,
+    /// Where the next one goes.
+    second: Buffers,
+    marks: Vec<u8>,
+}
+
+/// What a grid record holds.
+#[derive(Clone, Debug, PartialEq)]
+pub struct Record {
+    pub grid: Grid,
+    pub settings: Settings,
+    pub site: Site,
+}
+
+impl Grid {
+    /// A box of empty cells with walls around it, or refusal 1.
+    pub fn new(sides: Sides) -> Result<Grid, Refusal> {
+        let cells = sides.cells()?;
+        let mut first = Buffers::new(cells);
+        for (cell, flag) in first.flags.iter_mut().enumerate() {
+            if sides.is_outer(cell) {
+                *flag = WALL;
+            }
+        }
+        Ok(Grid::holding(sides, first))
+    }
+
+    /// A grid that holds a copy of this state, if it is good; else refusal 1, 2, 4, 5 or 6.
+    pub fn of(sides: Sides, state: State) -> Result<Grid, Refusal> {
+        lent::check(sides, state)?;
+        let mut first = Buffers::new(state.flags.len());
+        first.flags.copy_from_slice(state.flags);
+        first.parts.copy_from_slice(state.parts);
+        first.masses.copy_from_slice(state.masses);
+        first.fills.copy_from_slice(state.fills);
+        first.carry.copy_from_slice(state.carry);
+        Ok(Grid::holding(sides, first))
+    }
+
+    /// The grid, settings and site of a grid record; refusals as [`lent::read`] gives them, but for 2.
+    pub fn read(record: &[u8]) -> Result<Record, Refusal> {
+        // The library looks at the lengths of its slices once the sides are in range, and at nothing before.
+        let cells = sides_in(record).and_then(|sides| sides.cells().ok()).unwrap_or(0);
+        let mut first = Buffers::new(cells);
+        let head =
+            lent::read(record, &mut first.parts, &mut first.masses, &mut first.fills, &mut first.carry)?;
+        first.flags.copy_from_slice(head.flags);
+        let grid = Grid::holding(head.sides, first);
+        Ok(Record { grid, settings: head.settings, site: head.site })
+    }
+
+    fn holding(sides: Sides, first: Buffers) -> Grid {
+        let cells = first.flags.len();
+        Grid { sides, first, second: Buffers::new(cells), marks: vec![0; cells] }
+    }
+
+    /// The grid's record, which [`read`](Grid::read) reads back as the same grid. Refusals 3 to 6.
+    pub fn write(&self, settings: Settings, site: Site) -> Result<Vec<u8>, Refusal> {
+        let counts = self.counts();
+        let mut record = vec![0; 92 + self.first.flags.len() + 4 * counts.interface + 76 * counts.liquid()];
+        let length = lent::write(self.sides, settings, site, self.state(), &mut record)?;
+        record.truncate(length);
+        Ok(record)
+    }
+
+    /// The sides of the grid.
+    pub fn sides(&self) -> Sides {
+        self.sides
+    }
+
+    /// The state to look at.
+    pub fn state(&self) -> State<'_> {
+        self.first.lend()
+    }
+
+    /// The state to change at will; [`check`](Grid::check) says whether it is still good, and so does the next step.
+    pub fn state_mut(&mut self) -> StateMut<'_> {
+        self.first.lend_mut()
+    }
+
+    /// Whether the state is good; else refusal 4, 5 or 6.
+    pub fn check(&self) -> Result<(), Refusal> {
+        lent::check(self.sides, self.state())
+    }
+
+    /// Makes one step. Refused, with 3 to 8, it leaves the state as it was.
+    pub fn step(&mut self, settings: Settings) -> Result<(), Refusal> {
+        lent::step(self.sides, settings, self.first.lend(), self.second.lend_mut(), &mut self.marks)?;
+        swap(&mut self.first, &mut self.second);
+        Ok(())
+    }
+
+    /// Makes so many steps, at most 1,000, faster than one by one. Where a step is refused, the state is the one reached before it.
+    pub fn run(&mut self, steps: usize, settings: Settings) -> Result<(), Stopped> {
+        let (first, second) = (self.first.lend_mut(), self.second.lend_mut());
+        lent::run(self.sides, settings, steps, first, second, &mut self.marks)
+    }
+
+    /// The cell that holds a survey point, or refusal 3 or 13.
+    pub fn place(&self, site: Site, point: Point) -> Result<usize, Refusal> {
+        lent::place(self.sides, site, point)
+    }
+
+    /// A cell's centre and fill, or refusal 13; 6 for a fill above 65,536.
+    pub fn point(&self, cell: usize) -> Result<CellPoint, Refusal> {
+        lent::point(self.sides, &self.first.fills, cell)
+    }
+
+    /// The depth of the water in column (x, y), or refusal 13; 4 or 6 for a flag above 3 or a fill above 65,536 in that column.
+    pub fn depth(&self, x: usize, y: usize) -> Result<Depth, Refusal> {
+        lent::depth(self.sides, &self.first.flags, &self.first.fills, x, y)
+    }
+
+    /// How many cells there are of each flag.
+    pub fn counts(&self) -> Counts {
+        self.state().counts()
+    }
+
+    /// The water balance.
+    pub fn water(&self) -> Water {
+        self.state().water()
+    }
+
+    /// All the water, in the unit of the masses: what no step changes.
+    pub fn total(&self) -> i64 {
+        self.water().total()
+    }
+}
+
+/// The three sides that a record begins with, behind their count.
+fn sides_in(record: &[u8]) -> Option<Sides> {
+    let side = |at: usize| {
+        let bytes = record.get(at..at + 4)?;
+        usize::try_from(u32::from_le_bytes(bytes.try_into().ok()?)).ok()
+    };
+    Some(Sides::new(side(4)?, side(8)?, side(12)?))
+}
+
+/// Grids with the same sides and state.
+impl PartialEq for Grid {
+    fn eq(&self, other: &Grid) -> bool {
+        self.sides == other.sides && self.state() == other.state()
+    }
+}
+
+impl Eq for Grid {}
+
+/// Sides, counts and water: a grid has too many numbers to print.
+impl Debug for Grid {
+    fn fmt(&self, text: &mut Formatter) -> Written {
+        let mut grid = text.debug_struct("Grid");
+        grid.field("sides", &self.sides).field("counts", &self.counts()).field("water", &self.water());
+        grid.finish_non_exhaustive()
+    }
+}

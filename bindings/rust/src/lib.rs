@@ -1,0 +1,46 @@
+//! Water in a grid of cells, stepped in whole numbers by the free-surface lattice Boltzmann method.
+//!
+//! The library behind this wrapper is proved: every call accepts every input and ends, a step gives exactly the state that its
+//! specification (document 01) derives, and no water is made or lost, to the unit. The wrapper owns the buffers and turns refusals into
+//! [`Result`]s; it has no arithmetic of the method in it.
+//!
+//! ```
+//! use skwarzyna::{Depth, Grid, Settings, Sides, ONE};
+//!
+//! # fn main() -> Result<(), Box<dyn std::error::Error>> {
+//! // A closed box, and in it a block of water.
+//! let mut grid = Grid::new(Sides::new(12, 8, 10))?;
+//! for (x, y, z) in [(1, 1, 1), (2, 1, 1), (1, 2, 1), (1, 1, 2)] {
+//!     grid.set_fluid(grid.sides().cell(x, y, z)?, ONE)?;
+//! }
+//! let before = grid.total();
+//!
+//! // A hundred steps: p 1600/1024, gravity of a ten-thousandth of a cell per step and step, downwards.
+//! grid.run(100, Settings { p: 1600, gx: 0, gy: 0, gz: -105 })?;
+//! assert_eq!(grid.total(), before);
+//! if let Depth::Deep(cells) = grid.depth(1, 1)? {
+//!     println!("{cells} cells deep");
+//! }
+//! # Ok(())
+//! # }
+//! ```
+//!
+//! [`Grid`] is what most hosts need; [`lent`] has the same calls over slices of one's own.
+
+mod grid;
+mod laying;
+pub mod lent;
+#[doc(hidden)]
+pub mod raw;
+mod readings;
+mod refusal;
+mod settings;
+mod sides;
+mod state;
+
+pub use grid::{Grid, Record};
+pub use readings::{CellPoint, Depth};
+pub use refusal::{Refusal, Stopped};
+pub use settings::{Point, Settings, Site};
+pub use sides::Sides;
+pub use state::{Counts, State, StateMut, Water, EMPTY, FLUID, FULL, INTERFACE, ONE, PARTS, WALL};

@@ -1,0 +1,108 @@
+// Refusals: number and place of document 01's table, and its words.
+
+use std::error::Error;
+use std::fmt::{Display, Formatter, Result as Written};
+
+/// Why a call was refused. Nothing is written then, but as each call says for 7 and 8.
+#[derive(Clone, Copy, Debug, PartialEq, Eq, Hash)]
+pub struct Refusal {
+    /// 1 to 13; [`SIDES`](Refusal::SIDES) and so on.
+    pub number: u8,
+    /// A cell, a byte, a section, a number of bytes, or 0, by the number.
+    pub place: usize,
+}
+
+impl Refusal {
+    /// A side or the product of the sides is outside its range.
+    pub const SIDES: u8 = 1;
+    /// A lent slice is not of its exact length.
+    pub const LENGTH: u8 = 2;
+    /// A setting, origin or point coordinate is out of range.
+    pub const SETTING: u8 = 3;
+    /// A flag is above 3, or an outer cell is not wall. Place: the lowest such cell.
+    pub const FLAG: u8 = 4;
+    /// Fluid beside empty. Place: the lowest such fluid cell.
+    pub const LAYER: u8 = 5;
+    /// Another rule of a good state is broken. Place: the lowest such cell, the number of cells for the carry alone.
+    pub const STATE: u8 = 6;
+    /// Streamed density or speed is out of range. Place: the lowest such cell.
+    pub const FLOW: u8 = 7;
+    /// The next state breaks a rule of number 6. Place as there.
+    pub const NEXT: u8 = 8;
+    /// Steps above 1,000.
+    pub const STEPS: u8 = 9;
+    /// The record ends early or has bytes left over. Place: the byte where the section or the rest begins.
+    pub const END: u8 = 10;
+    /// A section's count is wrong. Place: the section, 1 to 7.
+    pub const COUNT: u8 = 11;
+    /// Room for the record is too small. Place: the bytes needed.
+    pub const ROOM: u8 = 12;
+    /// Column, cell or point outside.
+    pub const OUTSIDE: u8 = 13;
+
+    pub(crate) fn new(number: u8, place: usize) -> Refusal {
+        Refusal { number, place }
+    }
+
+    /// Document 01's words for the number.
+    pub fn words(&self) -> &'static str {
+        match self.number {
+            Refusal::SIDES => "side or product outside its range",
+            Refusal::LENGTH => "a lent slice isn't of its exact length",
+            Refusal::SETTING => "a setting, origin or point coordinate out of range",
+            Refusal::FLAG => "flag above 3, or outer cell not wall",
+            Refusal::LAYER => "fluid beside empty",
+            Refusal::STATE => "another rule of a good state broken",
+            Refusal::FLOW => "streamed density or speed out of range",
+            Refusal::NEXT => "next state breaks a rule of number 6",
+            Refusal::STEPS => "steps above 1,000",
+            Refusal::END => "record ends early or has bytes left over",
+            Refusal::COUNT => "a section's count is wrong",
+            Refusal::ROOM => "room for the record too small",
+            Refusal::OUTSIDE => "column, cell or point outside",
+            _ => "no number of document 01",
+        }
+    }
+}
+
+impl Display for Refusal {
+    fn fmt(&self, text: &mut Formatter) -> Written {
+        let Refusal { number, place } = self;
+        write!(text, "refusal {number}: {}", self.words())?;
+        match *number {
+            Refusal::FLAG | Refusal::LAYER | Refusal::FLOW => write!(text, ", at cell {place}"),
+            Refusal::STATE | Refusal::NEXT => {
+                write!(text, ", at cell {place} (the carry, where that is the number of cells)")
+            }
+            Refusal::END => write!(text, ", at byte {place}"),
+            Refusal::COUNT => write!(text, ", in section {place}"),
+            Refusal::ROOM => write!(text, ", {place} bytes needed"),
+            _ => Ok(()),
+        }
+    }
+}
+
+impl Error for Refusal {}
+
+/// A run that did not make all its steps. The grid then holds the state that those it made have reached.
+#[derive(Clone, Copy, Debug, PartialEq, Eq, Hash)]
+pub struct Stopped {
+    /// How many steps were made.
+    pub count: usize,
+    /// What stopped it.
+    pub refusal: Refusal,
+}
+
+impl Display for Stopped {
+    fn fmt(&self, text: &mut Formatter) -> Written {
+        write!(text, "stopped after {} steps by {}", self.count, self.refusal)
+    }
+}
+
+impl Error for Stopped {}
+
+impl From<Stopped> for Refusal {
+    fn from(stopped: Stopped) -> Refusal {
+        stopped.refusal
+    }
+}

@@ -1,0 +1,85 @@
+-- `excess::settling::settle` is pass 7: the cells before c are settled and have no mark, the others are as they were. Assumes nothing.
+use borrow.Author.Needs.{needs}
+use mathlib.Core.Path.{_∙_}
+use mathlib.Core.Logic.{⊎-elim}
+use Prim.Native.Nat.{_+_, _-_, _<_}
+use native.Mathlib.Omega.{arith}
+use lib.ListN.{length}
+use Rattle.excess.proofs.Settles.{Upon, upon-as, upon-first, upon-keep, upon-settle, upon-all, parts-still}
+use Rattle.excess.proofs.settling.settle.Statement.{statement}
+use Rattle.excess.proofs.settling.settle.Tie as tie
+
+abbrev Inv-loop : tie.InvT-loop
+Inv-loop parts₀ masses₀ marks₀ c₀ parts masses marks c = Upon parts₀ masses₀ marks₀ parts masses marks c
+
+abbrev μ-loop : tie.MeasureT-loop
+μ-loop parts₀ masses₀ marks₀ c₀ parts masses marks c = length marks₀ - c
+
+loop-holds : tie.Need-loop-holds Inv-loop μ-loop
+loop-holds c = upon-first _ _ _
+
+slice-read-m : tie.Need-slice-read-m Inv-loop μ-loop
+slice-read-m c = search needs
+
+settle-cell-requires : tie.Need-settle-cell-requires Inv-loop μ-loop
+settle-cell-requires c κs =
+    let l = c .before .before .before .before .before in
+    let s = l .before .before in
+    let h : l .loop .c < length (s .args .marks .now) = omega (arith, l .loop .inv .marks-size, c .before .before .before .before .loop-test .taken) in (
+      parts-still _ _ _ _ _ _ _ (l .loop .inv) h (s .pre .each (l .loop .c) h (λ e. c .before .before .if1 .taken (l .loop .inv .marks-rest (l .loop .c) (omega arith) ∙ e))),
+      omega (arith, l .loop .inv .masses-size, s .pre .masses-there),
+    )
+
+slice-write-marks : tie.Need-slice-write-marks Inv-loop μ-loop
+slice-write-marks c = search needs
+
+add-c : tie.Need-add-c Inv-loop μ-loop
+add-c c = search needs
+
+loop-less : tie.Need-loop-less Inv-loop μ-loop
+loop-less c = search needs
+
+loop-again : tie.Need-loop-again Inv-loop μ-loop
+loop-again c =
+    let l = c .before .before .before in
+    let s = l .before .before in
+    let h : l .loop .c < length (s .args .marks .now) = omega (arith, l .loop .inv .marks-size, c .before .before .loop-test .taken) in
+    ⊎-elim
+    (λ w. upon-as _ _ _ (l .loop .c + 1) (w .6) (w .7) (w .8)
+    (upon-settle _ _ _ (l .loop .parts) (l .loop .masses) (l .loop .marks) (l .loop .c) (l .loop .inv) h (w .0 .taken)
+    (omega (arith, l .loop .inv .parts-size, s .pre .parts-there)) (omega (arith, l .loop .inv .masses-size, s .pre .masses-there)) _ _ (w .3 .ensures)))
+    (λ w. upon-as _ _ _ (l .loop .c + 1) (w .1) (w .2) (w .3) (upon-keep _ _ _ (l .loop .parts) (l .loop .masses) (l .loop .marks) (l .loop .c) (l .loop .inv) h (w .0 .left)))
+    (c .if1 .came)
+
+same-length : tie.Need-same-length Inv-loop μ-loop
+same-length c = c .before .loop .inv .parts-size
+
+same-length-2 : tie.Need-same-length-2 Inv-loop μ-loop
+same-length-2 c = c .before .loop .inv .masses-size
+
+same-length-3 : tie.Need-same-length-3 Inv-loop μ-loop
+same-length-3 c = c .before .loop .inv .marks-size
+
+returns : tie.Need-returns Inv-loop μ-loop
+returns c =
+    let l = c .before in
+    let s = l .before .before in
+    upon-all _ _ _ _ _ _ _ (l .loop .inv) (omega (arith, l .loop .inv .marks-size, c .loop-test .left)) (s .pre .parts-there) (s .pre .masses-there)
+
+pub settle-spec : {M : Type 1} → statement M
+settle-spec =
+    tie.close
+    (tie.spec
+    Inv-loop
+    μ-loop
+    loop-holds
+    slice-read-m
+    settle-cell-requires
+    slice-write-marks
+    add-c
+    loop-less
+    loop-again
+    same-length
+    same-length-2
+    same-length-3
+    returns)

@@ -1,0 +1,139 @@
+-- `excess::straying::new_carry` is pass 5: the carry and what strayed from the cells passed. Assumes nothing.
+use borrow.Author.Needs.{needs}
+use mathlib.Core.Path.{_≡_, refl, sym, ap, ap₂, _∙_}
+use mathlib.Core.Logic.{⊎-elim}
+use mathlib.Core.List.{List}
+use Prim.Native.Nat.{ℕ, _-_, _≤_, _<_}
+use native.Mathlib.Omega.{arith}
+use lib.IntN.{ℤ, _+ℤ_, +ℤ-idr}
+use lib.ListN.{length}
+use mir.Syntax.{w64}
+use mir.Val.{toZ, ofZ}
+use mir.Facts.{toZ-ofZ}
+use Rattle.whole.specs.Fold.{sum}
+use Rattle.whole.specs.Machine.{Val, Within, within-by, does-fit, reads-as, v+, v64}
+use Rattle.grid.specs.Grid.{cellsOf}
+use Rattle.grid.proofs.GoodSides.{good-sides}
+use Rattle.excess.specs.Gifts.{strayAt}
+use Rattle.excess.proofs.Strays.{around-as, stray-some, stray-in, strays-in, strays-more, strays-keep}
+use Rattle.excess.proofs.Readings.{told64, held-in}
+use Rattle.excess.proofs.straying.new_carry.Statement.{statement}
+use Rattle.excess.proofs.straying.new_carry.Tie as tie
+
+abbrev Inv-loop : tie.InvT-loop
+Inv-loop flags parts masses marks carry off low t₀ c₀ t c = (c ≤ length marks) × (toZ w64 t ≡ toZ w64 carry +ℤ sum c (strayAt flags parts masses marks off low))
+
+abbrev μ-loop : tie.MeasureT-loop
+μ-loop flags parts masses marks carry off low t₀ c₀ t c = length marks - c
+
+offsets-requires : tie.Need-offsets-requires Inv-loop μ-loop
+offsets-requires c κs = c .before .before .pre .0 .sides
+
+low-of-requires : tie.Need-low-of-requires Inv-loop μ-loop
+low-of-requires c κs = c .before .before .before .pre .0 .sides
+
+loop-holds : tie.Need-loop-holds Inv-loop μ-loop
+unfolding sum
+loop-holds c = (omega arith, sym (+ℤ-idr _))
+
+shared-slice-read-m : tie.Need-shared-slice-read-m Inv-loop μ-loop
+shared-slice-read-m c = search needs
+
+-- a cell of the loop is a cell
+inside : (c : tie.In-loop Inv-loop μ-loop) → c .before .loop .c < length (c .before .before .before .before .before .before .args .flags .now)
+inside c = omega (arith, c .loop-test .taken, c .before .before .before .before .before .before .pre .0 .marks-there)
+
+lost-requires : tie.Need-lost-requires Inv-loop μ-loop
+lost-requires c κs =
+    let i = c .before .before .before in
+    let l = i .before in
+    let s = l .before .before .before .before .before in (
+      around-as (l .loop .c) (l .before .before .offsets .ensures) (l .before .low-of .ensures) (s .pre .0 .around (l .loop .c) (inside i) (c .before .if1 .taken)),
+      s .pre .0 .weighed (l .loop .c) (inside i) (c .before .if1 .taken),
+    )
+
+-- what was lost at a marked cell
+lost-told : (c : tie.After-lost Inv-loop μ-loop)
+    → let l = c .before .before .before .before .before in
+    let a = l .before .before .before .before .before .args in
+    toZ w64 (ofZ w64 (c .lost .result)) ≡ strayAt (a .flags .now) (a .parts .now) (a .masses .now) (a .marks .now) (l .before .before .offsets .result) (l .before .low-of .result) (l .loop .c)
+lost-told c =
+    let l = c .before .before .before .before .before in
+    let a = l .before .before .before .before .before .args in
+    told64 (c .lost .ok) (c .lost .ensures
+    ∙ stray-some (a .flags .now) (a .parts .now) (a .masses .now) (a .marks .now) (l .before .before .offsets .result) (l .before .low-of .result) (l .loop .c) (c .before .before .if1 .taken))
+
+-- the carry so far, in range
+so-far : (c : tie.In-loop Inv-loop μ-loop)
+    → let l = c .before in
+    let a = l .before .before .before .before .before .args in
+    Within (toZ w64 (ofZ w64 (a .carry)) +ℤ sum (l .loop .c) (strayAt (a .flags .now) (a .parts .now) (a .masses .now) (a .marks .now) (l .before .before .offsets .result) (l .before .low-of .result))) 13060268167168
+unfolding cellsOf
+so-far c =
+    let l = c .before in
+    let s = l .before .before .before .before .before in
+    let a = s .args in
+    let n : l .loop .c ≤ 262144 = omega (arith, inside c, s .pre .0 .count, good-sides (a .s) (s .pre .0 .sides) .all) in
+    let w = strays-in (a .flags .now) (a .parts .now) (a .masses .now) (a .marks .now) (l .before .before .offsets .result) (l .before .low-of .result) (l .loop .c) n (λ j k. s .pre .0 .weighed j (omega (arith, inside c))) in
+    within-by (v+ (held-in (toZ-ofZ (s .fits .carry)) (s .pre .1)) (held-in refl w)) tt
+
+abbrev both : (c : tie.After-lost Inv-loop μ-loop) → Val (toZ w64 (c .before .before .before .before .before .loop .t) +ℤ toZ w64 (ofZ w64 (c .lost .result)))
+both c =
+    let i = c .before .before .before .before in
+    let l = i .before in
+    let s = l .before .before .before .before .before in
+    let a = s .args in
+    v+ (held-in (l .loop .inv .1) (so-far i))
+    (held-in (lost-told c) (stray-in (a .flags .now) (a .parts .now) (a .masses .now) (a .marks .now) (l .before .before .offsets .result) (l .before .low-of .result) (l .loop .c) (s .pre .0 .weighed (l .loop .c) (inside i))))
+
+add-t : tie.Need-add-t Inv-loop μ-loop
+add-t c = does-fit (both c) tt
+
+add-c : tie.Need-add-c Inv-loop μ-loop
+add-c c = search needs
+
+loop-less : tie.Need-loop-less Inv-loop μ-loop
+loop-less c = search needs
+
+loop-again : tie.Need-loop-again Inv-loop μ-loop
+loop-again c =
+    let l = c .before .before .before in
+    let a = l .before .before .before .before .before .args in
+    let k = toZ w64 (ofZ w64 (a .carry)) in (
+      omega (arith, c .before .before .loop-test .taken),
+      ⊎-elim
+          (λ w.
+          let d : tie.After-lost Inv-loop μ-loop = record { before = record { before = record { before = c .before; if1 = w .0 }; off = w .1 }; lost = w .2 } in
+          ap (toZ w64) (w .3) ∙ reads-as (v64 (both d)) tt
+          ∙ strays-more (a .flags .now) (a .parts .now) (a .masses .now) (a .marks .now) (l .before .before .offsets .result) (l .before .low-of .result) k (l .loop .c))
+          (λ w. ap (toZ w64) (w .1) ∙ l .loop .inv .1
+          ∙ strays-keep (a .flags .now) (a .parts .now) (a .masses .now) (a .marks .now) (l .before .before .offsets .result) (l .before .low-of .result) k (l .loop .c) (w .0 .left))
+          (c .if1 .came),
+    )
+
+returns : tie.Need-returns Inv-loop μ-loop
+returns c =
+    let l = c .before in
+    let s = l .before .before .before .before .before in
+    let a = s .args in
+    let e : l .loop .c ≡ cellsOf (a .s) = omega (arith, l .loop .inv .0, c .loop-test .left, s .pre .0 .marks-there, s .pre .0 .count) in
+    l .loop .inv .1
+    ∙ ap₂ (λ (x : ℤ) (n : ℕ). x +ℤ sum n (strayAt (a .flags .now) (a .parts .now) (a .masses .now) (a .marks .now) (l .before .before .offsets .result) (l .before .low-of .result))) (toZ-ofZ (s .fits .carry)) e
+    ∙ ap₂ (λ (o : List ℕ) (n : ℕ). a .carry +ℤ sum (cellsOf (a .s)) (strayAt (a .flags .now) (a .parts .now) (a .masses .now) (a .marks .now) o n)) (l .before .before .offsets .ensures) (l .before .low-of .ensures)
+
+pub new-carry-spec : {M : Type 1} → statement M
+new-carry-spec =
+    tie.close
+    (tie.spec
+    Inv-loop
+    μ-loop
+    offsets-requires
+    low-of-requires
+    loop-holds
+    shared-slice-read-m
+    lost-requires
+    add-t
+    add-c
+    loop-less
+    loop-again
+    returns)

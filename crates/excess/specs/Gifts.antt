@@ -1,0 +1,202 @@
+-- Stage 6 over the lists that its functions are lent: the new flags, the old fills, the parts and masses on the way, the settled marks, and the offsets
+-- of neighbours. Each is Step's formula over lists; proofs/Given has one law each that turns it into the step's scene. Assumes nothing.
+use mathlib.Core.Path.{_≡_}
+use mathlib.Core.Bool.{Bool, true, cond}
+use mathlib.Core.List.{List}
+use Prim.Native.Nat.{ℕ, zero, suc, _+_, _-_, _*_, _/_, _%_, _≤_, _<_}
+use lib.IntN.{ℤ, pos, negℤ, _+ℤ_, _-ℤ_}
+use lib.Dec.{eqb}
+use lib.ListN.{length, getD, set, replicate}
+use Rattle.whole.specs.Fold.{dirs, anyDir, first, tab}
+use Rattle.whole.specs.Machine.{Within}
+use Rattle.whole.specs.Search.{Dir}
+use Rattle.lattice.specs.Lattice.{V3, dot, d3q19, density}
+use Rattle.lattice.specs.Cell.{positive, isPositive, share}
+use Rattle.lattice.specs.declared.Settings.{Settings}
+use Rattle.grid.specs.declared.Sides.{Sides}
+use Rattle.grid.specs.Grid.{cellsOf, sidesGood}
+use Rattle.grid.specs.State.{Lent}
+use Rattle.grid.specs.Step.{tooFast, newFlag}
+use Rattle.grid.specs.Outcome.{sceneOf}
+use Rattle.grid.specs.Between.{Poised, movedMass, settledMark, bornPart}
+use Rattle.grid.specs.Passes.{lowOf, offsetOf}
+use Rattle.grid.specs.Sight.{Around}
+use Rattle.grid.specs.Pasted.{pasted}
+
+-- ---- the normal, of the cell with k = c − low
+
+-- the old fill of the neighbour in direction i
+abbrev pub fillBeside : List ℕ → List ℕ → ℕ → ℕ → ℤ
+fillBeside fills off k i = pos (getD fills (k + getD off i 0) 0)
+
+-- per axis: fill at minus one less fill at plus one
+unfoldable pub normalAt : List ℕ → List ℕ → ℕ → V3
+normalAt fills off k = record {
+  x = fillBeside fills off k 2 -ℤ fillBeside fills off k 1;
+  y = fillBeside fills off k 4 -ℤ fillBeside fills off k 3;
+  z = fillBeside fills off k 6 -ℤ fillBeside fills off k 5;
+}
+
+abbrev pub back : V3 → V3
+back n = record { x = negℤ (n .x); y = negℤ (n .y); z = negℤ (n .z) }
+
+-- as it is for a filled cell, of mark 1, and turned for an emptied one
+unfoldable pub leaningAt : List ℕ → List ℕ → ℕ → ℕ → V3
+leaningAt fills off k m = cond (eqb m 1) (normalAt fills off k) (back (normalAt fills off k))
+
+-- ---- weights
+
+-- targets are neighbours whose new flag is interface
+unfoldable pub targetAt : List ℕ → List ℕ → ℕ → ℕ → Bool
+targetAt flags off k i = eqb (getD flags (k + getD off i 0) 0) 1
+
+-- a target's weight by the normal n, where positive
+unfoldable pub leanWeightAt : List ℕ → V3 → List ℕ → ℕ → ℕ → ℤ
+leanWeightAt flags n off k i = cond (targetAt flags off k i) (positive (dot (d3q19 .e i) n)) (pos 0)
+
+-- each target weighs 1
+unfoldable pub evenAt : List ℕ → List ℕ → ℕ → ℕ → ℤ
+evenAt flags off k i = cond (targetAt flags off k i) (pos 1) (pos 0)
+
+unfoldable pub weightAt : List ℕ → List ℕ → List ℕ → ℕ → ℕ → ℕ → ℤ
+weightAt flags fills off k m i =
+    cond (isPositive (dirs 18 (leanWeightAt flags (leaningAt fills off k m) off k))) (leanWeightAt flags (leaningAt fills off k m) off k i) (evenAt flags off k i)
+
+-- numbers of the directions as an array: index 0 holds 0
+abbrev pub ofDir : (ℕ → ℤ) → ℕ → ℤ
+ofDir f zero = pos 0
+ofDir f (suc a) = f (suc a)
+
+-- ---- gifts
+
+-- ρ' of cell c
+unfoldable pub densityAt : List ℤ → ℕ → ℤ
+densityAt parts c = density d3q19 (λ k. getD parts (19 * c + k) (pos 0))
+
+-- of a cell with mark m: mass less density for a filled one, the mass for an emptied one
+unfoldable pub excessAt : List ℤ → List ℤ → ℕ → ℕ → ℤ
+excessAt parts masses m c = cond (eqb m 1) (getD masses c (pos 0) -ℤ densityAt parts c) (getD masses c (pos 0))
+
+-- what cell c with mark m gives in direction i, where it has a target
+unfoldable pub giftAt : List ℕ → List ℕ → List ℤ → List ℤ → List ℕ → ℕ → ℕ → ℕ → ℕ → ℤ
+giftAt flags fills parts masses off low c m i = share 18 (excessAt parts masses m c) (weightAt flags fills off (c - low) m) i
+
+unfoldable pub giftFrom : List ℕ → List ℕ → List ℤ → List ℤ → List ℕ → List ℕ → ℕ → ℕ → ℕ → ℤ
+giftFrom flags fills parts masses marks off low b i =
+    cond (eqb (getD marks b 0) 0) (pos 0) (giftAt flags fills parts masses off low b (getD marks b 0) i)
+
+-- what the neighbours give to c
+unfoldable pub receivedAt : List ℕ → List ℕ → List ℤ → List ℤ → List ℕ → List ℕ → ℕ → ℕ → ℤ
+receivedAt flags fills parts masses marks off low c =
+    dirs 18 (λ i. giftFrom flags fills parts masses marks off low (c - low + getD off i 0) (d3q19 .opp i))
+
+unfoldable pub gatheredAt : List ℕ → List ℕ → List ℤ → List ℤ → List ℕ → List ℕ → ℕ → ℕ → ℤ
+gatheredAt flags fills parts masses marks off low c =
+    cond (eqb (getD flags c 0) 1) (getD masses c (pos 0) +ℤ receivedAt flags fills parts masses marks off low c) (getD masses c (pos 0))
+
+-- ---- what joins the carry: the excess of a marked cell with no target
+
+unfoldable pub lostAt : List ℕ → List ℤ → List ℤ → List ℕ → ℕ → ℕ → ℕ → ℤ
+lostAt flags parts masses off low c m = cond (anyDir 18 (targetAt flags off (c - low))) (pos 0) (excessAt parts masses m c)
+
+unfoldable pub strayAt : List ℕ → List ℤ → List ℤ → List ℕ → List ℕ → ℕ → ℕ → ℤ
+strayAt flags parts masses marks off low c =
+    cond (eqb (getD marks c 0) 0) (pos 0) (lostAt flags parts masses off low c (getD marks c 0))
+
+-- ---- marked cells come to their own: a filled cell's mass is its density, an emptied cell is all zero
+
+unfoldable pub settledMass : List ℤ → List ℤ → List ℕ → ℕ → ℤ
+settledMass parts masses marks c =
+    cond (eqb (getD marks c 0) 0) (getD masses c (pos 0)) (cond (eqb (getD marks c 0) 1) (densityAt parts c) (pos 0))
+
+unfoldable pub settledPart : List ℤ → List ℕ → ℕ → ℕ → ℤ
+settledPart parts marks c k =
+    cond (eqb (getD marks c 0) 0) (getD parts (19 * c + k) (pos 0)) (cond (eqb (getD marks c 0) 1) (getD parts (19 * c + k) (pos 0)) (pos 0))
+
+-- ---- what is asked of the lists
+
+-- the neighbours of the cell with k = c − low are cells
+abbrev pub Near : ℕ → List ℕ → ℕ → Type 0
+Near n off k = (i : ℕ) → i < 19 → k + getD off i 0 < n
+
+-- no fill is above 65,536
+abbrev pub Filled : List ℕ → Type 0
+Filled fills = (j : ℕ) → getD fills j 0 ≤ 65536
+
+-- cell c has nineteen parts that can be added up
+pub record Parts (parts : List ℤ) (c : ℕ) : Type 0 where
+  pub there : 19 * c + 19 ≤ length parts
+  pub rest : Within (getD parts (19 * c) (pos 0)) 1073741824
+  pub at : (k : ℕ) → 0 < k → k < 19 → Within (getD parts (19 * c + k) (pos 0)) 33554432
+
+-- cell c has a mass and a density whose difference is an excess
+pub record Weighed (parts masses : List ℤ) (c : ℕ) : Type 0 where
+  pub there : c < length masses
+  pub parts-in : Parts parts c
+  pub mass-in : Within (getD masses c (pos 0)) 44826624
+  pub density-in : Within (densityAt parts c) 1179648
+
+-- cell c can give: it is weighed, and flags and fills are known all round
+pub record Giver (flags fills : List ℕ) (parts masses : List ℤ) (off : List ℕ) (low c : ℕ) : Type 0 where
+  pub around : Around (length flags) off low c
+  pub fills-there : length fills ≡ length flags
+  pub fills-in : Filled fills
+  pub weighed : Weighed parts masses c
+
+-- marked cells can give; cells of new flag 1 can take, are not marked, and each marked neighbour gives towards them
+pub record Giving (flags fills : List ℕ) (parts masses : List ℤ) (marks off : List ℕ) (low : ℕ) : Type 0 where
+  pub masses-there : length masses ≡ length flags
+  pub marks-there : length marks ≡ length flags
+  pub giver : (c : ℕ) → c < length flags → (getD marks c 0 ≡ 0 → ⊥) → Giver flags fills parts masses off low c
+  pub taker : (c : ℕ) → c < length flags → getD flags c 0 ≡ 1 → Around (length flags) off low c
+  pub apart : (c : ℕ) → c < length flags → getD flags c 0 ≡ 1 → getD marks c 0 ≡ 0
+  pub returns : (c i : ℕ) → c < length flags → getD flags c 0 ≡ 1 → Dir 18 i → (getD marks (c - low + getD off i 0) 0 ≡ 0 → ⊥)
+      → c - low + getD off i 0 - low + getD off (d3q19 .opp i) 0 ≡ c
+
+-- what the pass that gathers asks: the grid's offsets, and masses of takers in range
+pub record Gathering (s : Sides) (flags fills : List ℕ) (parts masses : List ℤ) (marks : List ℕ) : Type 0 where
+  pub sides : sidesGood s ≡ true
+  pub count : length flags ≡ cellsOf s
+  pub giving : Giving flags fills parts masses marks (tab 19 (offsetOf s)) (lowOf s)
+  pub taken : (c : ℕ) → c < length flags → getD flags c 0 ≡ 1 → Within (getD masses c (pos 0)) 44826624
+
+-- what the pass that works out the carry asks: marked cells are weighed, with flags all round
+pub record Straying (s : Sides) (flags : List ℕ) (parts masses : List ℤ) (marks : List ℕ) : Type 0 where
+  pub sides : sidesGood s ≡ true
+  pub count : length flags ≡ cellsOf s
+  pub marks-there : length marks ≡ length flags
+  pub around : (c : ℕ) → c < length flags → (getD marks c 0 ≡ 0 → ⊥) → Around (length flags) (tab 19 (offsetOf s)) (lowOf s) c
+  pub weighed : (c : ℕ) → c < length flags → (getD marks c 0 ≡ 0 → ⊥) → Weighed parts masses c
+
+-- marked cells have parts that can be added up
+pub record Settling (parts masses : List ℤ) (marks : List ℕ) : Type 0 where
+  pub few : length marks ≤ 262144
+  pub parts-there : length parts ≡ 19 * length marks
+  pub masses-there : length masses ≡ length marks
+  pub each : (c : ℕ) → c < length marks → (getD marks c 0 ≡ 0 → ⊥) → Parts parts c
+
+-- one marked cell settled: a filled one gets its mass, an emptied one is cleared
+pub record CellSettled (m c : ℕ) (parts masses parts′ masses′ : List ℤ) : Type 0 where
+  pub parts-are : parts′ ≡ cond (eqb m 1) parts (pasted parts (19 * c) (replicate 19 (pos 0)))
+  pub masses-are : masses′ ≡ set masses c (cond (eqb m 1) (densityAt parts c) (pos 0))
+
+-- all cells settled, and no mark left
+pub record Settled (parts masses : List ℤ) (marks : List ℕ) (parts′ masses′ : List ℤ) (marks′ : List ℕ) : Type 0 where
+  pub parts-are : parts′ ≡ tab (19 * length marks) (λ m. settledPart parts marks (m / 19) (m % 19))
+  pub masses-are : masses′ ≡ tab (length marks) (settledMass parts masses marks)
+  pub marks-are : marks′ ≡ replicate (length marks) 0
+
+-- ---- where stage 6 begins: from a good state that passed test 7, with flags, newborn parts, masses and settled marks in their places
+pub record Midway (s : Sides) (g : Settings) (a : Lent) (flags fills : List ℕ) (parts masses : List ℤ) (marks : List ℕ) : Type 0 where
+  pub poised : Poised s g a
+  pub steady : cellsOf s ≤ first (cellsOf s) (tooFast (sceneOf s g a))
+  pub fills-are : fills ≡ a .fills
+  pub flags-are : flags ≡ tab (cellsOf s) (newFlag (sceneOf s g a))
+  pub parts-are : parts ≡ tab (19 * cellsOf s) (λ m. bornPart (sceneOf s g a) (m / 19) (m % 19))
+  pub masses-are : masses ≡ tab (cellsOf s) (movedMass (sceneOf s g a))
+  pub marks-are : marks ≡ tab (cellsOf s) (settledMark (sceneOf s g a))
+
+-- names every definition of this file: whoever unfolds this computes with all of them
+unfoldable pub open-gifts : Unit {0}
+unfolding normalAt leaningAt targetAt leanWeightAt evenAt weightAt densityAt excessAt giftAt giftFrom receivedAt gatheredAt lostAt strayAt settledMass settledPart
+open-gifts = tt

@@ -1,0 +1,62 @@
+// Stage 6: the excess of converted cells with no target joins the carry.
+use crate::giving::excess;
+use crate::leaning::evens;
+use grid::Sides;
+use grid::neighbours::low_of;
+use grid::neighbours::offsets;
+use lattice::excess::total;
+ghost use mathlib.Core.Path.{_≡_};
+ghost use Prim.Native.Nat.{_<_};
+ghost use lib.IntN.{_+ℤ_};
+ghost use lib.ListN.{length};
+ghost use Rattle.whole.specs.Fold.{sum, tab};
+ghost use Rattle.whole.specs.Machine.{Within};
+ghost use Rattle.grid.specs.Grid.{cellsOf};
+ghost use Rattle.grid.specs.Passes.{lowOf, offsetOf};
+ghost use Rattle.grid.specs.Sight.{Around};
+ghost use Rattle.excess.specs.Gifts.{Weighed, Straying, lostAt, strayAt};
+
+// What cell c with mark m has left for no one.
+fn lost(
+    flags: &[u8],
+    parts: &[i32],
+    masses: &[i32],
+    off: &[usize; 19],
+    low: usize,
+    c: usize,
+    m: u8,
+) -> i64
+    requires { ⌜ Around (length (now flags)) (now off) low c × Weighed (now parts) (now masses) c ⌝ }
+    ensures { λ r. ⌜ r ≡ lostAt (now (flags .entry)) (now (parts .entry)) (now (masses .entry)) (now (off .entry)) low c m ⌝ }
+{
+    if total(evens(flags, off, c - low)) == 0 {
+        return excess(parts, masses, m, c);
+    }
+    0
+}
+
+// Pass 5: the carry, before any mass changes.
+pub fn new_carry(
+    flags: &[u8],
+    parts: &[i32],
+    masses: &[i32],
+    marks: &[u8],
+    carry: i64,
+    s: Sides,
+) -> i64
+    requires { ⌜ Straying s (now flags) (now parts) (now masses) (now marks) × Within carry 1000000000000 ⌝ }
+    ensures { λ r. ⌜ r ≡ carry +ℤ sum (cellsOf s) (strayAt (now (flags .entry)) (now (parts .entry)) (now (masses .entry)) (now (marks .entry)) (tab 19 (offsetOf s)) (lowOf s)) ⌝ }
+{
+    let off = offsets(s);
+    let low = low_of(s);
+    let mut t = carry;
+    let mut c = 0;
+    while c < marks.len() {
+        let m = marks[c];
+        if m != 0 {
+            t += lost(flags, parts, masses, &off, low, c, m);
+        }
+        c += 1;
+    }
+    t
+}

@@ -1,0 +1,153 @@
+-- What streams into a cell, as the code reads it: by places, by pairs of directions, by the neighbour's flag. Assumes nothing.
+use mathlib.Core.Path.{_≡_, refl, sym, ap, ap₂, _∙_, subst}
+use mathlib.Core.Bool.{Bool, true, false, _||_, cond, false≢true}
+use mathlib.Core.List.{List}
+use Prim.Native.Nat.{ℕ, zero, suc, _+_, _-_, _*_, _%_, _≤_, _<_}
+use native.Mathlib.Nat.{add-zero}
+use native.Mathlib.Omega.{arith}
+use lib.Dec.{eqb}
+use lib.IntN.{ℤ, pos, _-ℤ_}
+use lib.ListN.{length, getD}
+use borrow.Author.Tests.{eq-eqb, ne-eqb, eqb-true}
+use Rattle.whole.specs.Fold.{tab}
+use Rattle.whole.specs.Tab.{getD-tab, tab-cong}
+use Rattle.lattice.specs.Lattice.{V3, dot, pairOpp, d3q19, density, momentum}
+use Rattle.lattice.specs.Cell.{gas}
+use Rattle.lattice.specs.declared.Settings.{Settings}
+use Rattle.grid.specs.State.{Scene, byFlag, liquid, stateOf}
+use Rattle.grid.specs.Step.{oldDensity, oldMomentum, rebuilt, rebuild, arrives, streamed}
+use Rattle.grid.specs.Sight.{flowing, sight, Around}
+use Rattle.flow.specs.Sources.{Mirrored, sourceOf, Immersed}
+
+-- ---- opposite directions: an odd one and the one after it
+
+pub odd-opposite : (i : ℕ) → i % 2 ≡ 1 → pairOpp i ≡ i + 1
+odd-opposite zero e = absurd (omega arith)
+odd-opposite (suc a) e = ap (λ (b : Bool). cond b (suc (suc a)) a) (eq-eqb (a % 2) 0 (omega arith)) ∙ omega arith
+
+pub even-opposite : (i : ℕ) → i % 2 ≡ 1 → pairOpp (i + 1) ≡ i
+even-opposite i e =
+    let next : suc i ≡ i + 1 = omega arith in
+    subst (λ (n : ℕ). pairOpp n ≡ i) next (ap (λ (b : Bool). cond b (suc (suc i)) i) (ne-eqb (i % 2) 0 (λ z. omega arith)))
+
+-- the opposite of a direction is one
+pub opposite-some : (a : ℕ) → 0 < pairOpp (suc a)
+opposite-some zero = omega arith
+opposite-some (suc a) = go (eqb (suc a % 2) 0)
+  where
+    go : (b : Bool) → 0 < cond b (suc (suc (suc a))) (suc a)
+    go true = omega arith
+    go false = omega arith
+
+pub opposite-most : (a : ℕ) → a < 18 → pairOpp (suc a) < 19
+opposite-most a h = go (eqb (a % 2) 0) refl
+  where
+    go : (b : Bool) → eqb (a % 2) 0 ≡ b → cond b (suc (suc a)) a < 19
+    go true e = let z : a % 2 ≡ 0 = eqb-true (a % 2) 0 e in omega arith
+    go false e = omega arith
+
+-- ---- by the neighbour's flag
+
+wall-case : (f : ℕ) (r a o : ℤ) → 2 < f → cond (byFlag f true false false false) r (byFlag f (pos 0) a a o) ≡ o
+wall-case zero r a o h = absurd (omega arith)
+wall-case (suc zero) r a o h = absurd (omega arith)
+wall-case (suc (suc zero)) r a o h = absurd (omega arith)
+wall-case (suc (suc (suc n))) r a o h = refl
+
+empty-case : (f : ℕ) (r a o : ℤ) → f ≡ 0 → cond (byFlag f true false false false) r (byFlag f (pos 0) a a o) ≡ r
+empty-case f r a o h = rw h refl
+
+liquid-case : (f : ℕ) (r a o : ℤ) → liquid f ≡ true → cond (byFlag f true false false false) r (byFlag f (pos 0) a a o) ≡ a
+liquid-case zero r a o h = absurd (false≢true h)
+liquid-case (suc zero) r a o h = refl
+liquid-case (suc (suc zero)) r a o h = refl
+liquid-case (suc (suc (suc n))) r a o h = absurd (false≢true h)
+
+-- the code's test
+pub liquid-test : (f : ℕ) → (eqb f 1 || eqb f 2) ≡ liquid f
+liquid-test zero = refl
+liquid-test (suc zero) = refl
+liquid-test (suc (suc zero)) = refl
+liquid-test (suc (suc (suc n))) = ap₂ (λ (a b : Bool). a || b) (ne-eqb (suc (suc (suc n))) 1 (λ e. omega arith)) (ne-eqb (suc (suc (suc n))) 2 (λ e. omega arith))
+
+-- what is neither above 2 nor 0
+pub wet : (f : ℕ) → (2 < f → ⊥) → (f ≡ 0 → ⊥) → liquid f ≡ true
+wet zero h z = absurd (z refl)
+wet (suc zero) h z = refl
+wet (suc (suc zero)) h z = refl
+wet (suc (suc (suc n))) h z = absurd (h (omega arith))
+
+module _ (flags : List ℕ) (parts : List ℤ) (off : List ℕ) (low : ℕ) (g : Settings) where
+  abbrev S : Scene
+  S = sight (flowing flags parts) off low g
+
+  -- part k of cell c
+  abbrev pub part : ℕ → ℕ → ℤ
+  part c k = getD parts (19 * c + k) (pos 0)
+
+  -- the neighbour in direction i
+  abbrev pub beside : ℕ → ℕ → ℕ
+  beside c i = (c - low) + getD off i 0
+
+  module _ (c b i k : ℕ) (e : b ≡ (c - low) + getD off i 0) where
+    pub arrives-wall : 2 < getD flags b 3 → arrives S c i k ≡ part c i
+    unfolding arrives rebuilt sight stateOf
+    arrives-wall h = wall-case (getD flags (beside c i) 3) (rebuild S c i) (part (beside c i) k) (part c i) (subst (λ (n : ℕ). 2 < getD flags n 3) e h)
+
+    pub arrives-empty : getD flags b 3 ≡ 0
+        → arrives S c i k
+        ≡ gas (d3q19 .weight i) (density d3q19 (part c)) (dot (d3q19 .e i) (momentum d3q19 (part c))) (dot (momentum d3q19 (part c)) (momentum d3q19 (part c))) -ℤ part c i
+    unfolding arrives rebuilt rebuild oldDensity oldMomentum sight stateOf
+    arrives-empty h = empty-case (getD flags (beside c i) 3) (rebuild S c i) (part (beside c i) k) (part c i) (subst (λ (n : ℕ). getD flags n 3 ≡ 0) e h)
+
+    pub arrives-liquid : liquid (getD flags b 3) ≡ true → arrives S c i k ≡ part b k
+    unfolding arrives rebuilt sight stateOf
+    arrives-liquid h =
+        liquid-case (getD flags (beside c i) 3) (rebuild S c i) (part (beside c i) k) (part c i) (subst (λ (n : ℕ). liquid (getD flags n 3) ≡ true) e h)
+        ∙ ap (λ (n : ℕ). part n k) (sym e)
+
+  -- ---- part by part
+  pub streamed-rest : (c : ℕ) → streamed S c 0 ≡ getD parts (19 * c) (pos 0)
+  unfolding streamed sight stateOf
+  streamed-rest c = ap (λ (n : ℕ). getD parts n (pos 0)) (add-zero (19 * c))
+
+  pub streamed-odd : (c i : ℕ) → i % 2 ≡ 1 → streamed S c i ≡ arrives S c (i + 1) i
+  unfolding streamed sight d3q19
+  streamed-odd c zero h = absurd (omega arith)
+  streamed-odd c (suc a) h = ap (λ (n : ℕ). arrives S c n (suc a)) (odd-opposite (suc a) h)
+
+  pub streamed-even : (c i : ℕ) → i % 2 ≡ 1 → streamed S c (i + 1) ≡ arrives S c i (i + 1)
+  unfolding streamed sight d3q19
+  streamed-even c i h =
+      let e : i + 1 ≡ suc i = omega arith in
+      ap (streamed S c) e ∙ ap₂ (λ (n m : ℕ). arrives S c n m) (ap pairOpp (sym e) ∙ even-opposite i h) (sym e)
+
+-- ---- places
+
+pub source-is : (off : List ℕ) (low i : ℕ) → Mirrored off low → i < 19 → 19 * (low + low - getD off i 0) + i ≡ sourceOf off i
+unfolding sourceOf
+source-is off low i m h = omega (arith, m .pair i h)
+
+-- with liquid all around, every part is read straight from its source
+module _ (flags : List ℕ) (parts : List ℤ) (off : List ℕ) (low : ℕ) (g : Settings) (m : Mirrored off low) (c : ℕ) (l : low ≤ c) (d : Immersed flags off low c) where
+  at-source : (k : ℕ) → 19 * (c - low) + sourceOf off k ≡ 19 * (c - low + getD off (pairOpp k) 0) + k
+  unfolding sourceOf
+  at-source k = omega arith
+
+  pub streamed-straight : (k : ℕ) → k < 19 → getD parts (19 * (c - low) + sourceOf off k) (pos 0) ≡ streamed (sight (flowing flags parts) off low g) c k
+  unfolding streamed sight stateOf d3q19
+  streamed-straight zero h =
+      let z : 19 * (c - low + getD off 0 0) ≡ 19 * c = omega (arith, m .pair 0 h) in
+      ap (λ (n : ℕ). getD parts n (pos 0)) (at-source 0 ∙ ap (λ (n : ℕ). n + 0) z)
+  streamed-straight (suc a) h =
+      ap (λ (n : ℕ). getD parts n (pos 0)) (at-source (suc a))
+      ∙ sym (arrives-liquid flags parts off low g c (c - low + getD off (pairOpp (suc a)) 0) (pairOpp (suc a)) (suc a) refl
+      (d .each (pairOpp (suc a)) (opposite-some a) (opposite-most a (omega arith))))
+
+pub opposite-low : (k : ℕ) → k < 19 → pairOpp k < 19
+opposite-low zero h = omega arith
+opposite-low (suc a) h = opposite-most a (omega arith)
+
+pub source-low : (n : ℕ) (off : List ℕ) (low c k : ℕ) → Around n off low c → k < 19 → 19 * (c - low) + sourceOf off k < 19 * n
+unfolding sourceOf
+source-low n off low c k a h = omega (arith, a .each (pairOpp k) (opposite-low k h))

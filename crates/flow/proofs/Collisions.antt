@@ -1,0 +1,212 @@
+-- Stages 3 and 4 of a cell, as the code works them out from the array of what streamed in: density, momentum, test and parts are the definitions'.
+-- Assumes nothing.
+use mathlib.Core.Path.{_≡_, refl, sym, ap, ap₂, _∙_, subst}
+use mathlib.Core.Bool.{Bool, true, false, _&&_, not, false≢true}
+use mathlib.Core.List.{List}
+use Prim.Native.Nat.{ℕ, zero, suc, _+_, _*_, _≤_, _<_}
+use native.Mathlib.Omega.{arith}
+use lib.IntN.{ℤ, pos, natAbs, _+ℤ_, _-ℤ_}
+use lib.ListN.{length, getD, replicate}
+use Rattle.whole.specs.Bools.{and-left, and-right}
+use Rattle.whole.specs.Bounds.{abs-add}
+use Rattle.whole.specs.Fold.{sum, dirs, tab, open-fold}
+use Rattle.whole.specs.Machine.{Within}
+use Rattle.whole.specs.Sums.{sum-cong}
+use Rattle.whole.specs.Tab.{length-tab, getD-tab, tab-cong}
+use Rattle.lattice.specs.Lattice.{V3, dot, d3q19, density, momentum}
+use Rattle.lattice.specs.Cell.{dense, slow, pull, quad, relaxed, relaxationGood, gravityGood}
+use Rattle.lattice.specs.Body.{partsOf, Bounded, vec, steadyFlow, goodBody, relaxedDir, collidedPart}
+use Rattle.lattice.specs.Post.{Pulled}
+use Rattle.lattice.specs.declared.Flow.{Flow}
+use Rattle.lattice.specs.declared.Settings.{Settings}
+use Rattle.lattice.proofs.Momentum.{x-in, y-in, z-in, density-in}
+use Rattle.lattice.proofs.Ranges.{weak-x, weak-y, weak-z}
+use Rattle.lattice.proofs.Tame.{pull-in}
+use Rattle.grid.specs.State.{Scene, byFlag, liquid, stateOf}
+use Rattle.grid.specs.Step.{oldDensity, oldMomentum, rebuilt, rebuild, arrives, streamed, newDensity, newMomentum, tooFast, collidedDir, collided}
+use Rattle.grid.specs.Good.{bodyGood}
+use Rattle.grid.specs.Between.{movedPart}
+use Rattle.grid.specs.Outcome.{settingsGood}
+use Rattle.grid.specs.Sight.{flowing, noSettings, sight}
+use Rattle.grid.specs.Pasted.{pasted}
+use Rattle.grid.proofs.Blocks.{length-pasted}
+use Rattle.grid.proofs.Same.{density-same, momentum-same, body-same}
+use Rattle.flow.specs.declared.moving.Put.{Put}
+use Rattle.flow.specs.PutAt.{PutAt}
+
+by-liquid {ℓ} : {A : Type ℓ} (f : ℕ) (d x : A) → liquid f ≡ true → byFlag f d x x d ≡ x
+by-liquid zero d x h = absurd (false≢true h)
+by-liquid (suc zero) d x h = refl
+by-liquid (suc (suc zero)) d x h = refl
+by-liquid (suc (suc (suc n))) d x h = absurd (false≢true h)
+
+module _ (flags : List ℕ) (parts : List ℤ) (off : List ℕ) (low : ℕ) (g : Settings) (c : ℕ) (f : List ℤ) (e : f ≡ tab 19 (streamed (sight (flowing flags parts) off low noSettings) c)) where
+  abbrev S : Scene
+  S = sight (flowing flags parts) off low g
+
+  -- stage 1 turns on no setting
+  unset : (k : ℕ) → streamed (sight (flowing flags parts) off low noSettings) c k ≡ streamed S c k
+  unfolding streamed arrives rebuilt rebuild oldDensity oldMomentum sight
+  unset zero = refl
+  unset (suc a) = refl
+
+  pub part-is : (k : ℕ) → k ≤ 18 → partsOf f k ≡ streamed S c k
+  part-is k h = ap (λ (x : List ℤ). getD x k (pos 0)) e ∙ getD-tab 19 _ (pos 0) k (omega arith) ∙ unset k
+
+  pub density-is : density d3q19 (partsOf f) ≡ newDensity S c
+  unfolding newDensity sight d3q19
+  density-is = density-same d3q19 (partsOf f) (streamed S c) part-is
+
+  pub momentum-is : momentum d3q19 (partsOf f) ≡ momentum d3q19 (streamed S c)
+  unfolding d3q19
+  momentum-is = momentum-same d3q19 (partsOf f) (streamed S c) part-is
+
+  -- the flow with gravity
+  module _ (v w : Flow) (r : v .rho ≡ density d3q19 (partsOf f)) (j : vec v ≡ momentum d3q19 (partsOf f)) (p : Pulled v g w) where
+    rho-old : v .rho ≡ newDensity S c
+    rho-old = r ∙ density-is
+
+    vec-old : vec v ≡ momentum d3q19 (streamed S c)
+    vec-old = j ∙ momentum-is
+
+    pub rho-is : w .rho ≡ newDensity S c
+    rho-is = p .rho ∙ rho-old
+
+    pub vec-is : vec w ≡ newMomentum S c
+    unfolding newMomentum sight
+    vec-is t = record {
+      x = (p .x ∙ ap₂ _+ℤ_ (ap (λ (m : V3). m .x) vec-old) (ap (λ (z : ℤ). pull z (g .gx)) rho-old)) t;
+      y = (p .y ∙ ap₂ _+ℤ_ (ap (λ (m : V3). m .y) vec-old) (ap (λ (z : ℤ). pull z (g .gy)) rho-old)) t;
+      z = (p .z ∙ ap₂ _+ℤ_ (ap (λ (m : V3). m .z) vec-old) (ap (λ (z : ℤ). pull z (g .gz)) rho-old)) t;
+    }
+
+    passed : (l b : Bool) → l ≡ true → b ≡ not (l && not b)
+    passed true true h = refl
+    passed true false h = refl
+    passed false b h = absurd (false≢true h)
+
+    -- stage 3's test
+    pub steady-is : liquid (getD flags c 3) ≡ true → steadyFlow w ≡ not (tooFast S c)
+    unfolding steadyFlow tooFast sight stateOf
+    steady-is l =
+        ap₂ (λ (x : ℤ) (m : V3). dense x && slow x (dot m m)) rho-is vec-is
+        ∙ passed (liquid (getD flags c 3)) _ l
+
+    along : (i : ℕ) → i ≤ 18 → relaxedDir d3q19 (w .rho) (vec w) (g .p) (partsOf f) i ≡ collidedDir S c i
+    unfolding relaxedDir collidedDir sight
+    along i h t = relaxed (g .p) (d3q19 .weight i) (quad (rho-is t) (dot (d3q19 .e i) (vec-is t)) (dot (vec-is t) (vec-is t))) (rho-is t) (part-is i h t)
+
+    -- stage 4
+    pub collided-is : (k : ℕ) → k ≤ 18 → collidedPart d3q19 (w .rho) (vec w) (g .p) (partsOf f) k ≡ collided S c k
+    unfolding collidedPart collided sight d3q19
+    collided-is zero h = ap₂ _-ℤ_ rho-is (sum-cong 18 _ _ (λ a k. along (suc a) (omega arith)))
+    collided-is (suc a) h = along (suc a) h
+
+    -- ---- the cell put where it belongs
+    module _ (l : liquid (getD flags c 3) ≡ true) where
+      kind {ℓ} : {A : Type ℓ} (d x : A) → byFlag (getD flags c 3) d x x d ≡ x
+      kind d x = by-liquid (getD flags c 3) d x l
+
+      pub put-refused : (out : List ℤ) (b : Put) → b .ok ≡ false → steadyFlow w ≡ false → PutAt S c out out b
+      put-refused out b n e = record {
+        kept = refl;
+        ok = n ∙ sym e ∙ steady-is l;
+        parts = λ h. absurd (false≢true (sym n ∙ h));
+        rho = λ h. absurd (false≢true (sym n ∙ h));
+        fair = λ h. absurd (false≢true (sym n ∙ h));
+      }
+
+      module _ (x : List ℤ) (made : x ≡ tab 19 (collidedPart d3q19 (w .rho) (vec w) (g .p) (partsOf f))) where
+        new-part : (k : ℕ) → k ≤ 18 → partsOf x k ≡ collided S c k
+        new-part k h = ap (λ (y : List ℤ). getD y k (pos 0)) made ∙ getD-tab 19 _ (pos 0) k (omega arith) ∙ collided-is k h
+
+        moved : x ≡ tab 19 (movedPart S c)
+        unfolding movedPart sight stateOf
+        moved = made ∙ tab-cong 19 _ _ (pos 0) (λ k h. collided-is k (omega arith) ∙ sym (kind (pos 0) (collided S c k)))
+
+        fair-is : goodBody d3q19 (partsOf x) ≡ bodyGood d3q19 (collided S c)
+        unfolding goodBody bodyGood d3q19
+        fair-is = body-same d3q19 (partsOf x) (collided S c) new-part
+
+        pub put-accepted : (before after : List ℤ) (b : Put) → 19 * c + 19 ≤ length before → after ≡ pasted before (19 * c) x
+            → b .ok ≡ true → steadyFlow w ≡ true → b .rho ≡ w .rho → b .fair ≡ goodBody d3q19 (partsOf x) → PutAt S c before after b
+        unfolding sight stateOf
+        put-accepted before after b room put y e r o = record {
+          kept = ap length put ∙ length-pasted before (19 * c) x room (ap length made ∙ length-tab 19 _);
+          ok = y ∙ sym e ∙ steady-is l;
+          parts = λ h. put ∙ ap (pasted before (19 * c)) moved;
+          rho = λ h. r ∙ rho-is ∙ sym (kind (pos 0) (newDensity S c));
+          fair = λ h. o ∙ fair-is ∙ sym (kind true (bodyGood d3q19 (collided S c)));
+        }
+
+-- ---- a cell that is not liquid
+module _ (flags : List ℕ) (parts : List ℤ) (off : List ℕ) (low : ℕ) (g : Settings) (c : ℕ) (d : liquid (getD flags c 3) ≡ false) where
+  abbrev T : Scene
+  T = sight (flowing flags parts) off low g
+
+  by-dry {ℓ} : {A : Type ℓ} (f : ℕ) (z x : A) → liquid f ≡ false → byFlag f z x x z ≡ z
+  by-dry zero z x h = refl
+  by-dry (suc zero) z x h = absurd (false≢true (sym h))
+  by-dry (suc (suc zero)) z x h = absurd (false≢true (sym h))
+  by-dry (suc (suc (suc n))) z x h = refl
+
+  none : tab 19 (movedPart T c) ≡ replicate 19 (pos 0)
+  unfolding movedPart sight stateOf open-fold
+  none = tab-cong 19 (movedPart T c) (λ k. pos 0) (pos 0) (λ k h. by-dry (getD flags c 3) (pos 0) (collided T c k) d)
+
+  fast : tooFast T c ≡ false
+  unfolding tooFast sight stateOf
+  fast = ap (λ (b : Bool). b && not (dense (newDensity T c) && slow (newDensity T c) (dot (newMomentum T c) (newMomentum T c)))) d
+
+  pub put-dry : (before after : List ℤ) → 19 * c + 19 ≤ length before → after ≡ pasted before (19 * c) (replicate 19 (pos 0))
+      → PutAt T c before after (record { ok = true; fair = true; rho = pos 0 })
+  unfolding sight stateOf
+  put-dry before after room put = record {
+    kept = ap length put ∙ length-pasted before (19 * c) (replicate 19 (pos 0)) room refl;
+    ok = sym (ap not fast);
+    parts = λ h. put ∙ ap (pasted before (19 * c)) (sym none);
+    rho = λ h. sym (by-dry (getD flags c 3) (pos 0) (newDensity T c) d);
+    fair = λ h. sym (by-dry (getD flags c 3) true (bodyGood d3q19 (collided T c)) d);
+  }
+
+-- ---- how large a flow can be
+
+pub loosened : (f : List ℤ) (r b R B : ℕ) → Bounded f r b → r ≤ R → b ≤ B → Bounded f R B
+loosened f r b R B d hr hb = record {
+  rest = record { abs = omega (arith, d .rest .abs) };
+  at = λ k z h. record { abs = omega (arith, d .at k z h .abs) };
+}
+
+pub gravity-of : (g : Settings) → settingsGood g ≡ true → gravityGood (g .gx) (g .gy) (g .gz) ≡ true
+unfolding settingsGood
+gravity-of g s = and-right (relaxationGood (g .p)) (gravityGood (g .gx) (g .gy) (g .gz)) s
+
+pub relaxation-of : (g : Settings) → settingsGood g ≡ true → relaxationGood (g .p) ≡ true
+unfolding settingsGood
+relaxation-of g s = and-left (relaxationGood (g .p)) (gravityGood (g .gx) (g .gy) (g .gz)) s
+
+module _ (f : List ℤ) (b : Bounded f 1073741824 33554432) (v : Flow) (r : v .rho ≡ density d3q19 (partsOf f)) (j : vec v ≡ momentum d3q19 (partsOf f)) where
+  pub flow-rho : Within (v .rho) 1700000000
+  flow-rho = record { abs = omega (arith, ap natAbs r, density-in f b .abs) }
+
+  pub flow-x : Within (v .x) 340000000
+  flow-x = record { abs = omega (arith, ap (λ (m : V3). natAbs (m .x)) j, x-in f b .abs) }
+
+  pub flow-y : Within (v .y) 340000000
+  flow-y = record { abs = omega (arith, ap (λ (m : V3). natAbs (m .y)) j, y-in f b .abs) }
+
+  pub flow-z : Within (v .z) 340000000
+  flow-z = record { abs = omega (arith, ap (λ (m : V3). natAbs (m .z)) j, z-in f b .abs) }
+
+  module _ (g : Settings) (s : settingsGood g ≡ true) (w : Flow) (p : Pulled v g w) where
+    more : (a t u : ℤ) → a ≡ t +ℤ u → Within t 340000000 → Within u 1700000 → Within a 400000000
+    more a t u e h k = record { abs = omega (arith, ap natAbs e, abs-add t u, h .abs, k .abs) }
+
+    pub pulled-x : Within (w .x) 400000000
+    pulled-x = more (w .x) (v .x) (pull (v .rho) (g .gx)) (p .x) flow-x (pull-in flow-rho (weak-x (g .gx) (g .gy) (g .gz) (gravity-of g s)))
+
+    pub pulled-y : Within (w .y) 400000000
+    pulled-y = more (w .y) (v .y) (pull (v .rho) (g .gy)) (p .y) flow-y (pull-in flow-rho (weak-y (g .gx) (g .gy) (g .gz) (gravity-of g s)))
+
+    pub pulled-z : Within (w .z) 400000000
+    pulled-z = more (w .z) (v .z) (pull (v .rho) (g .gz)) (p .z) flow-z (pull-in flow-rho (weak-z (g .gx) (g .gy) (g .gz) (gravity-of g s)))

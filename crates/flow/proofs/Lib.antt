@@ -1,0 +1,12 @@
+pub mod Held
+pub mod Trades
+pub mod Stores
+pub mod Spans
+pub mod Arrivals
+pub mod Mirrored
+pub mod Collisions
+pub mod Marking
+pub mod Plain
+pub mod Poise
+pub mod Onward
+pub mod Walked

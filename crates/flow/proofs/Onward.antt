@@ -1,0 +1,116 @@
+-- From one cell's sight to the step's scene, for every cell of a set that is poised: the test of stage 3, the moved parts, masses and marks. A liquid cell
+-- is inner, so that its neighbours are where the offsets say; of any other cell nothing is asked. Assumes nothing.
+use mathlib.Core.Path.{_≡_, refl, sym, ap, ap₂, _∙_, subst}
+use mathlib.Core.Bool.{Bool, true, false, cond}
+use mathlib.Core.List.{List}
+use Prim.Native.Nat.{ℕ, zero, suc, _+_, _-_, _*_, _≤_, _<_}
+use native.Mathlib.Omega.{arith}
+use lib.IntN.{ℤ, pos}
+use lib.ListN.{length, getD}
+use Rattle.whole.specs.Search.{Dir}
+use Rattle.lattice.specs.Lattice.{d3q19}
+use Rattle.lattice.specs.Cell.{over, under}
+use Rattle.lattice.specs.declared.Settings.{Settings}
+use Rattle.lattice.proofs.Paired.{paired19}
+use Rattle.grid.specs.declared.Sides.{Sides}
+use Rattle.grid.specs.Grid.{cellsOf}
+use Rattle.grid.specs.State.{Scene, byFlag, liquid, stateOf}
+use Rattle.grid.specs.Step.{newDensity, tradedMass, tooFast, collided}
+use Rattle.grid.specs.Outcome.{sceneOf}
+use Rattle.grid.specs.Between.{Poised, carried, uncarried, movedPart, movedMass, firstMark}
+use Rattle.grid.specs.Sight.{flowing, noSettings, sight}
+use Rattle.grid.proofs.Beside.{Offsets, place-is}
+use Rattle.flow.proofs.Plain.{new-density-same, too-fast-same, collided-same, traded-mass-same}
+use Rattle.flow.proofs.Poise.{liquid-inner}
+
+-- ---- by cases on the flag alone
+dry-part : (f : ℕ) (x y : ℤ) → (liquid f ≡ true → x ≡ y) → byFlag f (pos 0) x x (pos 0) ≡ byFlag f (pos 0) y y (pos 0)
+dry-part zero x y h = refl
+dry-part (suc zero) x y h = h refl
+dry-part (suc (suc zero)) x y h = h refl
+dry-part (suc (suc (suc n))) x y h = refl
+
+dry-mass : (f : ℕ) (m n r q : ℤ) → (f ≡ 1 → m ≡ n) → r ≡ byFlag f (pos 0) q q (pos 0) → byFlag f r m r r ≡ byFlag f (pos 0) n q (pos 0)
+dry-mass zero m n r q h e = e
+dry-mass (suc zero) m n r q h e = h refl
+dry-mass (suc (suc zero)) m n r q h e = e
+dry-mass (suc (suc (suc k))) m n r q h e = e
+
+mark-cases : (f : ℕ) (m n r q : ℤ) → (f ≡ 1 → (m ≡ n) × (r ≡ q))
+    → _≡_ {A = ℕ} (byFlag f 0 (cond (over m r) 1 (cond (under m r) 2 0)) 0 0) (byFlag f 0 (cond (over n q) 1 (cond (under n q) 2 0)) 0 0)
+mark-cases zero m n r q h = refl
+mark-cases (suc zero) m n r q h = ap₂ (λ (x y : ℤ). cond (over x y) 1 (cond (under x y) 2 0)) (h refl .0) (h refl .1)
+mark-cases (suc (suc zero)) m n r q h = refl
+mark-cases (suc (suc (suc k))) m n r q h = refl
+
+module _ (s : Sides) (g : Settings) (flags : List ℕ) (parts masses : List ℤ) (fills : List ℕ) (carry : List ℤ) (p : Poised s g (carried flags parts masses fills carry))
+    (off : List ℕ) (low : ℕ) (o : Offsets s off low) (c : ℕ) (h : c < cellsOf s) where
+  -- the step's scene, and what functions of one cell see of it
+  abbrev step : Scene
+  step = sceneOf s g (carried flags parts masses fills carry)
+
+  abbrev seen : Scene
+  seen = sight (flowing flags parts) off low g
+
+  abbrev trader : Scene
+  trader = sight (uncarried flags parts masses fills) off low noSettings
+
+  near : liquid (getD flags c 3) ≡ true → (i : ℕ) → Dir (d3q19 .q) i → seen .grid .near c i ≡ step .grid .near c i
+  unfolding stateOf sight sceneOf d3q19
+  near l i d = place-is o c (liquid-inner s g (carried flags parts masses fills carry) p c h l) i (omega (arith, d .most))
+
+  -- stages 1, 3 and 4
+  module _ (l : liquid (getD flags c 3) ≡ true) where
+    pub density-seen : newDensity seen c ≡ newDensity step c
+    unfolding sight sceneOf stateOf
+    density-seen =
+        new-density-same d3q19 paired19 (seen .grid) (step .grid) (step .old .flag) (step .old .part) c (near l)
+        (seen .old .mass) (step .old .mass) (seen .old .fill) (step .old .fill) (seen .old .carry) (step .old .carry) (seen .g) (step .g) (seen .relax) (step .relax)
+
+    wet-fast : tooFast seen c ≡ tooFast step c
+    unfolding sight sceneOf stateOf
+    wet-fast =
+        too-fast-same d3q19 paired19 (seen .grid) (step .grid) (step .old .flag) (step .old .part) c (near l)
+        (seen .old .mass) (step .old .mass) (seen .old .fill) (step .old .fill) (seen .old .carry) (step .old .carry) (step .g) (step .relax)
+
+    pub collided-seen : (k : ℕ) → k ≤ 18 → collided seen c k ≡ collided step c k
+    unfolding sight sceneOf stateOf d3q19
+    collided-seen =
+        collided-same d3q19 paired19 (seen .grid) (step .grid) (step .old .flag) (step .old .part) c (near l)
+        (seen .old .mass) (step .old .mass) (seen .old .fill) (step .old .fill) (seen .old .carry) (step .old .carry) (step .g) (step .relax)
+
+    traded-seen : tradedMass trader c ≡ tradedMass step c
+    unfolding sight sceneOf stateOf
+    traded-seen =
+        traded-mass-same d3q19 paired19 (trader .grid) (step .grid) (step .old .flag) (step .old .part) c (near l)
+        (step .old .mass) (step .old .fill) (trader .old .carry) (step .old .carry) (trader .g) (step .g) (trader .relax) (step .relax)
+
+  pub fast-seen : tooFast seen c ≡ tooFast step c
+  unfolding tooFast sight sceneOf stateOf
+  fast-seen = go (liquid (getD flags c 3)) refl
+    where
+      go : (b : Bool) → liquid (getD flags c 3) ≡ b → tooFast seen c ≡ tooFast step c
+      go true l = wet-fast l
+      go false l = rw l refl
+
+  pub part-seen : (k : ℕ) → k ≤ 18 → movedPart seen c k ≡ movedPart step c k
+  unfolding movedPart sight sceneOf stateOf
+  part-seen k m = dry-part (getD flags c 3) (collided seen c k) (collided step c k) (λ l. collided-seen l k m)
+
+  -- the density that the pass hands on: that of a liquid cell, else 0
+  pub mass-seen : (rho : ℤ) → rho ≡ byFlag (getD flags c 3) (pos 0) (newDensity seen c) (newDensity seen c) (pos 0)
+      → byFlag (getD flags c 3) rho (tradedMass trader c) rho rho ≡ movedMass step c
+  unfolding movedMass sight sceneOf stateOf
+  mass-seen rho e =
+      dry-mass (getD flags c 3) (tradedMass trader c) (tradedMass step c) rho (newDensity step c) (λ f. traded-seen (ap liquid f))
+      (e ∙ dry-part (getD flags c 3) (newDensity seen c) (newDensity step c) density-seen)
+
+  pub mark-seen : (m rho : ℤ) → rho ≡ byFlag (getD flags c 3) (pos 0) (newDensity seen c) (newDensity seen c) (pos 0) → m ≡ movedMass step c
+      → _≡_ {A = ℕ} (byFlag (getD flags c 3) 0 (cond (over m rho) 1 (cond (under m rho) 2 0)) 0 0) (firstMark step c)
+  unfolding firstMark movedMass sight sceneOf stateOf
+  mark-seen m rho e u =
+      mark-cases (getD flags c 3) m (tradedMass step c) rho (newDensity step c)
+      (λ f. (
+        u ∙ ap (λ (k : ℕ). byFlag k (pos 0) (tradedMass step c) (newDensity step c) (pos 0)) f,
+        e ∙ ap (λ (k : ℕ). byFlag k (pos 0) (newDensity seen c) (newDensity seen c) (pos 0)) f ∙ density-seen (ap liquid f),
+      ))

@@ -1,0 +1,119 @@
+-- A cell's stages turn on nothing but flags, parts, fills and masses, and on where its own neighbours lie: two scenes that agree in these agree in what
+-- they make of the cell. So what a function of one cell promises of its sight is what the step's scene has. Assumes nothing.
+use mathlib.Core.Path.{_≡_, refl, sym, ap, ap₂, _∙_}
+use mathlib.Core.Bool.{Bool, true, false, _&&_, not, cond}
+use Prim.Native.Nat.{ℕ, zero, suc, _+_, _≤_, _<_}
+use native.Mathlib.Omega.{arith}
+use lib.IntN.{ℤ, pos, _+ℤ_, _-ℤ_, _*ℤ_}
+use Rattle.whole.specs.Fold.{sum, dirs}
+use Rattle.whole.specs.Search.{Dir, as-dir}
+use Rattle.whole.specs.Sums.{sum-cong}
+use Rattle.lattice.specs.Lattice.{V3, dot, Lattice, density, momentum}
+use Rattle.lattice.specs.Cell.{dense, slow, gas, exchange, pull, quad, relaxed, over, under}
+use Rattle.lattice.proofs.Paired.{Paired}
+use Rattle.grid.specs.Grid.{Grid}
+use Rattle.grid.specs.State.{State, Scene, byFlag, liquid}
+use Rattle.grid.specs.Step.{oldDensity, oldMomentum, rebuilt, rebuild, arrives, streamed, difference, traded, tradedMass, newDensity, newMomentum, tooFast, collidedDir, collided}
+use Rattle.grid.specs.Between.{movedPart, movedMass, firstMark}
+use Rattle.grid.proofs.Same.{density-same, momentum-same}
+
+-- two scenes with the same lattice, flags and parts
+abbrev with-flow : Lattice → Grid → (ℕ → ℕ) → (ℕ → ℕ → ℤ) → (ℕ → ℤ) → (ℕ → ℕ) → ℤ → V3 → (ℕ → ℤ) → Scene
+with-flow L G flag part mass fill carry g p =
+    record { lat = L; grid = G; old = record { flag = flag; part = part; mass = mass; fill = fill; carry = carry }; g = g; relax = p }
+
+module _ (L : Lattice) (pair : Paired L) (G H : Grid) (flag : ℕ → ℕ) (part : ℕ → ℕ → ℤ) (c : ℕ) (near : (i : ℕ) → Dir (L .q) i → G .near c i ≡ H .near c i) where
+  -- stage 1 turns on flags and parts alone
+  module _ (mass mass′ : ℕ → ℤ) (fill fill′ : ℕ → ℕ) (carry carry′ : ℤ) (g g′ : V3) (p p′ : ℕ → ℤ) where
+    abbrev S : Scene
+    S = with-flow L G flag part mass fill carry g p
+
+    abbrev S′ : Scene
+    S′ = with-flow L H flag part mass′ fill′ carry′ g′ p′
+
+    arrives-same : (i k : ℕ) → Dir (L .q) i → arrives S c i k ≡ arrives S′ c i k
+    unfolding arrives rebuilt rebuild oldDensity oldMomentum
+    arrives-same i k d =
+        ap (λ (n : ℕ). cond (byFlag (flag n) true false false false)
+        (gas (L .weight i) (density L (part c)) (dot (L .e i) (momentum L (part c))) (dot (momentum L (part c)) (momentum L (part c))) -ℤ part c i)
+        (byFlag (flag n) (pos 0) (part n k) (part n k) (part c i)))
+        (near i d)
+
+    pub streamed-same : (k : ℕ) → k ≤ L .q → streamed S c k ≡ streamed S′ c k
+    unfolding streamed
+    streamed-same zero h = refl
+    streamed-same (suc a) h = arrives-same (L .opp (suc a)) (suc a) (pair .dir (suc a) (as-dir h))
+
+    pub new-density-same : newDensity S c ≡ newDensity S′ c
+    unfolding newDensity
+    new-density-same = density-same L (streamed S c) (streamed S′ c) streamed-same
+
+  -- stages 3 and 4 turn on gravity and relaxation too
+  module _ (mass mass′ : ℕ → ℤ) (fill fill′ : ℕ → ℕ) (carry carry′ : ℤ) (g : V3) (p : ℕ → ℤ) where
+    abbrev M : Scene
+    M = with-flow L G flag part mass fill carry g p
+
+    abbrev M′ : Scene
+    M′ = with-flow L H flag part mass′ fill′ carry′ g p
+
+    density-is : newDensity M c ≡ newDensity M′ c
+    density-is = new-density-same mass mass′ fill fill′ carry carry′ g g p p
+
+    streamed-is : (k : ℕ) → k ≤ L .q → streamed M c k ≡ streamed M′ c k
+    streamed-is = streamed-same mass mass′ fill fill′ carry carry′ g g p p
+
+    pub new-momentum-same : newMomentum M c ≡ newMomentum M′ c
+    unfolding newMomentum
+    new-momentum-same i =
+        let j = momentum-same L (streamed M c) (streamed M′ c) streamed-is in
+        record {
+          x = (j i .x) +ℤ pull (density-is i) (g .x);
+          y = (j i .y) +ℤ pull (density-is i) (g .y);
+          z = (j i .z) +ℤ pull (density-is i) (g .z);
+        }
+
+    pub too-fast-same : tooFast M c ≡ tooFast M′ c
+    unfolding tooFast
+    too-fast-same = ap₂ (λ (ρ : ℤ) (j : V3). liquid (flag c) && not (dense ρ && slow ρ (dot j j))) density-is new-momentum-same
+
+    collided-dir-same : (i : ℕ) → i ≤ L .q → collidedDir M c i ≡ collidedDir M′ c i
+    unfolding collidedDir
+    collided-dir-same i h t =
+        relaxed (p c) (L .weight i) (quad (density-is t) (dot (L .e i) (new-momentum-same t)) (dot (new-momentum-same t) (new-momentum-same t))) (density-is t) (streamed-is i h t)
+
+    pub collided-same : (k : ℕ) → k ≤ L .q → collided M c k ≡ collided M′ c k
+    unfolding collided
+    collided-same zero h =
+        ap₂ (λ (x y : ℤ). x -ℤ y) density-is (sum-cong (L .q) (λ a. collidedDir M c (suc a)) (λ a. collidedDir M′ c (suc a)) (λ a k. collided-dir-same (suc a) k))
+    collided-same (suc a) h = collided-dir-same (suc a) h
+
+    pub moved-part-same : (k : ℕ) → k ≤ L .q → movedPart M c k ≡ movedPart M′ c k
+    unfolding movedPart
+    moved-part-same k h = ap (λ (x : ℤ). byFlag (flag c) (pos 0) x x (pos 0)) (collided-same k h)
+
+  -- stage 2 turns on masses and fills
+  module _ (mass : ℕ → ℤ) (fill : ℕ → ℕ) (carry carry′ : ℤ) (g g′ : V3) (p p′ : ℕ → ℤ) where
+    abbrev T : Scene
+    T = with-flow L G flag part mass fill carry g p
+
+    abbrev T′ : Scene
+    T′ = with-flow L H flag part mass fill carry′ g′ p′
+
+    traded-same : (i : ℕ) → Dir (L .q) i → traded T c i ≡ traded T′ c i
+    unfolding traded difference
+    traded-same i d =
+        ap (λ (n : ℕ). byFlag (flag n) (pos 0) (exchange (fill c + fill n) (part n (L .opp i) -ℤ part c i)) (part n (L .opp i) -ℤ part c i) (pos 0)) (near i d)
+
+    pub traded-mass-same : tradedMass T c ≡ tradedMass T′ c
+    unfolding tradedMass
+    traded-mass-same = ap (λ (z : ℤ). mass c +ℤ z) (sum-cong (L .q) (λ a. traded T c (suc a)) (λ a. traded T′ c (suc a)) (λ a k. traded-same (suc a) (as-dir k)))
+
+    pub moved-mass-same : movedMass T c ≡ movedMass T′ c
+    unfolding movedMass
+    moved-mass-same =
+        ap₂ (λ (m ρ : ℤ). byFlag (flag c) (pos 0) m ρ (pos 0)) traded-mass-same (new-density-same mass mass fill fill carry carry′ g g′ p p′)
+
+    pub first-mark-same : firstMark T c ≡ firstMark T′ c
+    unfolding firstMark
+    first-mark-same =
+        ap₂ (λ (m ρ : ℤ). byFlag (flag c) 0 (cond (over m ρ) 1 (cond (under m ρ) 2 0)) 0 0) traded-mass-same (new-density-same mass mass fill fill carry carry′ g g′ p p′)

@@ -1,0 +1,75 @@
+-- From tests 1 to 6 to what a pass asks, and from that to what a function of one cell asks. Assumes nothing.
+use mathlib.Core.Path.{_≡_, refl, sym, ap, _∙_, subst}
+use mathlib.Core.Bool.{Bool, true, false, _&&_, false≢true}
+use mathlib.Core.List.{List}
+use Prim.Native.Nat.{ℕ, zero, suc, _+_, _-_, _*_, _≤_, _<_}
+use native.Mathlib.Omega.{arith}
+use lib.IntN.{ℤ, pos, natAbs}
+use lib.ListN.{length, getD}
+use Rattle.whole.specs.Machine.{Within}
+use Rattle.lattice.specs.Lattice.{d3q19, density}
+use Rattle.lattice.specs.declared.Settings.{Settings}
+use Rattle.grid.specs.declared.Sides.{Sides}
+use Rattle.grid.specs.Grid.{cellsOf, sidesGood, gridOf, box}
+use Rattle.grid.specs.State.{Lent, State, byFlag, liquid, stateOf}
+use Rattle.grid.specs.Step.{fillFor}
+use Rattle.grid.specs.Good.{dryGood, interfaceGood, fluidGood, fillGood, cellGood}
+use Rattle.grid.specs.Between.{Sized, Ready, Poised, uncarried}
+use Rattle.grid.specs.Passes.{Inner}
+use Rattle.grid.specs.Sight.{Body, Bodied}
+use Rattle.grid.proofs.Coordinates.{inner-of}
+use Rattle.grid.proofs.GoodSides.{good-sides}
+use Rattle.grid.proofs.Laid.{inner}
+use Rattle.grid.proofs.Prepared.{ready-sound, ready-cell, cell-body, cell-mass, cell-fill}
+
+-- no rule of a cell reads the carry
+alone : (a : Lent) (c : ℕ) → cellGood d3q19 (stateOf 18 a) c ≡ cellGood d3q19 (stateOf 18 (uncarried (a .flags) (a .parts) (a .masses) (a .fills))) c
+unfolding stateOf cellGood dryGood interfaceGood fluidGood fillGood
+alone a c = refl
+
+pub poised : (s : Sides) (g : Settings) (a : Lent) → Ready s g a → Poised s g (uncarried (a .flags) (a .parts) (a .masses) (a .fills))
+unfolding stateOf gridOf box cellsOf d3q19
+poised s g a r = record {
+  sides = r .sides;
+  settings = r .settings;
+  flags = r .sized .flags;
+  parts = r .sized .parts;
+  masses = r .sized .masses;
+  fills = r .sized .fills;
+  flagged = ready-sound s g a r .flagged;
+  walled = ready-sound s g a r .walled;
+  closed = ready-sound s g a r .closed;
+  cells = λ c h. sym (alone a c) ∙ ready-cell s g a r c h;
+}
+
+pub few : (s : Sides) → sidesGood s ≡ true → cellsOf s ≤ 262144
+unfolding cellsOf
+few s h = good-sides s h .all
+
+-- ---- one cell of a set that is poised
+module _ (s : Sides) (g : Settings) (a : Lent) (r : Poised s g a) where
+  pub poised-body : (c : ℕ) → c < cellsOf s → liquid (stateOf 18 a .flag c) ≡ true → Body (stateOf 18 a .part c)
+  poised-body = cell-body (cellsOf s) (stateOf 18 a) (r .cells)
+
+  pub poised-mass : (c : ℕ) → c < cellsOf s → stateOf 18 a .flag c ≡ 1 → Within (stateOf 18 a .mass c) 2359296
+  poised-mass = cell-mass (cellsOf s) (stateOf 18 a) (r .cells)
+
+  pub poised-fill : (c : ℕ) → c < cellsOf s → stateOf 18 a .fill c ≡ fillFor (stateOf 18 a .flag c) (stateOf 18 a .mass c) (density d3q19 (stateOf 18 a .part c))
+  poised-fill = cell-fill (cellsOf s) (stateOf 18 a) (r .cells)
+
+  -- ---- what a function of one cell asks
+  pub poised-bodied : Bodied (a .flags) (a .parts)
+  unfolding stateOf
+  poised-bodied = record {
+    count = r .parts ∙ ap (λ (n : ℕ). 19 * n) (sym (r .flags));
+    few = subst (λ (n : ℕ). n ≤ 262144) (sym (r .flags)) (few s (r .sides));
+    body = λ c h l. poised-body c (subst (λ (n : ℕ). c < n) (r .flags) h) l;
+  }
+
+  -- a cell that is no wall is inner
+  pub poised-inner : (c : ℕ) → c < cellsOf s → (stateOf 18 a .flag c ≡ 3 → ⊥) → Inner s c
+  unfolding gridOf box cellsOf
+  poised-inner c h n = inner-of s c (r .sides) h (inner (gridOf s) (stateOf 18 a .flag) (r .walled) c h n)
+
+  pub liquid-inner : (c : ℕ) → c < cellsOf s → liquid (stateOf 18 a .flag c) ≡ true → Inner s c
+  liquid-inner c h l = poised-inner c h (λ w. false≢true (sym (ap liquid w) ∙ l))

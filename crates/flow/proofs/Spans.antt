@@ -1,0 +1,209 @@
+-- How large the numbers of stage 1 can be, from cells with parts, density and speed in their ranges. Assumes nothing.
+use mathlib.Core.Path.{_≡_, refl, sym, ap, ap₂, _∙_, subst}
+use mathlib.Core.Bool.{Bool, true, false, _&&_}
+use mathlib.Core.List.{List, [], _∷_}
+use Prim.Native.Nat.{ℕ, zero, suc, _+_, _-_, _*_, _/_, _%_, _≤_, _<_}
+use native.Mathlib.Nat.{mul-le-mul, mul-le-mul-left, mul-le-mul-right, div-le-of-le-mul, le-trans, le-of-eq}
+use native.Mathlib.Omega.{arith}
+use lib.Dec.{leb}
+use lib.ListN.{length, getD}
+use lib.IntN.{ℤ, pos, natAbs, _+ℤ_, _-ℤ_, _*ℤ_}
+use lib.Signed.{_≤ℤ_, quotZ}
+use borrow.Author.Tests.{leb-true}
+use Rattle.whole.specs.Bools.{and-true}
+use Rattle.whole.specs.Bounds.{abs-add, abs-sub, abs-mul, abs-quot, abs-above}
+use Rattle.whole.specs.Fold.{all, tab, open-fold}
+use Rattle.whole.specs.Machine.{Within}
+use Rattle.whole.specs.Order.{leZ-true, squares, slow-x}
+use Rattle.whole.specs.Ring.{ring-by, quotes}
+use Rattle.whole.specs.Search.{all-at}
+use Rattle.whole.specs.Tab.{getD-tab}
+use Rattle.lattice.specs.Lattice.{V3, dot, pairOpp, d3q19, density, momentum, open-lattice}
+use Rattle.lattice.specs.Cell.{dense, slow, gas}
+use Rattle.lattice.specs.Body.{partsOf, Bounded, vec, Tame, steadyFlow}
+use Rattle.lattice.specs.declared.Flow.{Flow}
+use Rattle.lattice.specs.declared.Settings.{Settings}
+use Rattle.lattice.proofs.Tame.{dense-low, dense-in, steady-tame}
+use Rattle.grid.specs.State.{Scene, liquid, stateOf}
+use Rattle.grid.specs.Step.{arrives, streamed}
+use Rattle.grid.specs.Sight.{Body, Bodied, Around, flowing, sight}
+use Rattle.grid.proofs.Same.{density-same, momentum-same}
+use Rattle.flow.proofs.Arrivals.{arrives-wall, arrives-empty, arrives-liquid, opposite-some, opposite-most}
+
+-- ---- the table: a direction's components, one computed test each
+
+abbrev length-of : V3 → ℕ
+length-of e = natAbs (e .x) + natAbs (e .y) + natAbs (e .z)
+
+pub short : (i : ℕ) → i < 19 → length-of (d3q19 .e i) ≤ 2
+unfolding open-lattice open-fold
+short i h = leb-true (length-of (d3q19 .e i)) 2 (all-at 19 (λ i. leb (length-of (d3q19 .e i)) 2) refl i h)
+
+pub weight-low : (i : ℕ) → 0 < i → i < 19 → d3q19 .weight i ≤ 2
+unfolding open-lattice open-fold
+weight-low zero z h = absurd (omega arith)
+weight-low (suc a) z h = leb-true (d3q19 .weight (suc a)) 2 (all-at 18 (λ a. leb (d3q19 .weight (suc a)) 2) refl a (omega arith))
+
+-- ---- vectors
+
+-- e·j, from a bound of each component of j
+dot-abs : (e j : V3) → natAbs (dot e j) ≤ natAbs (e .x) * natAbs (j .x) + natAbs (e .y) * natAbs (j .y) + natAbs (e .z) * natAbs (j .z)
+dot-abs e j =
+    omega (
+      arith,
+      abs-add (e .x *ℤ j .x +ℤ e .y *ℤ j .y) (e .z *ℤ j .z),
+      abs-add (e .x *ℤ j .x) (e .y *ℤ j .y),
+      abs-mul (e .x) (j .x),
+      abs-mul (e .y) (j .y),
+      abs-mul (e .z) (j .z),
+    )
+
+leaning : (e j : V3) (r : ℕ) → length-of e ≤ 2 → 3 * natAbs (j .x) ≤ r → 3 * natAbs (j .y) ≤ r → 3 * natAbs (j .z) ≤ r → 3 * natAbs (dot e j) ≤ 2 * r
+leaning e j r s hx hy hz =
+    omega (
+      arith,
+      dot-abs e j,
+      mul-le-mul-left (natAbs (e .x)) hx,
+      mul-le-mul-left (natAbs (e .y)) hy,
+      mul-le-mul-left (natAbs (e .z)) hz,
+      mul-le-mul-right r s,
+    )
+
+-- 9|j|² ≤ ρ², axis by axis
+module _ (j : V3) (ρ : ℤ) (h : (pos 9 *ℤ dot j j) ≤ℤ (ρ *ℤ ρ)) where
+  third-x : 3 * natAbs (j .x) ≤ natAbs ρ
+  third-x = slow-x (j .x) (j .y) (j .z) ρ h
+
+  third-y : 3 * natAbs (j .y) ≤ natAbs ρ
+  third-y = slow-x (j .y) (j .x) (j .z) ρ (subst (λ (t : ℤ). t ≤ℤ (ρ *ℤ ρ)) (turn (j .x) (j .y) (j .z)) h)
+    where
+      turn : (x y z : ℤ) → pos 9 *ℤ (x *ℤ x +ℤ y *ℤ y +ℤ z *ℤ z) ≡ pos 9 *ℤ (y *ℤ y +ℤ x *ℤ x +ℤ z *ℤ z)
+      turn x y z = ring-by (x ∷ y ∷ z ∷ []) (search quotes depth 20) (search quotes depth 20) tt
+
+  third-z : 3 * natAbs (j .z) ≤ natAbs ρ
+  third-z = slow-x (j .z) (j .x) (j .y) ρ (subst (λ (t : ℤ). t ≤ℤ (ρ *ℤ ρ)) (turn (j .x) (j .y) (j .z)) h)
+    where
+      turn : (x y z : ℤ) → pos 9 *ℤ (x *ℤ x +ℤ y *ℤ y +ℤ z *ℤ z) ≡ pos 9 *ℤ (z *ℤ z +ℤ x *ℤ x +ℤ y *ℤ y)
+      turn x y z = ring-by (x ∷ y ∷ z ∷ []) (search quotes depth 20) (search quotes depth 20) tt
+
+  square-third : 9 * natAbs (dot j j) ≤ natAbs ρ * natAbs ρ
+  square-third = omega (arith, dot-abs j j, squares (j .x) (j .y) (j .z) ρ h)
+
+  -- what both opposite parts add up to beside an empty cell
+  pub gas-in : (w : ℕ) (e : V3) → w ≤ 2 → length-of e ≤ 2 → 0 < natAbs ρ → Within (gas w ρ (dot e j) (dot j j)) 229376
+  unfolding gas
+  gas-in w e l s z =
+      let a = dot e j in
+      let r = natAbs ρ in
+      let n = pos 2 *ℤ (ρ *ℤ ρ) +ℤ pos 9 *ℤ (a *ℤ a) -ℤ pos 3 *ℤ dot j j in
+      let k : 3 * natAbs a ≤ 2 * r = leaning e j r s third-x third-y third-z in
+      let big : natAbs n ≤ 7 * (r * r) = upper a (mul-le-mul k k) in
+      let top : natAbs (pos (w * 16384) *ℤ n) ≤ r * r * 229376 =
+      omega (arith, abs-mul (pos (w * 16384)) n, mul-le-mul (mul-le-mul-right 16384 l) big) in
+      record {
+        abs = le-trans (le-of-eq (abs-quot (pos (w * 16384) *ℤ n) (ρ *ℤ ρ) ∙ ap (λ (t : ℕ). natAbs (pos (w * 16384) *ℤ n) / t) (abs-mul ρ ρ)))
+            (div-le-of-le-mul (r * r) top);
+      }
+    where
+      upper : (a : ℤ) → 3 * natAbs a * (3 * natAbs a) ≤ 2 * natAbs ρ * (2 * natAbs ρ) → natAbs (pos 2 *ℤ (ρ *ℤ ρ) +ℤ pos 9 *ℤ (a *ℤ a) -ℤ pos 3 *ℤ dot j j) ≤ 7 * (natAbs ρ * natAbs ρ)
+      upper a k =
+          omega (
+            arith,
+            abs-sub (pos 2 *ℤ (ρ *ℤ ρ) +ℤ pos 9 *ℤ (a *ℤ a)) (pos 3 *ℤ dot j j),
+            abs-add (pos 2 *ℤ (ρ *ℤ ρ)) (pos 9 *ℤ (a *ℤ a)),
+            abs-mul (pos 2) (ρ *ℤ ρ),
+            abs-mul ρ ρ,
+            abs-mul (pos 9) (a *ℤ a),
+            abs-mul a a,
+            abs-mul (pos 3) (dot j j),
+            square-third,
+          )
+
+-- ---- a liquid cell
+module _ (f : ℕ → ℤ) (b : Body f) where
+  abbrev ρ : ℤ
+  ρ = density d3q19 f
+
+  abbrev j : V3
+  j = momentum d3q19 f
+
+  within-third : (pos 9 *ℤ dot j j) ≤ℤ (ρ *ℤ ρ)
+  unfolding slow
+  within-third = leZ-true (b .is-slow)
+
+  pub gas-body : (i : ℕ) → 0 < i → i < 19 → Within (gas (d3q19 .weight i) ρ (dot (d3q19 .e i) j) (dot j j)) 229376
+  gas-body i z h = gas-in j ρ within-third (d3q19 .weight i) (d3q19 .e i) (weight-low i z h) (short i h) (omega (arith, abs-above (dense-low ρ (b .is-dense))))
+
+  pub along-body : (i : ℕ) → i < 19 → Within (dot (d3q19 .e i) j) 1179648
+  along-body i h =
+      record { abs = omega (arith, leaning (d3q19 .e i) j (natAbs ρ) (short i h) (third-x j ρ within-third) (third-y j ρ within-third) (third-z j ρ within-third), dense-in ρ (b .is-dense) .abs) }
+
+  pub tame-body : (v : Flow) → v .rho ≡ ρ → vec v ≡ j → Tame v
+  unfolding steadyFlow
+  tame-body v p q =
+      steady-tame v (and-true (dense (v .rho)) (slow (v .rho) (dot (vec v) (vec v))) (ap dense p ∙ b .is-dense) (ap₂ (λ (r : ℤ) (m : V3). slow r (dot m m)) p q ∙ b .is-slow))
+
+  -- its parts, read into an array
+  pub part-own : (l : List ℤ) → l ≡ tab 19 f → (k : ℕ) → k ≤ 18 → partsOf l k ≡ f k
+  part-own l e k h = ap (λ (x : List ℤ). getD x k (pos 0)) e ∙ getD-tab 19 f (pos 0) k (omega arith)
+
+  pub bounded-own : (l : List ℤ) → l ≡ tab 19 f → (r q : ℕ) → 1179648 ≤ r → 1179648 ≤ q → Bounded l r q
+  bounded-own l e r q hr hq = record {
+    rest = record { abs = omega (arith, ap natAbs (part-own l e 0 (omega arith)), b .parts 0 (omega arith) .abs) };
+    at = λ k z h. record { abs = omega (arith, ap natAbs (part-own l e k (omega arith)), b .parts k (omega arith) .abs) };
+  }
+
+  pub density-own : (l : List ℤ) → l ≡ tab 19 f → density d3q19 (partsOf l) ≡ ρ
+  unfolding d3q19
+  density-own l e = density-same d3q19 (partsOf l) f (part-own l e)
+
+  pub momentum-own : (l : List ℤ) → l ≡ tab 19 f → momentum d3q19 (partsOf l) ≡ j
+  unfolding d3q19
+  momentum-own l e = momentum-same d3q19 (partsOf l) f (part-own l e)
+
+-- ---- what streams into a liquid cell
+module _ (flags : List ℕ) (parts : List ℤ) (off : List ℕ) (low : ℕ) (g : Settings) (t : Bodied flags parts) (c : ℕ) (a : Around (length flags) off low c) (l : liquid (getD flags c 3) ≡ true) where
+  abbrev S : Scene
+  S = sight (flowing flags parts) off low g
+
+  own-in : (k : ℕ) → k ≤ 18 → Within (getD parts (19 * c + k) (pos 0)) 1179648
+  own-in k h = t .body c (a .is-cell) l .parts k h
+
+  less : {x y : ℤ} → Within x 229376 → Within y 1179648 → Within (x -ℤ y) 2097152
+  less {x} {y} h k = record { abs = omega (arith, abs-sub x y, h .abs, k .abs) }
+
+  loose : {z : ℤ} → Within z 1179648 → Within z 2097152
+  loose h = record { abs = omega (arith, h .abs) }
+
+  arrives-in : (i k : ℕ) → 0 < i → i < 19 → k < 19 → Within (arrives S c i k) 2097152
+  arrives-in i k z h m = go (getD flags b 3) refl
+    where
+      b : ℕ
+      b = (c - low) + getD off i 0
+
+      from : liquid (getD flags b 3) ≡ true → Within (arrives S c i k) 2097152
+      from w =
+          subst (λ (x : ℤ). Within x 2097152) (sym (arrives-liquid flags parts off low g c b i k refl w))
+          (loose (t .body b (a .each i h) w .parts k (omega arith)))
+
+      go : (f : ℕ) → getD flags b 3 ≡ f → Within (arrives S c i k) 2097152
+      go zero e =
+          subst (λ (x : ℤ). Within x 2097152) (sym (arrives-empty flags parts off low g c b i k refl e))
+          (less (gas-body (λ k. getD parts (19 * c + k) (pos 0)) (t .body c (a .is-cell) l) i z h) (own-in i (omega arith)))
+      go (suc zero) e = from (ap liquid e)
+      go (suc (suc zero)) e = from (ap liquid e)
+      go (suc (suc (suc n))) e =
+          subst (λ (x : ℤ). Within x 2097152) (sym (arrives-wall flags parts off low g c b i k refl (omega arith))) (loose (own-in i (omega arith)))
+
+  pub streamed-in : (k : ℕ) → k ≤ 18 → Within (streamed S c k) 2097152
+  unfolding streamed sight stateOf d3q19
+  streamed-in zero h = loose (own-in 0 h)
+  streamed-in (suc n) h = arrives-in (pairOpp (suc n)) (suc n) (opposite-some n) (opposite-most n (omega arith)) (omega arith)
+
+  -- read into an array
+  pub bounded-streamed : (x : List ℤ) → x ≡ tab 19 (streamed S c) → Bounded x 2097152 2097152
+  bounded-streamed x e = record { rest = at 0 (omega arith); at = λ k z h. at k h }
+    where
+      at : (k : ℕ) → k < 19 → Within (partsOf x k) 2097152
+      at k h =
+          subst (λ (y : ℤ). Within y 2097152) (sym (ap (λ (y : List ℤ). getD y k (pos 0)) e ∙ getD-tab 19 (streamed S c) (pos 0) k h)) (streamed-in k (omega arith))

@@ -1,0 +1,193 @@
+-- The trade of mass by cases of the neighbour's flag, its bounds, and the same as the stages' definitions over what a cell sees. Assumes nothing.
+use mathlib.Core.Path.{_≡_, refl, sym, ap, _∙_, subst}
+use mathlib.Core.Bool.{Bool, true, cond}
+use mathlib.Core.List.{List}
+use Prim.Native.Nat.{ℕ, zero, suc, _+_, _-_, _*_, _%_, _<_, _≤_}
+use native.Mathlib.Nat.{le-trans, le-of-eq, mul-le-mul-right, div-le-of-le-mul}
+use native.Mathlib.Numerals.{add-one}
+use native.Mathlib.Omega.{arith}
+use lib.IntN.{ℤ, pos, natAbs, _+ℤ_, _*ℤ_, +ℤ-assoc, +ℤ-idr}
+use lib.ListN.{length, getD}
+use borrow.Author.Tests.{eq-eqb, ne-eqb}
+use Rattle.whole.specs.Fold.{sum}
+use Rattle.whole.specs.Sums.{sum-abs}
+use Rattle.whole.specs.Bounds.{abs-add, abs-sub, abs-mul, abs-quot}
+use Rattle.whole.specs.Machine.{Within}
+use Rattle.lattice.specs.Lattice.{d3q19, pairOpp}
+use Rattle.lattice.specs.Cell.{exchange, over, under}
+use Rattle.lattice.proofs.Paired.{paired19}
+use Rattle.grid.specs.State.{Scene, byFlag, liquid, stateOf}
+use Rattle.grid.specs.Step.{flagAt, traded, tradedMass, difference, newDensity}
+use Rattle.grid.specs.Between.{uncarried, movedMass, firstMark}
+use Rattle.grid.specs.Sight.{Bodied, Around, sight, noSettings}
+use Rattle.grid.proofs.Lists.{getD-there}
+use Rattle.flow.specs.Trade.{Fills, Traders, apart, passed, markFor}
+
+-- neither fluid nor interface
+module _ {ℓ} {A : Type ℓ} where
+  pub by-neither : (f : ℕ) (x y z : A) → (f ≡ 2 → ⊥) → (f ≡ 1 → ⊥) → byFlag f x y z x ≡ x
+  by-neither zero x y z g h = refl
+  by-neither (suc zero) x y z g h = absurd (h refl)
+  by-neither (suc (suc zero)) x y z g h = absurd (g refl)
+  by-neither (suc (suc (suc n))) x y z g h = refl
+
+  -- no interface cell
+  pub by-other : (f : ℕ) (x y : A) → (f ≡ 1 → ⊥) → byFlag f x y x x ≡ x
+  by-other zero x y h = refl
+  by-other (suc zero) x y h = absurd (h refl)
+  by-other (suc (suc zero)) x y h = refl
+  by-other (suc (suc (suc n))) x y h = refl
+
+-- ---- by cases, of the flag as the code reads it
+module _ (flags : List ℕ) (parts : List ℤ) (fills : List ℕ) (c b i k : ℕ) (h : b < length flags) where
+  read : (n : ℕ) → getD flags b 0 ≡ n → getD flags b 3 ≡ n
+  read n e = getD-there flags b 3 0 h ∙ e
+
+  pub passed-fluid : getD flags b 0 ≡ 2 → apart parts c b i k ≡ passed flags parts fills c b i k
+  unfolding passed
+  passed-fluid e = rw (read 2 e) refl
+
+  pub passed-interface : getD flags b 0 ≡ 1 → exchange (getD fills c 0 + getD fills b 0) (apart parts c b i k) ≡ passed flags parts fills c b i k
+  unfolding passed
+  passed-interface e = rw (read 1 e) refl
+
+  pub passed-neither : (getD flags b 0 ≡ 2 → ⊥) → (getD flags b 0 ≡ 1 → ⊥) → pos 0 ≡ passed flags parts fills c b i k
+  unfolding passed
+  passed-neither f g =
+      sym (by-neither (getD flags b 3) (pos 0) (exchange (getD fills c 0 + getD fills b 0) (apart parts c b i k)) (apart parts c b i k)
+      (λ e. f (getD-there flags b 0 3 h ∙ e)) (λ e. g (getD-there flags b 0 3 h ∙ e)))
+
+-- ---- bounds
+
+-- a mean of two fills is at most 1
+pub exchange-within : (φ : ℕ) (d : ℤ) (k : ℕ) → φ ≤ 131072 → Within d k → Within (exchange φ d) k
+unfolding exchange
+exchange-within φ d k h w =
+    record {
+      abs = le-trans (le-of-eq (abs-quot (pos φ *ℤ d) (pos 131072)))
+          (le-trans (div-le-of-le-mul 131072 (omega (arith, abs-mul (pos φ) d, mul-le-mul-right (natAbs d) h))) (w .abs));
+    }
+
+module _ {flags : List ℕ} {parts : List ℤ} (w : Bodied flags parts) (c b i k : ℕ) (hi : i < 19) (hk : k < 19) (hc : c < length flags) (hb : b < length flags)
+    (lc : liquid (getD flags c 3) ≡ true) where
+  -- both cells are liquid
+  pub apart-within : liquid (getD flags b 3) ≡ true → Within (apart parts c b i k) 2359296
+  apart-within lb =
+      let x = w .body b hb lb .parts k (omega arith) in
+      let y = w .body c hc lc .parts i (omega arith) in
+      record { abs = omega (arith, abs-sub (getD parts (19 * b + k) (pos 0)) (getD parts (19 * c + i) (pos 0)), x .abs, y .abs) }
+
+  pub passed-within : {fills : List ℕ} → Fills flags fills → Within (passed flags parts fills c b i k) 2359296
+  unfolding passed
+  passed-within {fills} φ = go (getD flags b 3) refl
+    where
+      go : (f : ℕ) → getD flags b 3 ≡ f
+          → Within (byFlag f (pos 0) (exchange (getD fills c 0 + getD fills b 0) (apart parts c b i k)) (apart parts c b i k) (pos 0)) 2359296
+      go zero e = record { abs = omega arith }
+      go (suc zero) e =
+          exchange-within (getD fills c 0 + getD fills b 0) (apart parts c b i k) 2359296 (omega (arith, φ .low c hc, φ .low b hb)) (apart-within (ap liquid e))
+      go (suc (suc zero)) e = apart-within (ap liquid e)
+      go (suc (suc (suc n))) e = record { abs = omega arith }
+
+-- ---- over what a cell sees
+
+-- the opposite of odd i is i + 1, and back
+pub odd-opp : (i : ℕ) → i % 2 ≡ 1 → pairOpp i ≡ i + 1
+odd-opp zero e = absurd (omega arith)
+odd-opp (suc a) e = ap (λ (t : Bool). cond t (suc (suc a)) a) (eq-eqb (a % 2) 0 (omega arith)) ∙ omega arith
+
+pub even-opp : (i : ℕ) → i % 2 ≡ 1 → pairOpp (i + 1) ≡ i
+even-opp i e = ap pairOpp (add-one i) ∙ ap (λ (t : Bool). cond t (suc (suc i)) i) (ne-eqb (i % 2) 0 (λ z. omega arith))
+
+-- two more directions
+pub dirs-pair : (i : ℕ) (f : ℕ → ℤ) → 1 ≤ i → sum (i + 2 - 1) (λ a. f (suc a)) ≡ (sum (i - 1) (λ a. f (suc a)) +ℤ f i) +ℤ f (i + 1)
+unfolding sum
+dirs-pair zero f h = absurd (omega arith)
+dirs-pair (suc n) f h =
+    let e : suc n + 2 - 1 ≡ suc (suc n) = omega arith in
+    let k : suc n - 1 ≡ n = omega arith in
+    let m : suc n + 1 ≡ suc (suc n) = omega arith in
+    rw (e, k, m) refl
+
+module _ (flags : List ℕ) (parts masses : List ℤ) (fills off : List ℕ) (low c : ℕ) where
+  -- what c gains from direction i
+  unfoldable pub gain : ℕ → ℤ
+  gain i = passed flags parts fills c ((c - low) + getD off i 0) i (pairOpp i)
+
+  pub gain-is : (i : ℕ) → gain i ≡ traded (sight (uncarried flags parts masses fills) off low noSettings) c i
+  unfolding gain passed sight stateOf traded difference d3q19
+  gain-is i = refl
+
+  -- the mass with what c gains from the first n directions
+  unfoldable pub gained : ℕ → ℤ
+  gained n = getD masses c (pos 0) +ℤ sum n (λ a. gain (suc a))
+
+  pub gained-none : getD masses c (pos 0) ≡ gained 0
+  unfolding gained sum
+  gained-none = sym (+ℤ-idr (getD masses c (pos 0)))
+
+  pub gained-all : gained 18 ≡ tradedMass (sight (uncarried flags parts masses fills) off low noSettings) c
+  unfolding gained gain passed sight stateOf traded tradedMass difference d3q19
+  gained-all = refl
+
+  -- as the loop takes them, two directions a turn
+  pub first-is : (i : ℕ) → i % 2 ≡ 1 → passed flags parts fills c ((c - low) + getD off i 0) i (i + 1) ≡ gain i
+  unfolding gain
+  first-is i e = ap (λ (k : ℕ). passed flags parts fills c ((c - low) + getD off i 0) i k) (sym (odd-opp i e))
+
+  pub second-is : (i : ℕ) → i % 2 ≡ 1 → passed flags parts fills c ((c - low) + getD off (i + 1) 0) (i + 1) i ≡ gain (i + 1)
+  unfolding gain
+  second-is i e = ap (λ (k : ℕ). passed flags parts fills c ((c - low) + getD off (i + 1) 0) (i + 1) k) (sym (even-opp i e))
+
+  pub gained-pair : (i : ℕ) → 1 ≤ i → (gained (i - 1) +ℤ gain i) +ℤ gain (i + 1) ≡ gained (i + 2 - 1)
+  unfolding gained
+  gained-pair i h =
+      ap (λ (z : ℤ). z +ℤ gain (i + 1)) (+ℤ-assoc (getD masses c (pos 0)) (sum (i - 1) (λ a. gain (suc a))) (gain i))
+      ∙ +ℤ-assoc (getD masses c (pos 0)) (sum (i - 1) (λ a. gain (suc a)) +ℤ gain i) (gain (i + 1))
+      ∙ ap (λ (z : ℤ). getD masses c (pos 0) +ℤ z) (sym (dirs-pair i gain h))
+
+  -- ---- the bounds of an interface cell
+  module _ (t : Traders flags parts masses fills) (a : Around (length flags) off low c) (f : getD flags c 3 ≡ 1) where
+    pub gain-within : (i : ℕ) → 1 ≤ i → i < 19 → Within (gain i) 2359296
+    unfolding gain d3q19
+    gain-within i h k =
+        let o = paired19 .dir i (record { some = h; most = omega arith }) in
+        passed-within (t .bodies) c ((c - low) + getD off i 0) i (pairOpp i) k (omega (arith, o .most)) (a .is-cell) (a .each i k) (ap liquid f) (t .fills-good)
+
+    pub gained-within : (n : ℕ) → n ≤ 18 → Within (gained n) 44826624
+    unfolding gained
+    gained-within n h =
+        record {
+          abs = omega (
+            arith,
+            abs-add (getD masses c (pos 0)) (sum n (λ b. gain (suc b))),
+            t .masses-good .low c (a .is-cell) f .abs,
+            sum-abs n (λ b. gain (suc b)) 2359296 (λ b k. gain-within (suc b) (omega arith) (omega arith) .abs),
+          );
+        }
+
+    pub mass-within : Within (tradedMass (sight (uncarried flags parts masses fills) off low noSettings) c) 44826624
+    mass-within = subst (λ (z : ℤ). Within z 44826624) gained-all (gained-within 18 (omega arith))
+
+-- ---- after stages 1 to 4: with the density of a liquid cell, and 0 for any other, the code's mass and mark are those of the passes
+module _ (S : Scene) (c : ℕ) (ρ : ℤ) (e : ρ ≡ byFlag (flagAt S c) (pos 0) (newDensity S c) (newDensity S c) (pos 0)) where
+  pub moved-mass : byFlag (flagAt S c) ρ (tradedMass S c) ρ ρ ≡ movedMass S c
+  unfolding movedMass
+  moved-mass = ap (λ (r : ℤ). byFlag (flagAt S c) r (tradedMass S c) r r) e ∙ go (flagAt S c)
+    where
+      go : (f : ℕ) → let r = byFlag f (pos 0) (newDensity S c) (newDensity S c) (pos 0) in byFlag f r (tradedMass S c) r r ≡ byFlag f (pos 0) (tradedMass S c) (newDensity S c) (pos 0)
+      go zero = refl
+      go (suc zero) = refl
+      go (suc (suc zero)) = refl
+      go (suc (suc (suc n))) = refl
+
+  pub first-mark : markFor (flagAt S c) (movedMass S c) ρ ≡ firstMark S c
+  unfolding markFor movedMass firstMark
+  first-mark = ap (λ (r : ℤ). markFor (flagAt S c) (movedMass S c) r) e ∙ go (flagAt S c)
+    where
+      go : (f : ℕ) → markFor f (byFlag f (pos 0) (tradedMass S c) (newDensity S c) (pos 0)) (byFlag f (pos 0) (newDensity S c) (newDensity S c) (pos 0))
+          ≡ byFlag f 0 (cond (over (tradedMass S c) (newDensity S c)) 1 (cond (under (tradedMass S c) (newDensity S c)) 2 0)) 0 0
+      go zero = refl
+      go (suc zero) = refl
+      go (suc (suc zero)) = refl
+      go (suc (suc (suc n))) = refl

@@ -1,0 +1,104 @@
+-- `flow::moving::put_moved` does stages 3 and 4 of a liquid cell: it refuses as the definition does, and else pastes the collided parts. Assumes nothing.
+use mathlib.Core.Path.{_≡_, refl, sym, ap, _∙_, subst}
+use mathlib.Core.Bool.{true, false, not, false≢true}
+use mathlib.Core.List.{List}
+use Prim.Native.Nat.{ℕ, _+_, _*_, _<_, _≤_}
+use native.Mathlib.Omega.{arith}
+use lib.IntN.{ℤ, pos}
+use lib.ListN.{length, getD}
+use borrow.Author.Needs.{sfits-of}
+use mir.Syntax.{w32, w64}
+use mir.Val.{toZ, ofZ}
+use mir.Facts.{toZ-ofZ}
+use Rattle.whole.specs.Fold.{tab}
+use Rattle.lattice.specs.Lattice.{d3q19}
+use Rattle.lattice.specs.Cell.{relaxationGood}
+use borrow.Author.Tests.{not-true, not-false}
+use Rattle.lattice.specs.Body.{partsOf, Bounded, vec, Tame, steadyFlow, collidedPart}
+use Rattle.lattice.proofs.Tame.{steady-tame}
+use Rattle.flow.proofs.Collisions.{loosened, gravity-of, relaxation-of, flow-rho, flow-x, flow-y, flow-z, pulled-x, pulled-y, pulled-z, put-refused, put-accepted}
+use borrow.Author.Needs.{needs}
+use Rattle.flow.proofs.moving.put_moved.Statement.{statement}
+use Rattle.flow.proofs.moving.put_moved.Tie as tie
+
+wide-bound : (s : tie.Start) → Bounded (s .args .f) 1073741824 33554432
+wide-bound s = loosened _ _ _ _ _ (s .pre .0) (omega arith) (omega arith)
+
+flow-of-requires : tie.Need-flow-of-requires
+flow-of-requires c κs = wide-bound c
+
+pulled-requires : tie.Need-pulled-requires
+pulled-requires c κs =
+    let s = c .before in
+    let b = wide-bound s in
+    let r = c .flow-of .ensures .0 in
+    let j = c .flow-of .ensures .1 in
+    (flow-rho _ b _ r j, flow-x _ b _ r j, flow-y _ b _ r j, flow-z _ b _ r j, gravity-of _ (s .pre .1))
+
+steady-requires : tie.Need-steady-requires
+steady-requires c κs =
+    let s = c .before .before in
+    let b = wide-bound s in
+    let r = c .before .flow-of .ensures .0 in
+    let j = c .before .flow-of .ensures .1 in
+    let g = s .pre .1 in
+    (pulled-x _ b _ r j _ g _ (c .pulled .ensures), pulled-y _ b _ r j _ g _ (c .pulled .ensures), pulled-z _ b _ r j _ g _ (c .pulled .ensures))
+
+returns : tie.Need-returns
+returns c flags parts off low l e =
+    let s = c .before .before .before .before in
+    let u = c .before .before .before .flow-of .ensures in
+    put-refused flags parts off low _ _ _ e _ _ (u .0) (u .1) (c .before .before .pulled .ensures) l _ _ refl
+    (sym (c .before .steady .ensures) ∙ not-true _ (c .if1 .taken))
+
+-- the relaxation as it was passed on
+relaxation : (c : tie.After-struct-told) → toZ w64 (ofZ w64 (c .before .before .before .before .before .args .g .p)) ≡ c .before .before .before .before .before .args .g .p
+relaxation c = toZ-ofZ (record { sfits = c .struct-told .given .0 .1 })
+
+collided-requires : tie.Need-collided-requires
+collided-requires c κs =
+    let s = c .before .before .before .before .before in (
+      s .pre .0,
+      steady-tame _ (sym (c .before .before .steady .ensures) ∙ not-false _ (c .before .if1 .left)),
+      ap relaxationGood (relaxation c) ∙ relaxation-of _ (s .pre .1),
+    )
+
+mul-paste : tie.Need-mul-paste
+mul-paste c = search needs
+
+paste-requires : tie.Need-paste-requires
+paste-requires c κs = search needs
+
+fair-parts-requires : tie.Need-fair-parts-requires
+fair-parts-requires c κs = search needs
+
+same-length : tie.Need-same-length
+same-length c = search needs
+
+returns-2 : tie.Need-returns-2
+returns-2 c flags parts off low l e =
+    let k = c .before .before .before .before .before in
+    let a = k .before .before .before in
+    let s = a .before .before .before in
+    let u = a .before .before .flow-of .ensures in
+    put-accepted flags parts off low _ _ _ e _ _ (u .0) (u .1) (a .before .pulled .ensures) l (k .collided .result)
+    (subst (λ (p : ℤ). k .collided .result ≡ tab 19 (collidedPart d3q19 (a .before .pulled .result .rho) (vec (a .before .pulled .result)) p (partsOf (s .args .f)))) (relaxation (k .before)) (k .collided .ensures .0))
+    _ _ _ (s .pre .2) (c .before .before .before .paste .ensures) refl
+    (sym (a .steady .ensures) ∙ not-false _ (k .before .before .if1 .left))
+    (toZ-ofZ (record { sfits = c .struct-told2 .given .0 .1 }))
+    (c .before .fair-parts .ensures)
+
+pub put-moved-spec : {M : Type 1} → statement M
+put-moved-spec =
+    tie.close
+    (tie.spec
+    flow-of-requires
+    pulled-requires
+    steady-requires
+    returns
+    collided-requires
+    mul-paste
+    paste-requires
+    fair-parts-requires
+    same-length
+    returns-2)

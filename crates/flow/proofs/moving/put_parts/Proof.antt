@@ -1,0 +1,81 @@
+-- `flow::moving::put_parts` does stages 1 to 4 of any cell: what is not liquid gets zeros. Assumes nothing.
+use mathlib.Core.Path.{_≡_, refl, sym, ap, _∙_, subst}
+use mathlib.Core.Bool.{true, false}
+use Prim.Native.Nat.{ℕ, _+_, _*_, _<_, _≤_}
+use native.Mathlib.Omega.{arith}
+use lib.ListN.{length, getD}
+use Rattle.grid.specs.State.{liquid}
+use Rattle.grid.specs.Sight.{noSettings}
+use Rattle.grid.proofs.Lists.{getD-there}
+use Rattle.flow.proofs.Collisions.{put-dry}
+use Rattle.flow.proofs.Spans.{bounded-streamed}
+use borrow.Author.Needs.{needs}
+use Rattle.flow.proofs.moving.put_parts.Statement.{statement}
+use Rattle.flow.proofs.moving.put_parts.Tie as tie
+
+-- the flag that was read, whatever stands for a missing one
+flag : (s : tie.Start) → getD (s .args .flags .now) (s .args .c) 0 ≡ getD (s .args .flags .now) (s .args .c) 3
+flag s = getD-there (s .args .flags .now) (s .args .c) 0 3 (s .pre .is-cell)
+
+shared-slice-read-wet : tie.Need-shared-slice-read-wet
+shared-slice-read-wet c = search needs
+
+wet-requires : tie.Need-wet-requires
+wet-requires c κs = search needs
+
+kind : (c : tie.Then1) → liquid (getD (c .before .before .before .before .args .flags .now) (c .before .before .before .before .args .c) 3) ≡ true
+kind c = sym (ap liquid (flag (c .before .before .before .before))) ∙ sym (c .before .wet .ensures) ∙ c .if1 .taken
+
+-- the list has room for cell c
+room : (s : tie.Start) → 19 * s .args .c + 19 ≤ length (s .args .parts2 .now)
+room s = omega (arith, s .pre .is-cell, s .pre .size, s .pre .bodied .count)
+
+chosen-requires : tie.Need-chosen-requires
+chosen-requires c κs =
+    let p = c .before .before .before .before .pre in
+    let l = kind c in
+    (p .bodied, p .around l, l, p .mirrored, p .sources, p .marked l)
+
+put-moved-requires : tie.Need-put-moved-requires
+put-moved-requires c κs =
+    let t = c .before .before in
+    let s = t .before .before .before .before in
+    (bounded-streamed _ _ _ _ noSettings (s .pre .bodied) _ (s .pre .around (kind t)) (kind t) _ (c .before .chosen .ensures), s .pre .settings, room s)
+
+same-length : tie.Need-same-length
+same-length c = search needs
+
+returns : tie.Need-returns
+returns c =
+    let t = c .before .before .before .before in
+    c .before .put-moved .ensures _ _ _ _ (kind t) (c .before .before .before .chosen .ensures)
+
+mul-paste : tie.Need-mul-paste
+mul-paste c = search needs
+
+paste-requires : tie.Need-paste-requires
+paste-requires c κs = search needs
+
+same-length-2 : tie.Need-same-length-2
+same-length-2 c = search needs
+
+returns-2 : tie.Need-returns-2
+returns-2 c =
+    let e = c .before .before .before in
+    let s = e .before .before .before .before in
+    put-dry _ _ _ _ _ _ (sym (ap liquid (flag s)) ∙ sym (e .before .wet .ensures) ∙ e .if1 .left) _ _ (room s) (c .before .paste .ensures)
+
+pub put-parts-spec : {M : Type 1} → statement M
+put-parts-spec =
+    tie.close
+    (tie.spec
+    shared-slice-read-wet
+    wet-requires
+    chosen-requires
+    put-moved-requires
+    same-length
+    returns
+    mul-paste
+    paste-requires
+    same-length-2
+    returns-2)

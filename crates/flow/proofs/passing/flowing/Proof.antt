@@ -1,0 +1,272 @@
+-- `flow::passing::flowing`: pass 1. The invariant is Walked: the first c cells have gone through stages 1 to 4. Assumes nothing.
+use mathlib.Core.Path.{_≡_, refl, sym, ap, _∙_, subst}
+use mathlib.Core.Bool.{Bool, true, false, not, _&&_}
+use mathlib.Core.List.{List}
+use Prim.Native.Nat.{ℕ, zero, suc, _+_, _*_, _-_, _/_, _≤_, _<_}
+use native.Mathlib.Nat.{le-refl, min-le-left}
+use native.Mathlib.Omega.{arith}
+use lib.IntN.{ℤ, pos, negsuc}
+use lib.ListN.{length, getD, set, length-set}
+use borrow.Author.Needs.{needs}
+use borrow.Author.Tests.{not-true, not-false}
+use mir.Syntax.{w32}
+use mir.Facts.{toZ-ofZ}
+use Rattle.whole.specs.Fold.{tab}
+use Rattle.lattice.specs.declared.Settings.{Settings}
+use Rattle.lattice.specs.Cell.{fillOf}
+use Rattle.grid.specs.declared.Sides.{Sides}
+use Rattle.grid.specs.Grid.{cellsOf}
+use Rattle.grid.specs.State.{byFlag, liquid, stateOf}
+use Rattle.grid.specs.Step.{fillFor}
+use Rattle.grid.specs.Between.{Poised, uncarried}
+use Rattle.grid.specs.Passes.{lowOf, offsetOf}
+use Rattle.grid.specs.Sight.{Around}
+use Rattle.grid.proofs.Beside.{Offsets}
+use Rattle.grid.proofs.Lists.{getD-there}
+use Rattle.flow.specs.Flowed.{Flowable, Flowed, Went, stopped, through}
+use Rattle.flow.specs.PutAt.{PutAt, Putting}
+use Rattle.flow.specs.Sources.{Mirrored, sourceOf}
+use Rattle.flow.specs.Trade.{Traders}
+use Rattle.flow.proofs.Marking.{room}
+use Rattle.flow.proofs.Mirrored.{mirrored, around, immersed}
+use Rattle.flow.proofs.Poise.{few, liquid-inner, poised-bodied, poised-mass, poised-fill}
+use Rattle.flow.proofs.Walked.{Walked, walked-first, walked-turn, walked-stopped, walked-moved}
+use Rattle.flow.proofs.passing.flowing.Statement.{statement}
+use Rattle.flow.proofs.passing.flowing.Tie as tie
+
+abbrev Inv-loop : tie.InvT-loop
+Inv-loop flags parts mass fill parts2₀ mass2₀ marks₀ g off low from fair₀ still₀ c₀ parts2 mass2 marks fair still c =
+    (c ≤ length flags) × (length parts2 ≡ length parts2₀) × (length mass2 ≡ length mass2₀) × (length marks ≡ length marks₀)
+    × Walked flags parts mass fill off low g marks₀ parts2 mass2 marks fair still c
+
+abbrev μ-loop : tie.MeasureT-loop
+μ-loop flags parts mass fill parts2₀ mass2₀ marks₀ g off low from fair₀ still₀ c₀ parts2 mass2 marks fair still c = length flags - c
+
+-- no fill is above 65,536
+fill-most : (f : ℕ) (m ρ : ℤ) {φ : ℕ} → φ ≡ fillFor f m ρ → φ ≤ 65536
+unfolding fillFor
+fill-most f m ρ e = subst (λ (n : ℕ). n ≤ 65536) (sym e) (most f m ρ)
+  where
+    most : (f : ℕ) (m ρ : ℤ) → byFlag f 0 (fillOf m ρ) 65536 0 ≤ 65536
+    most zero m ρ = omega arith
+    most (suc zero) (pos m) (pos ρ) = min-le-left 65536 (65536 * m / ρ)
+    most (suc zero) (pos m) (negsuc ρ) = omega arith
+    most (suc zero) (negsuc m) ρ = omega arith
+    most (suc (suc zero)) m ρ = omega arith
+    most (suc (suc (suc n))) m ρ = omega arith
+
+-- a cell that did not pass is too fast
+too-fast : {ok t : Bool} → ok ≡ not t → ok ≡ false → t ≡ true
+too-fast {t = true} e f = refl
+too-fast {t = false} e f = sym f ∙ e
+
+-- ---- inside the loop: the offsets, the cell, and what a function of one cell asks
+module _ (d : tie.In-loop Inv-loop μ-loop) where
+  abbrev start : tie.Start Inv-loop μ-loop
+  start = d .before .before .before .before .before .before .before .before
+
+  abbrev cell : ℕ
+  cell = d .before .loop .c
+
+  abbrev off : List ℕ
+  off = d .before .before .before .before .offsets .result
+
+  abbrev low : ℕ
+  low = d .before .before .before .low-of .result
+
+  offs : Offsets (start .args .s) off low
+  offs = record { table = d .before .before .before .before .offsets .ensures; lowest = d .before .before .before .low-of .ensures }
+
+  poise : Poised (start .args .s) (start .args .g) (uncarried (start .args .flags .now) (start .args .parts .now) (start .args .mass .now) (start .args .fill .now))
+  poise = start .pre .poised
+
+  walked : Walked (start .args .flags .now) (start .args .parts .now) (start .args .mass .now) (start .args .fill .now) off low (start .args .g) (start .args .marks .now)
+      (d .before .loop .parts2) (d .before .loop .mass2) (d .before .loop .marks) (d .before .loop .fair) (d .before .loop .still) cell
+  walked = d .before .loop .inv .4
+
+  is-cell : cell < cellsOf (start .args .s)
+  is-cell = subst (λ (n : ℕ). cell < n) (poise .flags) (d .loop-test .taken)
+
+  small : low ≤ 262144
+  small = omega (arith, room (start .args .s) (poise .sides), few (start .args .s) (poise .sides), offs .lowest)
+
+  around-it : liquid (getD (start .args .flags .now) cell 3) ≡ true → Around (length (start .args .flags .now)) off low cell
+  unfolding stateOf
+  around-it l =
+      subst (λ (n : ℕ). Around n off low cell) (sym (poise .flags))
+      (around offs cell (liquid-inner (start .args .s) (start .args .g) _ poise cell is-cell l))
+
+  putting : Putting (start .args .flags .now) (start .args .parts .now) (d .before .loop .parts2) (getD (d .before .loop .marks) cell 0) off (d .before .before .sources .result) low cell (start .args .g)
+  unfolding stateOf
+  putting = record {
+    bodied = poised-bodied (start .args .s) (start .args .g) _ poise;
+    is-cell = d .loop-test .taken;
+    around = around-it;
+    mirrored = mirrored (start .args .s) off low (offs .table) (offs .lowest) small;
+    sources = d .before .before .sources .ensures;
+    marked = λ l e.
+        immersed offs cell (liquid-inner (start .args .s) (start .args .g) _ poise cell is-cell l) (start .args .flags .now)
+        (start .pre .marked cell is-cell l (sym (walked .marks-left cell (le-refl cell)) ∙ e));
+    settings = poise .settings;
+    size = d .before .loop .inv .1 ∙ start .pre .parts-room ∙ sym (poise .parts);
+  }
+
+  traders : Traders (start .args .flags .now) (start .args .parts .now) (start .args .mass .now) (start .args .fill .now)
+  unfolding stateOf
+  traders = record {
+    bodies = poised-bodied (start .args .s) (start .args .g) _ poise;
+    masses-good = record {
+      count = poise .masses ∙ sym (poise .flags);
+      low = λ c h f. poised-mass (start .args .s) (start .args .g) _ poise c (subst (λ (n : ℕ). c < n) (poise .flags) h) f;
+    };
+    fills-good = record {
+      count = poise .fills ∙ sym (poise .flags);
+      low = λ c h. fill-most _ _ _ (poised-fill (start .args .s) (start .args .g) _ poise c (subst (λ (n : ℕ). c < n) (poise .flags) h));
+    };
+  }
+
+offsets-requires : tie.Need-offsets-requires Inv-loop μ-loop
+offsets-requires c κs = c .before .before .before .pre .poised .sides
+
+low-of-requires : tie.Need-low-of-requires Inv-loop μ-loop
+low-of-requires c κs = c .before .before .before .before .pre .poised .sides
+
+sources-requires : tie.Need-sources-requires Inv-loop μ-loop
+sources-requires c κs =
+    let s = c .before .before .before .before .before .args .s in
+    let p = c .before .before .before .before .before .pre .poised in
+    mirrored s (c .before .offsets .result) (c .low-of .result) (c .before .offsets .ensures) (c .low-of .ensures)
+    (omega (arith, room s (p .sides), few s (p .sides), c .low-of .ensures))
+
+loop-holds : tie.Need-loop-holds Inv-loop μ-loop
+loop-holds c = (omega arith, refl, refl, refl, walked-first _ _ _ _ _ _ _ _ _ _)
+
+slice-read-put-parts : tie.Need-slice-read-put-parts Inv-loop μ-loop
+slice-read-put-parts c = let d = c .before .before in let h = is-cell d in omega (arith, d .before .loop .inv .3, d .before .before .before .before .before .before .before .before .pre .marks-room)
+
+put-parts-requires : tie.Need-put-parts-requires Inv-loop μ-loop
+put-parts-requires c κs = putting (c .before .before .before .before)
+
+same-length : tie.Need-same-length Inv-loop μ-loop
+same-length c = c .before .before .before .put-parts .ensures .kept ∙ c .before .before .before .before .before .before .before .before .before .loop .inv .1
+
+same-length-2 : tie.Need-same-length-2 Inv-loop μ-loop
+same-length-2 c = c .before .before .before .before .before .before .before .before .before .loop .inv .2
+
+same-length-3 : tie.Need-same-length-3 Inv-loop μ-loop
+same-length-3 c = c .before .before .before .before .before .before .before .before .before .loop .inv .3
+
+returns : tie.Need-returns Inv-loop μ-loop
+returns c =
+    let d = c .before .before .before .before .before .before .before .before in
+    let t = d .before .before .before .before .before .before .before .before in
+    let o = c .before .before .before .put-parts in
+    record {
+      went = stopped (is-cell d) (walked-stopped (t .args .s) (t .args .g) _ _ _ _ (poise d) (off d) (low d) (offs d) _ _ _ _ _ _ (cell d) (is-cell d) (walked d)
+          (too-fast (o .ensures .ok) (not-true _ (c .if1 .taken))));
+      parts-kept = o .ensures .kept ∙ d .before .loop .inv .1 ∙ t .pre .parts-room;
+      masses-kept = d .before .loop .inv .2 ∙ t .pre .masses-room;
+      marks-kept = d .before .loop .inv .3 ∙ t .pre .marks-room;
+    }
+
+new-mass-requires : tie.Need-new-mass-requires Inv-loop μ-loop
+new-mass-requires c κs = let d = c .before .before .before .before .before .before .before .before .before .before in (traders d, d .loop-test .taken, λ f. around-it d (ap liquid f))
+
+shared-slice-read-new-mark : tie.Need-shared-slice-read-new-mark Inv-loop μ-loop
+shared-slice-read-new-mark c = c .before .before .before .before .before .before .before .before .before .before .before .before .loop-test .taken
+
+new-mark-requires : tie.Need-new-mark-requires Inv-loop μ-loop
+new-mark-requires c κs = tt
+
+mul-m : tie.Need-mul-m Inv-loop μ-loop
+mul-m c = let h = is-cell (c .before .before .before .before .before .before .before .before .before .before .before .before .before .before) in record { fits = omega (arith, few (c .before .before .before .before .before .before .before .before .before .before .before .before .before .before .before .before .before .before .before .before .before .before .args .s) (c .before .before .before .before .before .before .before .before .before .before .before .before .before .before .before .before .before .before .before .before .before .before .pre .poised .sides)) }
+
+slice-set-from-m : tie.Need-slice-set-from-m Inv-loop μ-loop
+slice-set-from-m c = let d = c .before .before .before .before .before .before .before .before .before .before .before .before .before .before in let h = is-cell d in omega (arith, d .before .loop .inv .2, d .before .before .before .before .before .before .before .before .pre .masses-room)
+
+slice-write-marks : tie.Need-slice-write-marks Inv-loop μ-loop
+slice-write-marks c = let d = c .before .before .before .before .before .before .before .before .before .before .before .before .before .before in let h = is-cell d in omega (arith, d .before .loop .inv .3, d .before .before .before .before .before .before .before .before .pre .marks-room)
+
+add-c : tie.Need-add-c Inv-loop μ-loop
+add-c c = let h = is-cell (c .before .before .before .before .before .before .before .before .before .before .before .before .before .before .before) in record { fits = omega (arith, few (c .before .before .before .before .before .before .before .before .before .before .before .before .before .before .before .before .before .before .before .before .before .before .before .args .s) (c .before .before .before .before .before .before .before .before .before .before .before .before .before .before .before .before .before .before .before .before .before .before .before .pre .poised .sides)) }
+
+loop-less : tie.Need-loop-less Inv-loop μ-loop
+loop-less c = let h = c .before .before .before .before .before .before .before .before .before .before .before .before .before .before .before .loop-test .taken in omega arith
+
+loop-again : tie.Need-loop-again Inv-loop μ-loop
+loop-again c =
+    let d = c .before .before .before .before .before .before .before .before .before .before .before .before .before .before .before in
+    let t = d .before .before .before .before .before .before .before .before in
+    let l = d .before .loop in
+    let put = c .before .before .before .before .before .before .before .before .before .before .put-parts in
+    let gained = c .before .before .before .before .new-mass in
+    let mark = c .before .new-mark in
+    let h = is-cell d in (
+      omega arith,
+      put .ensures .kept ∙ l .inv .1,
+      simp length-set (l .inv .2),
+      simp length-set (l .inv .3),
+      walked-turn (t .args .flags .now) (t .args .parts .now) (t .args .mass .now) (t .args .fill .now) (off d) (low d) (t .args .g) (t .args .marks .now)
+          (l .parts2) (put .last .1 .1 .0) (l .mass2) (l .marks) (l .fair) (l .still) (l .c) (walked d) (put .result) (put .ensures) (not-false _ (c .before .before .before .before .before .before .before .if1 .left))
+          (gained .result) _ _ _ _ (mark .result) _ (getD-there (t .args .flags .now) (l .c) 0 3 (d .loop-test .taken))
+          (omega (arith, l .inv .1, t .pre .parts-room)) (omega (arith, l .inv .2, t .pre .masses-room)) (omega (arith, l .inv .3, t .pre .marks-room))
+          (gained .ensures) (toZ-ofZ {w = w32} (record { sfits = c .before .before .before .before .before .struct-told .given .1 .1 .0 .1 }))
+          (toZ-ofZ {w = w32} (record { sfits = gained .ok })) (mark .ensures) (toZ-ofZ {w = w32} (record { sfits = gained .ok }))
+          (toZ-ofZ {w = w32} (record { sfits = c .before .before .struct-told2 .given .1 .1 .0 .1 })),
+    )
+
+same-length-4 : tie.Need-same-length-4 Inv-loop μ-loop
+same-length-4 c = c .before .loop .inv .1
+
+same-length-5 : tie.Need-same-length-5 Inv-loop μ-loop
+same-length-5 c = c .before .loop .inv .2
+
+same-length-6 : tie.Need-same-length-6 Inv-loop μ-loop
+same-length-6 c = c .before .loop .inv .3
+
+returns-2 : tie.Need-returns-2 Inv-loop μ-loop
+returns-2 c =
+    let t = c .before .before .before .before .before .before .before .before in
+    let p = t .pre .poised in
+    let l = c .before .loop in
+    let o : Offsets (t .args .s) (c .before .before .before .before .offsets .result) (c .before .before .before .low-of .result) = record { table = c .before .before .before .before .offsets .ensures; lowest = c .before .before .before .low-of .ensures } in
+    let e : l .c ≡ cellsOf (t .args .s) = omega (arith, p .flags, l .inv .0) in
+    record {
+      went = through (walked-moved (t .args .s) (t .args .g) (t .args .flags .now) (t .args .parts .now) (t .args .mass .now) (t .args .fill .now) p
+          (c .before .before .before .before .offsets .result) (c .before .before .before .low-of .result) o (t .args .marks .now) (l .parts2) (l .mass2) (l .marks) (l .fair) (l .still)
+          (l .inv .1 ∙ t .pre .parts-room) (l .inv .2 ∙ t .pre .masses-room) (l .inv .3 ∙ t .pre .marks-room)
+          (subst (λ (n : ℕ). Walked (t .args .flags .now) (t .args .parts .now) (t .args .mass .now) (t .args .fill .now) (c .before .before .before .before .offsets .result) (c .before .before .before .low-of .result) (t .args .g) (t .args .marks .now) (l .parts2) (l .mass2) (l .marks) (l .fair) (l .still) n) e (l .inv .4)));
+      parts-kept = l .inv .1 ∙ t .pre .parts-room;
+      masses-kept = l .inv .2 ∙ t .pre .masses-room;
+      marks-kept = l .inv .3 ∙ t .pre .marks-room;
+    }
+
+pub flowing-spec : {M : Type 1} → statement M
+flowing-spec =
+    tie.close
+    (tie.spec
+    Inv-loop
+    μ-loop
+    offsets-requires
+    low-of-requires
+    sources-requires
+    loop-holds
+    slice-read-put-parts
+    put-parts-requires
+    same-length
+    same-length-2
+    same-length-3
+    returns
+    new-mass-requires
+    shared-slice-read-new-mark
+    new-mark-requires
+    mul-m
+    slice-set-from-m
+    slice-write-marks
+    add-c
+    loop-less
+    loop-again
+    same-length-4
+    same-length-5
+    same-length-6
+    returns-2)

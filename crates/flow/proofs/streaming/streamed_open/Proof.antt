@@ -1,0 +1,78 @@
+-- `flow::streaming::streamed_open` reads nineteen parts at given places: each turn stores one more. Assumes nothing.
+use mathlib.Core.Path.{_≡_, refl}
+use Prim.Native.Nat.{ℕ, _+_, _*_, _-_, _≤_, _<_}
+use native.Mathlib.Omega.{arith}
+use lib.IntN.{pos}
+use lib.ListN.{length, getD, replicate, length-set}
+use borrow.Author.Needs.{sfits-of, needs}
+use mir.Syntax.{w32}
+use mir.Facts.{toZ-ofZ}
+use Rattle.whole.specs.Tab.{Upto, upto-zero, upto-more, upto-all}
+use Rattle.flow.proofs.streaming.streamed_open.Statement.{statement}
+use Rattle.flow.proofs.streaming.streamed_open.Tie as tie
+
+abbrev Inv-loop : tie.InvT-loop
+Inv-loop parts from a f₀ i₀ f i = (i ≤ 19) × (length f ≡ 19) × Upto (pos 0) (λ j. getD parts (a + getD from j 0) (pos 0)) f i
+
+abbrev μ-loop : tie.MeasureT-loop
+μ-loop parts from a f₀ i₀ f i = 19 - i
+
+loop-holds : tie.Need-loop-holds Inv-loop μ-loop
+loop-holds c = (omega arith, refl, upto-zero (pos 0) _ (replicate 19 (pos 0)))
+
+mul-f : tie.Need-mul-f Inv-loop μ-loop
+mul-f c = search needs
+
+element-copy-out-f : tie.Need-element-copy-out-f Inv-loop μ-loop
+element-copy-out-f c = search needs
+
+add-f : tie.Need-add-f Inv-loop μ-loop
+add-f c = omega (arith, c .before .before .before .pre (c .before .before .loop .i) (c .before .loop-test .taken))
+
+mul-f-2 : tie.Need-mul-f-2 Inv-loop μ-loop
+mul-f-2 c = omega (arith, c .before .before .before .pre (c .before .before .loop .i) (c .before .loop-test .taken))
+
+shared-slice-copy-out-f : tie.Need-shared-slice-copy-out-f Inv-loop μ-loop
+shared-slice-copy-out-f c = omega (arith, c .before .before .before .pre (c .before .before .loop .i) (c .before .loop-test .taken))
+
+mul-f-3 : tie.Need-mul-f-3 Inv-loop μ-loop
+mul-f-3 c = search needs
+
+array-set-from-f : tie.Need-array-set-from-f Inv-loop μ-loop
+array-set-from-f c = search needs
+
+add-i : tie.Need-add-i Inv-loop μ-loop
+add-i c = search needs
+
+loop-less : tie.Need-loop-less Inv-loop μ-loop
+loop-less c = search needs
+
+loop-again : tie.Need-loop-again Inv-loop μ-loop
+loop-again c =
+    let l = c .before .before .before in
+    let h : l .loop .i < length (l .loop .f) = omega (arith, l .loop .inv .1, c .before .before .loop-test .taken) in
+    (omega arith, simp length-set (l .loop .inv .1), upto-more (pos 0) (λ j. getD (l .before .args .parts .now) (l .before .args .a + getD (l .before .args .from .now) j 0) (pos 0)) (l .loop .f) (l .loop .i) _ h (l .loop .inv .2) (toZ-ofZ (sfits-of {w = w32} (c .f2 .given))))
+
+returns : tie.Need-returns Inv-loop μ-loop
+returns c =
+    let e : c .before .loop .i ≡ 19 = omega arith in
+    upto-all (pos 0) _ _ 19 (c .before .loop .inv .1) (rw e at (c .before .loop .inv .2))
+
+pub streamed-open-spec : {M : Type 1} → statement M
+streamed-open-spec =
+    tie.close
+    (tie.spec
+    Inv-loop
+    μ-loop
+    loop-holds
+    mul-f
+    element-copy-out-f
+    add-f
+    mul-f-2
+    shared-slice-copy-out-f
+    mul-f-3
+    array-set-from-f
+    add-i
+    loop-less
+    loop-again
+    returns)

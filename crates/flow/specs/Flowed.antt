@@ -1,0 +1,39 @@
+-- Pass 1 over all cells: what it asks, and what it leaves. Assumes nothing.
+use mathlib.Core.Path.{_≡_}
+use mathlib.Core.Bool.{Bool, true}
+use mathlib.Core.List.{List}
+use Prim.Native.Nat.{ℕ, _*_, _<_}
+use lib.IntN.{ℤ}
+use lib.ListN.{length, getD}
+use Rattle.whole.specs.Fold.{first}
+use Rattle.whole.specs.Search.{Dir}
+use Rattle.lattice.specs.declared.Settings.{Settings}
+use Rattle.grid.specs.declared.Sides.{Sides}
+use Rattle.grid.specs.Grid.{cellsOf, gridOf}
+use Rattle.grid.specs.State.{Scene, liquid}
+use Rattle.grid.specs.Step.{tooFast}
+use Rattle.grid.specs.Outcome.{sceneOf}
+use Rattle.grid.specs.Between.{Poised, uncarried}
+use Rattle.grid.specs.Halfway.{Moved}
+use Rattle.flow.specs.declared.passing.Passed.{Passed}
+use Rattle.flow.specs.declared.passing.Passed.the-variants.{Stopped, Through}
+
+-- a set that is poised, room of the right lengths, and pass 0's marks: where a liquid cell is marked, all its neighbours are liquid
+pub record Flowable (s : Sides) (g : Settings) (flags : List ℕ) (parts masses : List ℤ) (fills : List ℕ) (parts2 masses2 : List ℤ) (marks : List ℕ) : Type 0 where
+  pub poised : Poised s g (uncarried flags parts masses fills)
+  pub parts-room : length parts2 ≡ 19 * cellsOf s
+  pub masses-room : length masses2 ≡ cellsOf s
+  pub marks-room : length marks ≡ cellsOf s
+  pub marked : (c : ℕ) → c < cellsOf s → liquid (getD flags c 3) ≡ true → getD marks c 0 ≡ 1
+      → (i : ℕ) → Dir 18 i → liquid (getD flags (gridOf s .near c i) 3) ≡ true
+
+-- the lowest cell that is too fast, or all of stages 1 to 4; the lengths are kept in either case
+pub data Went (S : Scene) (n : ℕ) : Passed → List ℤ → List ℤ → List ℕ → Type 0 where
+  stopped : {c : ℕ} {parts masses : List ℤ} {marks : List ℕ} → c < n → first n (tooFast S) ≡ c → Went S n (Stopped c) parts masses marks
+  through : {fair still : Bool} {parts masses : List ℤ} {marks : List ℕ} → Moved S n parts masses marks fair still → Went S n (Through fair still) parts masses marks
+
+pub record Flowed (s : Sides) (g : Settings) (flags : List ℕ) (parts masses : List ℤ) (fills : List ℕ) (r : Passed) (parts2 masses2 : List ℤ) (marks : List ℕ) : Type 0 where
+  pub went : Went (sceneOf s g (uncarried flags parts masses fills)) (cellsOf s) r parts2 masses2 marks
+  pub parts-kept : length parts2 ≡ 19 * cellsOf s
+  pub masses-kept : length masses2 ≡ cellsOf s
+  pub marks-kept : length marks ≡ cellsOf s

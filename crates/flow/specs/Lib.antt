@@ -1,0 +1,4 @@
+pub mod Trade
+pub mod Sources
+pub mod PutAt
+pub mod Flowed

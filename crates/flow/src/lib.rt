@@ -1,0 +1,6 @@
+// Layer 2, stages 1 to 4 of a step: streaming, exchange, gravity with its test, collision. Knows the promises of grid.
+pub mod marks;
+pub mod moving;
+pub mod passing;
+pub mod streaming;
+pub mod trading;

@@ -1,0 +1,58 @@
+// The passes that write marks: where every part streams straight in, and which cells are emptied after all.
+use grid::Sides;
+use grid::neighbours;
+ghost use mathlib.Core.Path.{_≡_};
+ghost use mathlib.Core.Bool.{true, cond};
+ghost use lib.ListN.{length};
+ghost use Rattle.whole.specs.Fold.{tab};
+ghost use Rattle.grid.specs.Grid.{sidesGood, cellsOf};
+ghost use Rattle.grid.specs.Passes.{openMark, openedMark, keptMark, Emptying};
+
+fn open_mark(f: u8, walled: bool) -> u8
+    ensures { λ r. ⌜ r ≡ openMark f walled ⌝ }
+{
+    if (f == 2) & !walled {
+        return 1;
+    }
+    0
+}
+
+// Pass 0: marks 1 at fluid cells with no wall beside them.
+pub fn mark_open(flags: &[u8], marks: &mut [u8], s: Sides)
+    requires { ⌜ (sidesGood s ≡ true) × (length (now flags) ≡ cellsOf s) × (length (now marks) ≡ cellsOf s) ⌝ }
+    ensures { λ r. ⌜ now (marks .exit) ≡ tab (cellsOf s) (openedMark s (now (flags .entry)) (now (marks .entry))) ⌝ }
+{
+    let off = neighbours::offsets(s);
+    let low = neighbours::low_of(s);
+    let end = flags.len() - low;
+    let mut c = low;
+    while c < end {
+        marks[c] = open_mark(flags[c], neighbours::beside(flags, &off, c - low, 3));
+        c += 1;
+    }
+}
+
+fn kept(filled: bool) -> u8
+    ensures { λ r. ⌜ r ≡ cond filled 0 2 ⌝ }
+{
+    if filled {
+        return 0;
+    }
+    2
+}
+
+// Pass 2: a cell to be emptied beside a filled one is let off.
+pub fn settle_marks(marks: &mut [u8], s: Sides)
+    requires { ⌜ Emptying s (now marks) ⌝ }
+    ensures { λ r. ⌜ now (marks .exit) ≡ tab (cellsOf s) (keptMark s (now (marks .entry))) ⌝ }
+{
+    let off = neighbours::offsets(s);
+    let low = neighbours::low_of(s);
+    let mut c = 0;
+    while c < marks.len() {
+        if marks[c] == 2 {
+            marks[c] = kept(neighbours::beside(marks, &off, c - low, 1));
+        }
+        c += 1;
+    }
+}

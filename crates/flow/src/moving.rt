@@ -1,0 +1,83 @@
+// Stages 1 to 4 of one cell, written where they belong.
+use crate::streaming::chosen;
+use grid::cells::paste;
+use lattice::Settings;
+use lattice::collide::collided;
+use lattice::gravity::pulled;
+use lattice::moments::flow_of;
+use lattice::moments::steady;
+use lattice::rules::fair_parts;
+ghost use mathlib.Core.Path.{_≡_};
+ghost use mathlib.Core.Bool.{true};
+ghost use mathlib.Core.List.{List};
+ghost use Prim.Native.Nat.{ℕ, _+_, _*_, _≤_};
+ghost use lib.IntN.{ℤ};
+ghost use lib.ListN.{length, getD};
+ghost use Rattle.whole.specs.Fold.{tab};
+ghost use Rattle.lattice.specs.Body.{Bounded};
+ghost use Rattle.grid.specs.State.{liquid};
+ghost use Rattle.grid.specs.Step.{streamed};
+ghost use Rattle.grid.specs.Outcome.{settingsGood};
+ghost use Rattle.grid.specs.Sight.{flowing, noSettings, sight};
+ghost use Rattle.flow.specs.PutAt.{PutAt, Putting};
+
+// Whether a cell passed stage 3's test; if so, whether its new parts keep test 6's rules, and its density.
+pub struct Put {
+    pub ok: bool,
+    pub fair: bool,
+    pub rho: i32,
+}
+
+fn wet(f: u8) -> bool
+    ensures { λ r. ⌜ r ≡ liquid f ⌝ }
+{
+    (f == 1) | (f == 2)
+}
+
+// Stages 3 and 4 of a liquid cell c into which f streamed.
+fn put_moved(f: [i32; 19], parts2: &mut [i32], c: usize, g: Settings) -> Put
+    requires { ⌜ Bounded f 2097152 2097152 × (settingsGood g ≡ true) × (19 * c + 19 ≤ length (now parts2)) ⌝ }
+    ensures { λ r. ⌜ ((flags : List ℕ) (parts : List ℤ) (off : List ℕ) (low : ℕ) → liquid (getD flags c 3) ≡ true → f ≡ tab 19 (streamed (sight (flowing flags parts) off low noSettings) c) → PutAt (sight (flowing flags parts) off low g) c (now (parts2 .entry)) (now (parts2 .exit)) r) ⌝ }
+{
+    let v = pulled(flow_of(f), g);
+    if !steady(v) {
+        return Put {
+            ok: false,
+            fair: false,
+            rho: 0,
+        };
+    }
+    let r = collided(f, v, g.p);
+    paste(parts2, 19 * c, r);
+    Put {
+        ok: true,
+        fair: fair_parts(r),
+        rho: v.rho,
+    }
+}
+
+// Stages 1 to 4 of cell c: zeros where it is not liquid.
+pub(crate) fn put_parts(
+    flags: &[u8],
+    parts: &[i32],
+    parts2: &mut [i32],
+    mark: u8,
+    off: &[usize; 19],
+    from: &[usize; 19],
+    low: usize,
+    c: usize,
+    g: Settings,
+) -> Put
+    requires { ⌜ Putting (now flags) (now parts) (now parts2) mark (now off) (now from) low c g ⌝ }
+    ensures { λ r. ⌜ PutAt (sight (flowing (now (flags .entry)) (now (parts .entry))) (now (off .entry)) low g) c (now (parts2 .entry)) (now (parts2 .exit)) r ⌝ }
+{
+    if wet(flags[c]) {
+        return put_moved(chosen(flags, parts, mark, off, from, low, c), parts2, c, g);
+    }
+    paste(parts2, 19 * c, [0i32; 19]);
+    Put {
+        ok: true,
+        fair: true,
+        rho: 0,
+    }
+}

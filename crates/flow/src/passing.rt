@@ -1,0 +1,50 @@
+// Pass 1: stages 1 to 4 of every cell, and the marks that stage 5 makes of it.
+use crate::moving;
+use crate::streaming;
+use crate::trading;
+use grid::Sides;
+use grid::neighbours;
+use lattice::Settings;
+ghost use Rattle.flow.specs.Flowed.{Flowable, Flowed};
+
+// The cell that refusal 7 names; or whether every new part keeps test 6's rules, and whether nothing converts.
+pub enum Passed {
+    Stopped(usize),
+    Through(bool, bool),
+}
+
+pub fn flowing(
+    flags: &[u8],
+    parts: &[i32],
+    mass: &[i32],
+    fill: &[u32],
+    parts2: &mut [i32],
+    mass2: &mut [i32],
+    marks: &mut [u8],
+    s: Sides,
+    g: Settings,
+) -> Passed
+    requires { ⌜ Flowable s g (now flags) (now parts) (now mass) (now fill) (now parts2) (now mass2) (now marks) ⌝ }
+    ensures { λ r. ⌜ Flowed s g (now (flags .entry)) (now (parts .entry)) (now (mass .entry)) (now (fill .entry)) r (now (parts2 .exit)) (now (mass2 .exit)) (now (marks .exit)) ⌝ }
+{
+    let off = neighbours::offsets(s);
+    let low = neighbours::low_of(s);
+    let from = streaming::sources(off, low);
+    let mut fair = true;
+    let mut still = true;
+    let mut c = 0;
+    while c < flags.len() {
+        let o = moving::put_parts(flags, parts, parts2, marks[c], &off, &from, low, c, g);
+        if !o.ok {
+            return Passed::Stopped(c);
+        }
+        let m = trading::new_mass(flags, parts, mass, fill, &off, low, c, o.rho);
+        let k = trading::new_mark(flags[c], m, o.rho);
+        mass2[c] = m;
+        marks[c] = k;
+        fair = fair & o.fair;
+        still = still & (k == 0);
+        c += 1;
+    }
+    Passed::Through(fair, still)
+}

@@ -1,0 +1,109 @@
+// Stage 1: the parts that stream into a cell.
+use grid::cells::own;
+use lattice::Flow;
+use lattice::directions::dots;
+use lattice::directions::weight_of;
+use lattice::moments::flow_of;
+use lattice::stream::rebuilt;
+use whole::wide;
+ghost use mathlib.Core.Path.{_≡_};
+ghost use mathlib.Core.Bool.{true};
+ghost use mathlib.Core.List.{List};
+ghost use Prim.Native.Nat.{ℕ, _+_, _-_, _<_};
+ghost use lib.IntN.{pos};
+ghost use lib.ListN.{length, getD};
+ghost use Rattle.whole.specs.Fold.{tab};
+ghost use Rattle.grid.specs.State.{liquid};
+ghost use Rattle.grid.specs.Step.{arrives, streamed};
+ghost use Rattle.grid.specs.Sight.{flowing, noSettings, sight, Bodied, Around};
+ghost use Rattle.flow.specs.Sources.{Mirrored, sourceOf, Immersed, Beside};
+
+// Where part i that streams straight into a cell lies, counted from the first part of the cell c - low.
+pub(crate) fn sources(off: [usize; 19], low: usize) -> [usize; 19]
+    requires { ⌜ Mirrored off low ⌝ }
+    ensures { λ r. ⌜ r ≡ tab 19 (sourceOf off) ⌝ }
+{
+    let mut f = [0; 19];
+    let mut i = 0;
+    while i < 19 {
+        f[i] = 19 * (low + low - off[i]) + i;
+        i += 1;
+    }
+    f
+}
+
+// The parts that stream into a cell with liquid all around, a being the first part of the cell c - low.
+fn streamed_open(parts: &[i32], from: &[usize; 19], a: usize) -> [i32; 19]
+    requires { ⌜ ((i : ℕ) → i < 19 → a + getD (now from) i 0 < length (now parts)) ⌝ }
+    ensures { λ r. ⌜ r ≡ tab 19 (λ (i : ℕ). getD (now (parts .entry)) (a + getD (now (from .entry)) i 0) (pos 0)) ⌝ }
+{
+    let mut f = [0i32; 19];
+    let mut i = 0;
+    while i < 19 {
+        f[i] = parts[a + from[i]];
+        i += 1;
+    }
+    f
+}
+
+// What arrives at cell c from its neighbour b in direction i, whose opposite is k; v is the cell's flow and d its e·j.
+fn arriving(
+    flags: &[u8],
+    parts: &[i32],
+    c: usize,
+    b: usize,
+    i: usize,
+    k: usize,
+    v: Flow,
+    d: i32,
+) -> i32
+    requires { ⌜ Beside (now flags) (now parts) c b i k v d ⌝ }
+    ensures { λ r. ⌜ ((off : List ℕ) (low : ℕ) → b ≡ (c - low) + getD off i 0 → r ≡ arrives (sight (flowing (now (flags .entry)) (now (parts .entry))) off low noSettings) c i k) ⌝ }
+{
+    let f = flags[b];
+    if f > 2 {
+        return parts[19 * c + i];
+    }
+    if f == 0 {
+        return (rebuilt(v, weight_of(i), d) - wide(parts[19 * c + i])) as i32;
+    }
+    parts[19 * b + k]
+}
+
+// The parts that stream into a liquid cell. By pairs, so that the loop unrolls whole.
+pub fn streamed(flags: &[u8], parts: &[i32], off: &[usize; 19], low: usize, c: usize) -> [i32; 19]
+    requires { ⌜ Bodied (now flags) (now parts) × Around (length (now flags)) (now off) low c × (liquid (getD (now flags) c 3) ≡ true) ⌝ }
+    ensures { λ r. ⌜ r ≡ tab 19 (streamed (sight (flowing (now (flags .entry)) (now (parts .entry))) (now (off .entry)) low noSettings) c) ⌝ }
+{
+    let k = c - low;
+    let v = flow_of(own(parts, c));
+    let d = dots(v);
+    let mut f = [0i32; 19];
+    f[0] = parts[19 * c];
+    let mut i = 1;
+    while i < 19 {
+        f[i + 1] = arriving(flags, parts, c, k + off[i], i, i + 1, v, d[i]);
+        f[i] = arriving(flags, parts, c, k + off[i + 1], i + 1, i, v, d[i + 1]);
+        i += 2;
+    }
+    f
+}
+
+// The same, the short way where the mark of pass 0 says that the cell has liquid all around.
+pub(crate) fn chosen(
+    flags: &[u8],
+    parts: &[i32],
+    mark: u8,
+    off: &[usize; 19],
+    from: &[usize; 19],
+    low: usize,
+    c: usize,
+) -> [i32; 19]
+    requires { ⌜ Bodied (now flags) (now parts) × Around (length (now flags)) (now off) low c × (liquid (getD (now flags) c 3) ≡ true) × Mirrored (now off) low × (now from ≡ tab 19 (sourceOf (now off))) × (mark ≡ 1 → Immersed (now flags) (now off) low c) ⌝ }
+    ensures { λ r. ⌜ r ≡ tab 19 (streamed (sight (flowing (now (flags .entry)) (now (parts .entry))) (now (off .entry)) low noSettings) c) ⌝ }
+{
+    if mark == 1 {
+        return streamed_open(parts, from, 19 * (c - low));
+    }
+    streamed(flags, parts, off, low, c)
+}

@@ -1,0 +1,94 @@
+// Stage 2: what an interface cell gains from its neighbours, and the mark that stage 5 makes of it.
+use whole::wide;
+ghost use mathlib.Core.Path.{_≡_};
+ghost use Prim.Native.Nat.{_+_, _<_};
+ghost use lib.IntN.{pos, _-ℤ_};
+ghost use lib.ListN.{length, getD};
+ghost use Rattle.grid.specs.State.{byFlag};
+ghost use Rattle.grid.specs.Sight.{Bodied, Around, sight, noSettings};
+ghost use Rattle.grid.specs.Step.{tradedMass};
+ghost use Rattle.grid.specs.Between.{uncarried};
+ghost use Rattle.flow.specs.Trade.{Fills, Traders, passed, markFor};
+
+fn difference(a: i32, b: i32) -> i64
+    ensures { λ r. ⌜ r ≡ a -ℤ b ⌝ }
+{
+    wide(a) - wide(b)
+}
+
+// Two fills together.
+fn both(a: u32, b: u32) -> i64
+    ensures { λ r. ⌜ r ≡ pos (a + b) ⌝ }
+{
+    a as i64 + b as i64
+}
+
+// What cell c gains from cell b in direction i, whose opposite is k.
+fn traded(flags: &[u8], parts: &[i32], fill: &[u32], c: usize, b: usize, i: usize, k: usize) -> i64
+    requires { ⌜ Bodied (now flags) (now parts) × Fills (now flags) (now fill) × (c < length (now flags)) × (b < length (now flags)) × (i < 19) × (k < 19) ⌝ }
+    ensures { λ r. ⌜ r ≡ passed (now (flags .entry)) (now (parts .entry)) (now (fill .entry)) c b i k ⌝ }
+{
+    let f = flags[b];
+    let d = difference(parts[19 * b + k], parts[19 * c + i]);
+    if f == 2 {
+        return d;
+    }
+    if f == 1 {
+        return lattice::exchange::exchange(both(fill[c], fill[b]), d);
+    }
+    0
+}
+
+// The mass of interface cell c with what it gains from its neighbours.
+fn traded_mass(
+    flags: &[u8],
+    parts: &[i32],
+    mass: &[i32],
+    fill: &[u32],
+    off: &[usize; 19],
+    low: usize,
+    c: usize,
+) -> i64
+    requires { ⌜ Traders (now flags) (now parts) (now mass) (now fill) × Around (length (now flags)) (now off) low c × (getD (now flags) c 3 ≡ 1) ⌝ }
+    ensures { λ r. ⌜ r ≡ tradedMass (sight (uncarried (now (flags .entry)) (now (parts .entry)) (now (mass .entry)) (now (fill .entry))) (now (off .entry)) low noSettings) c ⌝ }
+{
+    let k = c - low;
+    let mut m = wide(mass[c]);
+    let mut i = 1;
+    while i < 19 {
+        m += traded(flags, parts, fill, c, k + off[i], i, i + 1);
+        m += traded(flags, parts, fill, c, k + off[i + 1], i + 1, i);
+        i += 2;
+    }
+    m
+}
+
+// The mass after stage 2: an interface cell's is traded, any other's is its density, which is 0 where there is no liquid.
+pub(crate) fn new_mass(
+    flags: &[u8],
+    parts: &[i32],
+    mass: &[i32],
+    fill: &[u32],
+    off: &[usize; 19],
+    low: usize,
+    c: usize,
+    rho: i32,
+) -> i32
+    requires { ⌜ Traders (now flags) (now parts) (now mass) (now fill) × (c < length (now flags)) × (getD (now flags) c 3 ≡ 1 → Around (length (now flags)) (now off) low c) ⌝ }
+    ensures { λ r. ⌜ r ≡ byFlag (getD (now (flags .entry)) c 3) rho (tradedMass (sight (uncarried (now (flags .entry)) (now (parts .entry)) (now (mass .entry)) (now (fill .entry))) (now (off .entry)) low noSettings) c) rho rho ⌝ }
+{
+    if flags[c] == 1 {
+        return traded_mass(flags, parts, mass, fill, off, low, c) as i32;
+    }
+    rho
+}
+
+// The mark that stage 5 gives a cell of flag f: 1 filled, 2 to be emptied, else 0.
+pub(crate) fn new_mark(f: u8, m: i32, rho: i32) -> u8
+    ensures { λ r. ⌜ r ≡ markFor f m rho ⌝ }
+{
+    if f == 1 {
+        return lattice::convert::mark_of(wide(m), wide(rho));
+    }
+    0
+}

@@ -1,0 +1,5 @@
+pub mod Returned
+pub mod Spans
+pub mod Told
+pub mod Depths
+pub mod Unique

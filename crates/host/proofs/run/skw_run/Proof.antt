@@ -1,0 +1,75 @@
+-- `host::run::skw_run`: the run's own promise, its answer told as number and place. Assumes nothing.
+use borrow.Author.Needs.{needs}
+use Rattle.host.proofs.Returned.{settings-back}
+use Rattle.host.proofs.Told.{run-told}
+use Rattle.host.proofs.run.skw_run.Statement.{statement}
+use Rattle.host.proofs.run.skw_run.Tie as tie
+
+run-requires : tie.Need-run-requires
+run-requires c κs = search needs
+
+number-of-requires : tie.Need-number-of-requires
+number-of-requires c κs = search needs
+
+place-of-requires : tie.Need-place-of-requires
+place-of-requires c κs = search needs
+
+same-length : tie.Need-same-length
+same-length c = search needs
+
+same-length-2 : tie.Need-same-length-2
+same-length-2 c = search needs
+
+same-length-3 : tie.Need-same-length-3
+same-length-3 c = search needs
+
+same-length-4 : tie.Need-same-length-4
+same-length-4 c = search needs
+
+same-length-5 : tie.Need-same-length-5
+same-length-5 c = search needs
+
+same-length-6 : tie.Need-same-length-6
+same-length-6 c = search needs
+
+same-length-7 : tie.Need-same-length-7
+same-length-7 c = search needs
+
+same-length-8 : tie.Need-same-length-8
+same-length-8 c = search needs
+
+same-length-9 : tie.Need-same-length-9
+same-length-9 c = search needs
+
+same-length-10 : tie.Need-same-length-10
+same-length-10 c = search needs
+
+same-length-11 : tie.Need-same-length-11
+same-length-11 c = search needs
+
+returns : tie.Need-returns
+returns c =
+    let d = c .before .before .before .before .before .before .before .before .before .before .before .before .before .before .before .before .before .before in
+    let a = d .before .before .before .before .before .before .before .before .before .before .before .before .before .before .before .before .before .args in
+    let f = d .before .before .before .before .before .before .before .before .before .before .before .before .before .before .before .before .before .fits in
+    run-told (settings-back (a .p) (a .gx) (a .gy) (a .gz) (f .p) (f .gx) (f .gy) (f .gz)) (d .run .ensures) (c .before .number-of .ensures) (c .place-of .ensures)
+
+pub skw-run-spec : {M : Type 1} → statement M
+skw-run-spec =
+    tie.close
+    (tie.spec
+    run-requires
+    number-of-requires
+    place-of-requires
+    same-length
+    same-length-2
+    same-length-3
+    same-length-4
+    same-length-5
+    same-length-6
+    same-length-7
+    same-length-8
+    same-length-9
+    same-length-10
+    same-length-11
+    returns)

@@ -1,0 +1,102 @@
+-- What each exported call promises, for every input: number and place of the layer's outcome, the values, and every lent slice. Assumes nothing.
+use mathlib.Core.Path.{_≡_}
+use mathlib.Core.List.{List}
+use Prim.Native.Nat.{ℕ, _+_, _-_}
+use lib.IntN.{ℤ}
+use lib.Ieee.{Float}
+use lib.ListN.{length, take, drop}
+use Rattle.lattice.specs.declared.Settings.{Settings}
+use Rattle.grid.specs.declared.Sides.{Sides}
+use Rattle.grid.specs.State.{Lent}
+use Rattle.grid.specs.Outcome.{numberOf, placeOf, checkAnswer, stepAnswer, stepSecond, stepMarks, runCount, runAnswer, runFirst, runSecond, runMarks}
+use Rattle.record.specs.declared.Site.{Site}
+use Rattle.record.specs.Reading.{readHead, readSet, flagsFrom, readFlags}
+use Rattle.record.specs.Writing.{written, writtenRoom}
+use Rattle.tunnel.specs.declared.Point.{Point}
+use Rattle.tunnel.specs.Place as placing
+use Rattle.tunnel.specs.Place.{refusalNumber, refusalPlace, cellNumber}
+use Rattle.tunnel.specs.Exact.{Exactly}
+use Rattle.tunnel.specs.Point.{WholePoint}
+use Rattle.tunnel.specs.Depth.{Reading}
+use Rattle.host.specs.Kinds.{readingNumber, readingPlace, readingKind, readingSum}
+
+-- ---- what the layers take, from the numbers that a call is given
+
+abbrev pub sidesOf : ℕ → ℕ → ℕ → Sides
+sidesOf nx ny nz = record { nx = nx; ny = ny; nz = nz }
+
+abbrev pub settingsOf : ℤ → ℤ → ℤ → ℤ → Settings
+settingsOf p gx gy gz = record { p = p; gx = gx; gy = gy; gz = gz }
+
+abbrev pub siteOf : ℤ → ℤ → ℤ → ℤ → Site
+siteOf edge x y z = record { edge = edge; x = x; y = y; z = z }
+
+abbrev pub millimetres : ℤ → ℤ → ℤ → Point
+millimetres x y z = record { x = x; y = y; z = z }
+
+-- ---- the eight calls
+
+-- the check: number and place, 0 0 if accepted
+pub record CheckTold (s : Sides) (a : Lent) (number place : ℕ) : Type 0 where
+  pub number-is : number ≡ numberOf (checkAnswer s a)
+  pub place-is : place ≡ placeOf (checkAnswer s a)
+
+-- the step: number, place, its second set and the marks
+pub record StepTold (s : Sides) (g : Settings) (a b : Lent) (marks : List ℕ) (number place : ℕ) (second : Lent) (after : List ℕ) : Type 0 where
+  pub number-is : number ≡ numberOf (stepAnswer s g a b marks)
+  pub place-is : place ≡ placeOf (stepAnswer s g a b marks)
+  pub second-is : second ≡ stepSecond s g a b marks
+  pub marks-are : after ≡ stepMarks s g a b marks
+
+-- the run: its count, number and place of the refusal that stopped it, both sets and the marks
+pub record RunTold (steps : ℕ) (s : Sides) (g : Settings) (a b : Lent) (marks : List ℕ) (count number place : ℕ) (first second : Lent) (after : List ℕ) : Type 0 where
+  pub count-is : count ≡ runCount steps s g a b marks
+  pub number-is : number ≡ numberOf (runAnswer steps s g a b marks)
+  pub place-is : place ≡ placeOf (runAnswer steps s g a b marks)
+  pub first-is : first ≡ runFirst steps s g a b marks
+  pub second-is : second ≡ runSecond steps s g a b marks
+  pub marks-are : after ≡ runMarks steps s g a b marks
+
+-- the reader: number, place, sides, settings, edge and origin, where the flag section stands in the caller's bytes, and the four slices
+pub record ReadTold (r : List ℕ) (a : Lent) (number place : ℕ) (s : Sides) (g : Settings) (t : Site) (from to : ℕ) (parts masses : List ℤ) (fills : List ℕ) (carry : List ℤ) : Type 0 where
+  pub number-is : number ≡ numberOf (readHead r a .answer)
+  pub place-is : place ≡ placeOf (readHead r a .answer)
+  pub sides-are : s ≡ readHead r a .sides
+  pub settings-are : g ≡ readHead r a .settings
+  pub site-is : t ≡ readHead r a .site
+  pub from-is : from ≡ flagsFrom r a
+  pub to-is : to ≡ flagsFrom r a + length (readFlags r a)
+  pub flags-are : take (to - from) (drop from r) ≡ readFlags r a
+  pub parts-are : parts ≡ readSet r a .parts
+  pub masses-are : masses ≡ readSet r a .masses
+  pub fills-are : fills ≡ readSet r a .fills
+  pub carry-is : carry ≡ readSet r a .carry
+
+-- the writer: number, place, the record's length, and the room
+pub record WriteTold (s : Sides) (g : Settings) (t : Site) (a : Lent) (room : List ℕ) (number place bytes : ℕ) (after : List ℕ) : Type 0 where
+  pub number-is : number ≡ numberOf (written s g t a room .answer)
+  pub place-is : place ≡ placeOf (written s g t a room .answer)
+  pub bytes-are : bytes ≡ written s g t a room .bytes
+  pub room-is : after ≡ writtenRoom s g t a room
+
+-- placing: number, place and the cell, 0 beside a refusal
+pub record PlaceTold (s : Sides) (edge : ℤ) (origin point : Point) (number place cell : ℕ) : Type 0 where
+  pub number-is : number ≡ refusalNumber (placing.placeOf s edge origin point)
+  pub place-is : place ≡ refusalPlace (placing.placeOf s edge origin point)
+  pub cell-is : cell ≡ cellNumber (placing.placeOf s edge origin point)
+
+-- cell point: number, place, and four `f32`, each exact
+pub record PointTold (w : WholePoint) (number place : ℕ) (x y z fill : Float) : Type 0 where
+  pub number-is : number ≡ w .number
+  pub place-is : place ≡ w .place
+  pub x-is : Exactly x (w .x) 2
+  pub y-is : Exactly y (w .y) 2
+  pub z-is : Exactly z (w .z) 2
+  pub fill-is : Exactly fill (w .fill) 65536
+
+-- depth: number, place, kind, and an `f32`, exact, 0 unless deep
+pub record DepthTold (w : Reading) (number place kind : ℕ) (depth : Float) : Type 0 where
+  pub number-is : number ≡ readingNumber w
+  pub place-is : place ≡ readingPlace w
+  pub kind-is : kind ≡ readingKind w
+  pub depth-is : Exactly depth (readingSum w) 65536

@@ -1,0 +1,11 @@
+// The C interface: check, step, run, reader, writer, placing, cell point and depth, over numbers and slices alone. A slice passes as
+// pointer, then length; a result as the refusal's number, 0 if accepted, with place and values through the numbers lent for them.
+mod answers;
+pub mod check;
+pub mod depth;
+pub mod place;
+pub mod point;
+pub mod read;
+pub mod run;
+pub mod step;
+pub mod write;

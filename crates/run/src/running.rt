@@ -1,0 +1,285 @@
+// The run: step after step between the two lent sets, first to second and back, until one is refused or all are made.
+use grid::Answer;
+use grid::Sides;
+use grid::copying;
+use lattice::Settings;
+use step::entry;
+use step::sets;
+use step::stepping;
+ghost use mathlib.Core.Path.{_≡_};
+ghost use Rattle.grid.specs.Outcome.{runEntry};
+ghost use Rattle.grid.specs.Promise.{RanTo};
+ghost use Rattle.grid.specs.Halfway.{Alike, Stepping};
+ghost use Rattle.run.specs.Turns.{lent, here, there, Crossed, Evened, Went};
+
+// How far a run came: the number of leading accepted steps, and the refusal that stopped it.
+pub struct Ran {
+    pub count: usize,
+    pub answer: Answer,
+}
+
+// One step from the set that holds the state to the other one.
+fn turn(
+    flags: &mut [u8],
+    parts: &mut [i32],
+    mass: &mut [i32],
+    fill: &mut [u32],
+    carry: &mut [i64],
+    flags2: &mut [u8],
+    parts2: &mut [i32],
+    mass2: &mut [i32],
+    fill2: &mut [u32],
+    carry2: &mut [i64],
+    marks: &mut [u8],
+    back: bool,
+    s: Sides,
+    g: Settings,
+) -> Answer
+    requires { ⌜ Stepping s g (here back (lent (now flags) (now parts) (now mass) (now fill) (now carry)) (lent (now flags2) (now parts2) (now mass2) (now fill2) (now carry2))) (there back (lent (now flags) (now parts) (now mass) (now fill) (now carry)) (lent (now flags2) (now parts2) (now mass2) (now fill2) (now carry2))) (now marks) ⌝ }
+    ensures { λ r. ⌜ Crossed s g back (lent (now (flags .entry)) (now (parts .entry)) (now (mass .entry)) (now (fill .entry)) (now (carry .entry))) (lent (now (flags2 .entry)) (now (parts2 .entry)) (now (mass2 .entry)) (now (fill2 .entry)) (now (carry2 .entry))) r (lent (now (flags .exit)) (now (parts .exit)) (now (mass .exit)) (now (fill .exit)) (now (carry .exit))) (lent (now (flags2 .exit)) (now (parts2 .exit)) (now (mass2 .exit)) (now (fill2 .exit)) (now (carry2 .exit))) (now (marks .exit)) ⌝ }
+{
+    if back {
+        return stepping::stepped(
+            flags2,
+            parts2,
+            mass2,
+            fill2,
+            carry2,
+            flags,
+            parts,
+            mass,
+            fill,
+            carry,
+            marks,
+            s,
+            g,
+        );
+    }
+    stepping::stepped(
+        flags,
+        parts,
+        mass,
+        fill,
+        carry,
+        flags2,
+        parts2,
+        mass2,
+        fill2,
+        carry2,
+        marks,
+        s,
+        g,
+    )
+}
+
+// Both sets become the one that holds the state.
+fn evened(
+    flags: &mut [u8],
+    parts: &mut [i32],
+    mass: &mut [i32],
+    fill: &mut [u32],
+    carry: &mut [i64],
+    flags2: &mut [u8],
+    parts2: &mut [i32],
+    mass2: &mut [i32],
+    fill2: &mut [u32],
+    carry2: &mut [i64],
+    back: bool,
+)
+    requires { ⌜ Alike (here back (lent (now flags) (now parts) (now mass) (now fill) (now carry)) (lent (now flags2) (now parts2) (now mass2) (now fill2) (now carry2))) (there back (lent (now flags) (now parts) (now mass) (now fill) (now carry)) (lent (now flags2) (now parts2) (now mass2) (now fill2) (now carry2))) ⌝ }
+    ensures { λ r. ⌜ Evened back (lent (now (flags .entry)) (now (parts .entry)) (now (mass .entry)) (now (fill .entry)) (now (carry .entry))) (lent (now (flags2 .entry)) (now (parts2 .entry)) (now (mass2 .entry)) (now (fill2 .entry)) (now (carry2 .entry))) (lent (now (flags .exit)) (now (parts .exit)) (now (mass .exit)) (now (fill .exit)) (now (carry .exit))) (lent (now (flags2 .exit)) (now (parts2 .exit)) (now (mass2 .exit)) (now (fill2 .exit)) (now (carry2 .exit))) ⌝ }
+{
+    if back {
+        sets::copied(
+            flags2,
+            parts2,
+            mass2,
+            fill2,
+            carry2,
+            flags,
+            parts,
+            mass,
+            fill,
+            carry,
+        );
+    } else {
+        sets::copied(
+            flags,
+            parts,
+            mass,
+            fill,
+            carry,
+            flags2,
+            parts2,
+            mass2,
+            fill2,
+            carry2,
+        );
+    }
+}
+
+// The run of a set that is ready: no test is made again, since what an accepted step leaves is ready.
+fn going(
+    steps: usize,
+    flags: &mut [u8],
+    parts: &mut [i32],
+    mass: &mut [i32],
+    fill: &mut [u32],
+    carry: &mut [i64],
+    flags2: &mut [u8],
+    parts2: &mut [i32],
+    mass2: &mut [i32],
+    fill2: &mut [u32],
+    carry2: &mut [i64],
+    marks: &mut [u8],
+    s: Sides,
+    g: Settings,
+) -> Ran
+    requires { ⌜ Stepping s g (lent (now flags) (now parts) (now mass) (now fill) (now carry)) (lent (now flags2) (now parts2) (now mass2) (now fill2) (now carry2)) (now marks) ⌝ }
+    ensures { λ r. ⌜ Went steps s g (lent (now (flags .entry)) (now (parts .entry)) (now (mass .entry)) (now (fill .entry)) (now (carry .entry))) (now (marks .entry)) (r .count) (r .answer) (lent (now (flags .exit)) (now (parts .exit)) (now (mass .exit)) (now (fill .exit)) (now (carry .exit))) (lent (now (flags2 .exit)) (now (parts2 .exit)) (now (mass2 .exit)) (now (fill2 .exit)) (now (carry2 .exit))) (now (marks .exit)) ⌝ }
+{
+    let mut back = false;
+    let mut k = 0;
+    while k < steps {
+        let a = turn(
+            flags,
+            parts,
+            mass,
+            fill,
+            carry,
+            flags2,
+            parts2,
+            mass2,
+            fill2,
+            carry2,
+            marks,
+            back,
+            s,
+            g,
+        );
+        if let Answer::Refused(no, at) = a {
+            return Ran {
+                count: k,
+                answer: Answer::Refused(no, at),
+            };
+        }
+        back = !back;
+        k += 1;
+    }
+    evened(
+        flags,
+        parts,
+        mass,
+        fill,
+        carry,
+        flags2,
+        parts2,
+        mass2,
+        fill2,
+        carry2,
+        back,
+    );
+    copying::clear(marks);
+    Ran {
+        count: k,
+        answer: Answer::Done,
+    }
+}
+
+// The number of steps, and then tests 1 to 6: what refuses a run before its first step.
+fn admitted(
+    steps: usize,
+    flags: &[u8],
+    parts: &[i32],
+    mass: &[i32],
+    fill: &[u32],
+    carry: &[i64],
+    flags2: &[u8],
+    parts2: &[i32],
+    mass2: &[i32],
+    fill2: &[u32],
+    carry2: &[i64],
+    marks: &[u8],
+    s: Sides,
+    g: Settings,
+) -> Answer
+    ensures { λ r. ⌜ r ≡ runEntry steps s g (lent (now (flags .entry)) (now (parts .entry)) (now (mass .entry)) (now (fill .entry)) (now (carry .entry))) (lent (now (flags2 .entry)) (now (parts2 .entry)) (now (mass2 .entry)) (now (fill2 .entry)) (now (carry2 .entry))) (now (marks .entry)) ⌝ }
+{
+    if steps > 1000 {
+        return Answer::Refused(9, 0);
+    }
+    entry::entered(
+        flags,
+        parts,
+        mass,
+        fill,
+        carry,
+        flags2,
+        parts2,
+        mass2,
+        fill2,
+        carry2,
+        marks,
+        s,
+        g,
+    )
+}
+
+// At most `steps` steps, 0 to 1,000, from the first set; both sets then hold the state reached, but where the run is not admitted.
+pub fn run(
+    steps: usize,
+    flags: &mut [u8],
+    parts: &mut [i32],
+    mass: &mut [i32],
+    fill: &mut [u32],
+    carry: &mut [i64],
+    flags2: &mut [u8],
+    parts2: &mut [i32],
+    mass2: &mut [i32],
+    fill2: &mut [u32],
+    carry2: &mut [i64],
+    marks: &mut [u8],
+    s: Sides,
+    g: Settings,
+) -> Ran
+    ensures { λ r. ⌜ RanTo steps s g (lent (now (flags .entry)) (now (parts .entry)) (now (mass .entry)) (now (fill .entry)) (now (carry .entry))) (lent (now (flags2 .entry)) (now (parts2 .entry)) (now (mass2 .entry)) (now (fill2 .entry)) (now (carry2 .entry))) (now (marks .entry)) (r .count) (r .answer) (lent (now (flags .exit)) (now (parts .exit)) (now (mass .exit)) (now (fill .exit)) (now (carry .exit))) (lent (now (flags2 .exit)) (now (parts2 .exit)) (now (mass2 .exit)) (now (fill2 .exit)) (now (carry2 .exit))) (now (marks .exit)) ⌝ }
+{
+    let a = admitted(
+        steps,
+        flags,
+        parts,
+        mass,
+        fill,
+        carry,
+        flags2,
+        parts2,
+        mass2,
+        fill2,
+        carry2,
+        marks,
+        s,
+        g,
+    );
+    if let Answer::Refused(no, at) = a {
+        return Ran {
+            count: 0,
+            answer: Answer::Refused(no, at),
+        };
+    }
+    going(
+        steps,
+        flags,
+        parts,
+        mass,
+        fill,
+        carry,
+        flags2,
+        parts2,
+        mass2,
+        fill2,
+        carry2,
+        marks,
+        s,
+        g,
+    )
+}

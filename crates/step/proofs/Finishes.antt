@@ -1,0 +1,355 @@
+-- From what each pass of a step leaves to what the next one asks, and from the last one to the outcome's definition. Assumes nothing.
+use mathlib.Core.Path.{_≡_, refl, sym, ap, _∙_, subst}
+use mathlib.Core.Bool.{Bool, true, false, _&&_, cond, false≢true}
+use mathlib.Core.List.{List}
+use Prim.Native.Nat.{ℕ, zero, suc, _*_, _/_, _%_, _≤_, _<_}
+use lib.IntN.{ℤ}
+use lib.ListN.{length, getD, replicate, length-replicate}
+use Rattle.whole.specs.Bools.{and-left, and-right}
+use Rattle.whole.specs.Fold.{tab, first}
+use Rattle.whole.specs.Tab.{length-tab}
+use Rattle.lattice.specs.Lattice.{d3q19}
+use Rattle.lattice.specs.Cell.{dense, massGood}
+use Rattle.lattice.specs.declared.Settings.{Settings}
+use Rattle.grid.specs.declared.Sides.{Sides}
+use Rattle.grid.specs.declared.Answer.{Answer}
+use Rattle.grid.specs.declared.Answer.the-variants.{Done, Refused}
+use Rattle.grid.specs.Grid.{cellsOf, gridOf, box}
+use Rattle.grid.specs.State.{Lent, Scene, liquid, stateOf, lentOf}
+use Rattle.grid.specs.Step.{flagAt, flagAfter, newDensity, tooFast, collided, filled, emptied, besideFilled, besideEmptied, newFlag, newPart, newMass, newFill, next}
+use Rattle.grid.specs.Good.{bodyGood, badRule}
+use Rattle.grid.specs.Outcome.{accepted, ifNone, goodAnswer, moveAnswer, sceneOf, nextOf}
+use Rattle.grid.specs.Between.{Sized, Ready, Poised, uncarried, movedPart, movedMass, firstMark}
+use Rattle.grid.specs.Halfway.{Alike, Moved, Turning, Turned, Stepping, Advanced}
+use Rattle.grid.specs.Passes.{Flagged, openedMark}
+use Rattle.grid.proofs.Accepted.{none-found, skip}
+use Rattle.grid.proofs.Accurate.{stays}
+use Rattle.grid.proofs.Checks.{stop}
+use Rattle.grid.proofs.Fair.{Fair, fair-holds}
+use Rattle.grid.proofs.Listed.{same-listed, lengths-listed}
+use Rattle.grid.proofs.Prepared.{sized}
+use Rattle.grid.proofs.Same.{body-same, bad-rule-same}
+use Rattle.flow.specs.declared.passing.Passed.{Passed}
+use Rattle.flow.specs.declared.passing.Passed.the-variants.{Stopped, Through}
+use Rattle.flow.specs.Flowed.{Flowable, Went, stopped, through, Flowed}
+use Rattle.flow.proofs.Poise.{poised}
+use Rattle.turn.specs.Filled.{Fillable, Refilled}
+use Rattle.turn.proofs.Amounts.{new-dense}
+use Rattle.turn.proofs.Converts.{ready-poised}
+use Rattle.step.specs.Finished.{Finishing, Finished, Tried}
+use Rattle.step.proofs.Opened.{open-near}
+use Rattle.step.proofs.Refills.{fillable, fills-next, masses-fair}
+use Rattle.step.proofs.Uncarried.{fast-is, collided-is, moved-part-is, moved-mass-is, first-mark-is}
+
+-- what is interface and was not liquid was empty
+newborn-cases : (f : ℕ) (bf fi em be : Bool) → liquid f ≡ false → liquid (flagAfter f bf fi em be) ≡ true → (f ≡ 0) × (flagAfter f bf fi em be ≡ 1)
+newborn-cases zero true fi em be d l = (refl, refl)
+newborn-cases zero false fi em be d l = absurd (false≢true l)
+newborn-cases (suc zero) bf fi em be d l = absurd (false≢true (sym d))
+newborn-cases (suc (suc zero)) bf fi em be d l = absurd (false≢true (sym d))
+newborn-cases (suc (suc (suc n))) bf fi em be d l = absurd (false≢true l)
+
+-- what pass 1 answered
+abbrev is-stopped : Passed → Bool
+is-stopped (Stopped c) = true
+is-stopped (Through u v) = false
+
+abbrev stopped-at : Passed → ℕ
+stopped-at (Stopped c) = c
+stopped-at (Through u v) = 0
+
+abbrev was-fair : Passed → Bool
+was-fair (Stopped c) = false
+was-fair (Through u v) = u
+
+abbrev was-still : Passed → Bool
+was-still (Stopped c) = false
+was-still (Through u v) = v
+
+-- ---- two sets of the right lengths are alike
+pub alike-sized : {n : ℕ} {a b : Lent} → Sized n a → Sized n b → Alike a b
+alike-sized x y = record {
+  flags = y .flags ∙ sym (x .flags);
+  parts = y .parts ∙ sym (x .parts);
+  masses = y .masses ∙ sym (x .masses);
+  fills = y .fills ∙ sym (x .fills);
+  carry = y .carry ∙ sym (x .carry);
+}
+
+pub next-sized : (s : Sides) (g : Settings) (a : Lent) → Sized (cellsOf s) (nextOf s g a)
+unfolding nextOf
+next-sized s g a = sized (cellsOf s) (nextOf s g a) (lengths-listed (cellsOf s) (next (sceneOf s g a)))
+
+module _ (s : Sides) (g : Settings) (a : Lent) where
+  abbrev S : Scene
+  S = sceneOf s g a
+
+  -- the same with no carry, as pass 1 has it
+  abbrev U : Scene
+  U = sceneOf s g (uncarried (a .flags) (a .parts) (a .masses) (a .fills))
+
+  fast-carried : tooFast U ≡ tooFast S
+  unfolding sceneOf stateOf
+  fast-carried = fast-is (S .lat) (S .grid) (S .old .flag) (S .old .part) (S .old .mass) (S .old .fill) (S .g) (S .relax) (U .old .carry) (S .old .carry)
+
+  collided-carried : collided U ≡ collided S
+  unfolding sceneOf stateOf
+  collided-carried = collided-is (S .lat) (S .grid) (S .old .flag) (S .old .part) (S .old .mass) (S .old .fill) (S .g) (S .relax) (U .old .carry) (S .old .carry)
+
+  part-carried : movedPart U ≡ movedPart S
+  unfolding sceneOf stateOf
+  part-carried = moved-part-is (S .lat) (S .grid) (S .old .flag) (S .old .part) (S .old .mass) (S .old .fill) (S .g) (S .relax) (U .old .carry) (S .old .carry)
+
+  mass-carried : movedMass U ≡ movedMass S
+  unfolding sceneOf stateOf
+  mass-carried = moved-mass-is (S .lat) (S .grid) (S .old .flag) (S .old .part) (S .old .mass) (S .old .fill) (S .g) (S .relax) (U .old .carry) (S .old .carry)
+
+  mark-carried : firstMark U ≡ firstMark S
+  unfolding sceneOf stateOf
+  mark-carried = first-mark-is (S .lat) (S .grid) (S .old .flag) (S .old .part) (S .old .mass) (S .old .fill) (S .g) (S .relax) (U .old .carry) (S .old .carry)
+
+  -- ---- pass 1
+  pub moved-carried : {parts masses : List ℤ} {marks : List ℕ} {fair still : Bool} → Moved U (cellsOf s) parts masses marks fair still → Moved S (cellsOf s) parts masses marks fair still
+  unfolding sceneOf stateOf
+  moved-carried m = record {
+    steady = subst (λ (f : ℕ → Bool). cellsOf s ≤ first (cellsOf s) f) fast-carried (m .steady);
+    parts-are = m .parts-are ∙ ap (λ (f : ℕ → ℕ → ℤ). tab (19 * cellsOf s) (λ m. f (m / 19) (m % 19))) part-carried;
+    masses-are = m .masses-are ∙ ap (tab (cellsOf s)) mass-carried;
+    marks-are = m .marks-are ∙ ap (tab (cellsOf s)) mark-carried;
+    fair-tells = λ e c h l. sym (ap (λ (f : ℕ → ℕ → ℤ). bodyGood d3q19 (f c)) collided-carried) ∙ m .fair-tells e c h l;
+    still-tells = λ e c h. sym (ap (λ (f : ℕ → ℕ). f c) mark-carried) ∙ m .still-tells e c h;
+  }
+
+  -- a cell that is too fast: refusal 7 there
+  pub stopped-answer : {c : ℕ} → c < cellsOf s → first (cellsOf s) (tooFast U) ≡ c → Refused 7 c ≡ moveAnswer S
+  unfolding moveAnswer sceneOf gridOf box cellsOf
+  stopped-answer {c} h e =
+      let f : first (cellsOf s) (tooFast S) ≡ c = sym (ap (first (cellsOf s)) fast-carried) ∙ e in
+      sym (stop (cellsOf s) 7 (first (cellsOf s) (tooFast S)) (ifNone (suc (cellsOf s)) 8 (badRule d3q19 (cellsOf s) (next S)) Done) (subst (λ (n : ℕ). n < cellsOf s) (sym f) h) ∙ ap (Refused 7) f)
+
+  module _ (r : Ready s g a) where
+    flagged : Flagged s (a .flags)
+    unfolding goodAnswer gridOf box cellsOf stateOf
+    flagged = record { sides = r .sides; count = r .sized .flags; tested = none-found (gridOf s .cells) 4 _ _ (r .good) .0 }
+
+    -- after pass 0
+    pub flowable : (before : List ℕ) {parts2 masses2 : List ℤ} {marks : List ℕ} → length parts2 ≡ 19 * cellsOf s → length masses2 ≡ cellsOf s → length marks ≡ cellsOf s
+        → marks ≡ tab (cellsOf s) (openedMark s (a .flags) before) → Flowable s g (a .flags) (a .parts) (a .masses) (a .fills) parts2 masses2 marks
+    unfolding stateOf
+    flowable before p m k e = record {
+      poised = poised s g a r;
+      parts-room = p;
+      masses-room = m;
+      marks-room = k;
+      marked = λ c h l o. open-near flagged (poised s g a r .closed) before c h l (sym (ap (λ (x : List ℕ). getD x c 0) e) ∙ o);
+    }
+
+    module _ (t : cellsOf s ≤ first (cellsOf s) (tooFast S)) {flags2 : List ℕ} {parts2 masses2 carry2 : List ℤ} {marks : List ℕ} {turned : Bool}
+        (w : Turned S (cellsOf s) flags2 parts2 masses2 carry2 marks turned) where
+      poise : Poised s g a
+      poise = ready-poised s g a r
+
+      dense-now : (c : ℕ) → c < cellsOf s → liquid (flagAt S c) ≡ true → dense (newDensity S c) ≡ true
+      unfolding sceneOf
+      dense-now c h l = new-dense s g a poise t c h l
+
+      -- after the conversion
+      pub fills-asked : Fillable flags2 parts2 masses2
+      fills-asked = fillable s g (a .flags) (a .parts) (a .masses) (a .fills) (a .carry) poise t flags2 parts2 masses2 (w .flags-are) (w .parts-are) (w .masses-are)
+
+      -- after the fills: the next state
+      module _ {fills2 : List ℕ} {weighed : Bool} (f : Refilled flags2 parts2 masses2 fills2 weighed) where
+        fills-are : fills2 ≡ tab (cellsOf s) (newFill S)
+        fills-are = fills-next s g (a .flags) (a .parts) (a .masses) (a .fills) (a .carry) poise t flags2 parts2 masses2 (w .flags-are) (w .parts-are) (w .masses-are) f
+
+        abbrev second : Lent
+        second = record { flags = flags2; parts = parts2; masses = masses2; fills = fills2; carry = carry2 }
+
+        pub second-next : second ≡ nextOf s g a
+        unfolding nextOf lentOf next
+        second-next i = record { flags = w .flags-are i; parts = w .parts-are i; masses = w .masses-are i; fills = fills-are i; carry = w .carry-is i }
+
+        mass-fair : weighed ≡ true → (c : ℕ) → c < cellsOf s → newFlag S c ≡ 1 → massGood (newMass S c) ≡ true
+        mass-fair = masses-fair s g (a .flags) (a .parts) (a .masses) (a .fills) (a .carry) poise t flags2 parts2 masses2 (w .flags-are) (w .parts-are) (w .masses-are) f
+
+        -- ---- test 8 where all was found fair
+        module _ (body : (c : ℕ) → c < cellsOf s → liquid (flagAt S c) ≡ true → bodyGood d3q19 (collided S c) ≡ true) (et : turned ≡ true) (ew : weighed ≡ true) where
+          bodies : (c : ℕ) → c < cellsOf s → liquid (newFlag S c) ≡ true → bodyGood d3q19 (newPart S c) ≡ true
+          unfolding newFlag
+          bodies c h l = go (liquid (flagAt S c)) refl
+            where
+              go : (b : Bool) → liquid (flagAt S c) ≡ b → bodyGood d3q19 (newPart S c) ≡ true
+              go true o = body-same d3q19 (newPart S c) (collided S c) (λ k m. stays S c k (dense-now c h o) o l) ∙ body c h o
+              go false d =
+                  let n = newborn-cases (flagAt S c) (besideFilled S c) (filled S c) (emptied S c) (besideEmptied S c) d l in
+                  w .newborn et c h (n .0) (n .1)
+
+          fair : Fair S
+          unfolding sceneOf gridOf box cellsOf
+          fair = record { bodies = bodies; masses = mass-fair ew; carry = w .carry-fair et }
+
+          pub fair-answer : Done ≡ moveAnswer S
+          unfolding moveAnswer sceneOf gridOf box cellsOf
+          fair-answer =
+              sym (skip (cellsOf s) 7 (first (cellsOf s) (tooFast S)) (ifNone (suc (cellsOf s)) 8 (badRule d3q19 (cellsOf s) (next S)) Done) t
+              ∙ skip (suc (cellsOf s)) 8 (badRule d3q19 (cellsOf s) (next S)) Done (fair-holds S dense-now fair))
+
+        -- ---- test 8 by the scan
+        bad-next : badRule d3q19 (cellsOf s) (stateOf 18 second) ≡ badRule d3q19 (cellsOf s) (next S)
+        unfolding nextOf d3q19
+        bad-next =
+            ap (λ (x : Lent). badRule d3q19 (cellsOf s) (stateOf 18 x)) second-next
+            ∙ sym (bad-rule-same d3q19 (cellsOf s) (next S) (stateOf 18 (nextOf s g a)) (same-listed 18 (cellsOf s) (next S)))
+
+        pub judged-answer : {n : ℕ} {answer : Answer} → n ≡ cellsOf s → answer ≡ ifNone (suc n) 8 (badRule d3q19 n (stateOf 18 second)) Done → answer ≡ moveAnswer S
+        unfolding moveAnswer sceneOf gridOf box cellsOf
+        judged-answer {n} e k =
+            k ∙ ap (λ (m : ℕ). ifNone (suc m) 8 (badRule d3q19 m (stateOf 18 second)) Done) e
+            ∙ ap (λ (d : ℕ). ifNone (suc (cellsOf s)) 8 d Done) bad-next
+            ∙ sym (skip (cellsOf s) 7 (first (cellsOf s) (tooFast S)) (ifNone (suc (cellsOf s)) 8 (badRule d3q19 (cellsOf s) (next S)) Done) t)
+
+-- ---- the functions' contracts, one from the other
+
+pub next-lengths : (s : Sides) (g : Settings) (a : Lent) {b : Lent} → b ≡ nextOf s g a → Sized (cellsOf s) b
+next-lengths s g a e = subst (λ (x : Lent). Sized (cellsOf s) x) (sym e) (next-sized s g a)
+
+pub like-sized : {n : ℕ} {a b : Lent} → Sized n a → Alike a b → Sized n b
+like-sized x y = record {
+  flags = y .flags ∙ x .flags;
+  parts = y .parts ∙ x .parts;
+  masses = y .masses ∙ x .masses;
+  fills = y .fills ∙ x .fills;
+  carry = y .carry ∙ x .carry;
+}
+
+pub cleared : (n : ℕ) {marks : List ℕ} → marks ≡ replicate n 0 → length marks ≡ n
+cleared n e = ap length e ∙ length-replicate n 0
+
+went-stopped : {S : Scene} {n : ℕ} {o : Passed} {parts masses : List ℤ} {marks : List ℕ} (c : ℕ) → o ≡ Stopped c → Went S n o parts masses marks → (c < n) × (first n (tooFast S) ≡ c)
+went-stopped {S} {n} c e (stopped {c = d} h f) = let k : d ≡ c = ap stopped-at e in (subst (λ (m : ℕ). m < n) k h, f ∙ k)
+went-stopped c e (through m) = absurd (false≢true (ap is-stopped e))
+
+went-through : {S : Scene} {n : ℕ} {o : Passed} {parts masses : List ℤ} {marks : List ℕ} (u v : Bool) → o ≡ Through u v → Went S n o parts masses marks → Moved S n parts masses marks u v
+went-through u v e (stopped h f) = absurd (false≢true (sym (ap is-stopped e)))
+went-through {S} {n} {o} {parts} {masses} {marks} u v e (through {fair = x} {still = y} m) =
+    subst (λ (z : Bool). Moved S n parts masses marks z v) (ap was-fair e) (subst (λ (z : Bool). Moved S n parts masses marks x z) (ap was-still e) m)
+
+module _ {s : Sides} {g : Settings} {a : Lent} where
+  pub finishing-lengths : {b : Lent} {marks : List ℕ} {fair still : Bool} → Finishing s g a b marks fair still → Sized (cellsOf s) b
+  finishing-lengths f = record {
+    flags = f .flags-room;
+    parts = ap length (f .moved .parts-are) ∙ length-tab (19 * cellsOf s) (λ m. movedPart (sceneOf s g a) (m / 19) (m % 19));
+    masses = ap length (f .moved .masses-are) ∙ length-tab (cellsOf s) (movedMass (sceneOf s g a));
+    fills = f .fills-room;
+    carry = f .carry-room;
+  }
+
+  pub finishing-marks : {b : Lent} {marks : List ℕ} {fair still : Bool} → Finishing s g a b marks fair still → length marks ≡ cellsOf s
+  finishing-marks f = ap length (f .moved .marks-are) ∙ length-tab (cellsOf s) (firstMark (sceneOf s g a))
+
+  pub advanced-lengths : {answer : Answer} {second : Lent} {after : List ℕ} → Ready s g a → Advanced s g a answer second after → Sized (cellsOf s) second
+  advanced-lengths r d = go (accepted (moveAnswer (sceneOf s g a))) (d .second-is)
+    where
+      go : (b : Bool) {x : Lent} → x ≡ cond b (nextOf s g a) a → Sized (cellsOf s) x
+      go true e = next-lengths s g a e
+      go false e = subst (λ (y : Lent). Sized (cellsOf s) y) (sym e) (r .sized)
+
+  -- finished
+  pub turning : {b : Lent} {marks : List ℕ} {fair still : Bool} → Finishing s g a b marks fair still → Turning s g a (b .flags) (b .parts) (b .masses) (b .carry) marks still
+  turning f = record {
+    ready = f .ready;
+    moved = record {
+      steady = f .moved .steady;
+      parts-are = f .moved .parts-are;
+      masses-are = f .moved .masses-are;
+      marks-are = f .moved .marks-are;
+      fair-tells = λ e. absurd (false≢true e);
+      still-tells = f .moved .still-tells;
+    };
+    flags-room = f .flags-room;
+    carry-room = f .carry-room;
+  }
+
+  module _ {b : Lent} {before : List ℕ} {fair still : Bool} (f : Finishing s g a b before fair still) {flags2 : List ℕ} {parts2 masses2 carry2 : List ℤ} {marks : List ℕ} {turned : Bool}
+      (w : Turned (sceneOf s g a) (cellsOf s) flags2 parts2 masses2 carry2 marks turned) where
+    flags-count : length flags2 ≡ cellsOf s
+    flags-count = ap length (w .flags-are) ∙ length-tab (cellsOf s) (newFlag (sceneOf s g a))
+
+    pub filling : Fillable flags2 parts2 masses2 × (length (b .fills) ≡ length flags2)
+    filling = (fills-asked s g a (f .ready) (f .moved .steady) w, f .fills-room ∙ sym flags-count)
+
+    module _ {fills2 : List ℕ} {weighed : Bool} (r : Refilled flags2 parts2 masses2 fills2 weighed) where
+      abbrev set : Lent
+      set = record { flags = flags2; parts = parts2; masses = masses2; fills = fills2; carry = carry2 }
+
+      pub set-next : set ≡ nextOf s g a
+      set-next = second-next s g a (f .ready) (f .moved .steady) w r
+
+      pub set-lengths : Sized (length flags2) set
+      set-lengths = subst (λ (n : ℕ). Sized n set) (sym flags-count) (next-lengths s g a set-next)
+
+      pub finished-fair : (fair && turned && weighed) ≡ true → Finished s g a Done set marks
+      finished-fair e =
+          let u = and-left (fair && turned) weighed e in
+          record {
+            answer-is = fair-answer s g a (f .ready) (f .moved .steady) w r (f .moved .fair-tells (and-left fair turned u)) (and-right fair turned u) (and-right (fair && turned) weighed e);
+            second-is = set-next;
+            marks-are = w .marks-are;
+          }
+
+      pub finished-judged : {answer : Answer} → answer ≡ ifNone (suc (length flags2)) 8 (badRule d3q19 (length flags2) (stateOf 18 set)) Done → Finished s g a answer set marks
+      finished-judged e = record { answer-is = judged-answer s g a (f .ready) (f .moved .steady) w r flags-count e; second-is = set-next; marks-are = w .marks-are }
+
+  -- advanced
+  module _ {b : Lent} {marks : List ℕ} (f : Stepping s g a b marks) where
+    second-sized : Sized (cellsOf s) b
+    second-sized = like-sized (f .ready .sized) (f .alike)
+
+    module _ {o : Passed} {parts2 masses2 : List ℤ} {marks2 : List ℕ} (w : Flowed s g (a .flags) (a .parts) (a .masses) (a .fills) o parts2 masses2 marks2) where
+      abbrev flowed : Lent
+      flowed = record { flags = b .flags; parts = parts2; masses = masses2; fills = b .fills; carry = b .carry }
+
+      pub stopped-tried : (c : ℕ) → o ≡ Stopped c → Tried s g a (Refused 7 c) flowed marks2
+      stopped-tried c e =
+          let h = went-stopped c e (w .went) in
+          record {
+            answer-is = stopped-answer s g a (h .0) (h .1);
+            alike = alike-sized (f .ready .sized) (record { flags = second-sized .flags; parts = w .parts-kept; masses = w .masses-kept; fills = second-sized .fills; carry = second-sized .carry });
+            marks-kept = w .marks-kept;
+            second-is = λ k. absurd (false≢true (ap accepted k));
+            marks-are = λ k. absurd (false≢true (ap accepted k));
+          }
+
+      pub finishing : (fair still : Bool) → o ≡ Through fair still → Finishing s g a flowed marks2 fair still
+      finishing fair still e = record {
+        ready = f .ready;
+        moved = moved-carried s g a (went-through fair still e (w .went));
+        flags-room = second-sized .flags;
+        fills-room = second-sized .fills;
+        carry-room = second-sized .carry;
+      }
+
+  pub tried-finished : {answer : Answer} {second : Lent} {after : List ℕ} → Ready s g a → Finished s g a answer second after → Tried s g a answer second after
+  tried-finished r f = record {
+    answer-is = f .answer-is;
+    alike = alike-sized (r .sized) (next-lengths s g a (f .second-is));
+    marks-kept = cleared (cellsOf s) (f .marks-are);
+    second-is = λ e. f .second-is;
+    marks-are = λ e. f .marks-are;
+  }
+
+  -- stepped
+  pub refused-advanced : {n p : ℕ} {answer : Answer} {between second : Lent} {after marks : List ℕ} → answer ≡ Refused n p → Tried s g a answer between after → second ≡ a
+      → marks ≡ replicate (length after) 0 → Advanced s g a (Refused n p) second marks
+  refused-advanced e t k m = record {
+    answer-is = sym e ∙ t .answer-is;
+    second-is = k ∙ ap (λ (x : Answer). cond (accepted x) (nextOf s g a) a) (sym e ∙ t .answer-is);
+    marks-are = m ∙ ap (λ (n : ℕ). replicate n 0) (t .marks-kept);
+  }
+
+  pub done-advanced : {answer : Answer} {second : Lent} {after : List ℕ} → answer ≡ Done → Tried s g a answer second after → Advanced s g a Done second after
+  done-advanced e t = record {
+    answer-is = sym e ∙ t .answer-is;
+    second-is = t .second-is e ∙ ap (λ (x : Answer). cond (accepted x) (nextOf s g a) a) (sym e ∙ t .answer-is);
+    marks-are = t .marks-are e;
+  }

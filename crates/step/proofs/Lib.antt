@@ -1,0 +1,6 @@
+pub mod Heavy
+pub mod Refills
+pub mod Opened
+pub mod Uncarried
+pub mod Finishes
+pub mod Entrance

@@ -1,0 +1,71 @@
+-- Stages 1 to 4 do not read the carry: scenes that differ in it alone agree in them. So pass 1, which is not lent the carry, can be followed by passes that
+-- are. Assumes nothing.
+use mathlib.Core.Path.{_≡_, refl}
+use mathlib.Core.Bool.{_&&_, not, cond}
+use Prim.Native.Nat.{ℕ, zero, suc}
+use lib.IntN.{ℤ, pos, _+ℤ_, _-ℤ_}
+use Rattle.whole.specs.Fold.{dirs}
+use Rattle.lattice.specs.Lattice.{V3, dot, Lattice, density, momentum}
+use Rattle.lattice.specs.Cell.{dense, slow, pull, quad, relaxed, over, under}
+use Rattle.grid.specs.Grid.{Grid}
+use Rattle.grid.specs.State.{Scene, byFlag, liquid}
+use Rattle.grid.specs.Step.{oldDensity, oldMomentum, rebuilt, rebuild, arrives, streamed, difference, traded, tradedMass, newDensity, newMomentum, tooFast, collidedDir, collided}
+use Rattle.grid.specs.Between.{movedPart, movedMass, firstMark}
+
+module _ (L : Lattice) (G : Grid) (flag : ℕ → ℕ) (part : ℕ → ℕ → ℤ) (mass : ℕ → ℤ) (fill : ℕ → ℕ) (g : V3) (p : ℕ → ℤ) (k k′ : ℤ) where
+  abbrev A : Scene
+  A = record { lat = L; grid = G; old = record { flag = flag; part = part; mass = mass; fill = fill; carry = k }; g = g; relax = p }
+
+  abbrev B : Scene
+  B = record { lat = L; grid = G; old = record { flag = flag; part = part; mass = mass; fill = fill; carry = k′ }; g = g; relax = p }
+
+  -- ---- stages 1 to 4
+  streamed-is : (c d : ℕ) → streamed A c d ≡ streamed B c d
+  unfolding streamed arrives rebuilt rebuild oldDensity oldMomentum
+  streamed-is c zero = refl
+  streamed-is c (suc a) = refl
+
+  traded-is : (c : ℕ) → tradedMass A c ≡ tradedMass B c
+  unfolding tradedMass traded difference
+  traded-is c = refl
+
+  density-is : (c : ℕ) → newDensity A c ≡ newDensity B c
+  unfolding newDensity
+  density-is c i = density L (λ d. streamed-is c d i)
+
+  momentum-is : (c : ℕ) → newMomentum A c ≡ newMomentum B c
+  unfolding newMomentum
+  momentum-is c i = record {
+    x = momentum L (λ d. streamed-is c d i) .x +ℤ pull (density-is c i) (g .x);
+    y = momentum L (λ d. streamed-is c d i) .y +ℤ pull (density-is c i) (g .y);
+    z = momentum L (λ d. streamed-is c d i) .z +ℤ pull (density-is c i) (g .z);
+  }
+
+  pub fast-is : tooFast A ≡ tooFast B
+  unfolding tooFast
+  fast-is i c = liquid (flag c) && not (dense (density-is c i) && slow (density-is c i) (dot (momentum-is c i) (momentum-is c i)))
+
+  collided-dir-is : (c d : ℕ) → collidedDir A c d ≡ collidedDir B c d
+  unfolding collidedDir
+  collided-dir-is c d i =
+      relaxed (p c) (L .weight d) (quad (density-is c i) (dot (L .e d) (momentum-is c i)) (dot (momentum-is c i) (momentum-is c i))) (density-is c i) (streamed-is c d i)
+
+  collided-at : (c d : ℕ) → collided A c d ≡ collided B c d
+  unfolding collided
+  collided-at c zero = λ i. density-is c i -ℤ dirs (L .q) (λ d. collided-dir-is c d i)
+  collided-at c (suc a) = λ i. collided-dir-is c (suc a) i
+
+  pub collided-is : collided A ≡ collided B
+  collided-is i c d = collided-at c d i
+
+  pub moved-part-is : movedPart A ≡ movedPart B
+  unfolding movedPart
+  moved-part-is i c d = byFlag (flag c) (pos 0) (collided-at c d i) (collided-at c d i) (pos 0)
+
+  pub moved-mass-is : movedMass A ≡ movedMass B
+  unfolding movedMass
+  moved-mass-is i c = byFlag (flag c) (pos 0) (traded-is c i) (density-is c i) (pos 0)
+
+  pub first-mark-is : firstMark A ≡ firstMark B
+  unfolding firstMark
+  first-mark-is i c = byFlag (flag c) 0 (cond (over (traded-is c i) (density-is c i)) 1 (cond (under (traded-is c i) (density-is c i)) 2 0)) 0 0

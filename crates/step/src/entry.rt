@@ -1,0 +1,57 @@
+// Tests 1 to 6 of what a step is lent.
+use grid::Answer;
+use grid::Sides;
+use grid::checking;
+use grid::extent;
+use grid::lengths;
+use lattice::Settings;
+use lattice::limits;
+ghost use mathlib.Core.Path.{_≡_};
+ghost use Rattle.grid.specs.Outcome.{entryAnswer};
+
+// What a step is refused for before it begins.
+pub fn entered(
+    flags: &[u8],
+    parts: &[i32],
+    mass: &[i32],
+    fill: &[u32],
+    carry: &[i64],
+    flags2: &[u8],
+    parts2: &[i32],
+    mass2: &[i32],
+    fill2: &[u32],
+    carry2: &[i64],
+    marks: &[u8],
+    s: Sides,
+    g: Settings,
+) -> Answer
+    ensures { λ r. ⌜ r ≡ entryAnswer s g (record { flags = now (flags .entry); parts = now (parts .entry); masses = now (mass .entry); fills = now (fill .entry); carry = now (carry .entry) }) (record { flags = now (flags2 .entry); parts = now (parts2 .entry); masses = now (mass2 .entry); fills = now (fill2 .entry); carry = now (carry2 .entry) }) (now (marks .entry)) Answer.Done ⌝ }
+{
+    if !extent::good_sides(s) {
+        return Answer::Refused(1, 0);
+    }
+    let n = extent::cells(s);
+    let first = lengths::good_lengths(
+        flags.len(),
+        parts.len(),
+        mass.len(),
+        fill.len(),
+        carry.len(),
+        n,
+    );
+    let second = lengths::good_lengths(
+        flags2.len(),
+        parts2.len(),
+        mass2.len(),
+        fill2.len(),
+        carry2.len(),
+        n,
+    );
+    if !(first & second & (marks.len() == n)) {
+        return Answer::Refused(2, 0);
+    }
+    if !limits::good_settings(g) {
+        return Answer::Refused(3, 0);
+    }
+    checking::checked(flags, parts, mass, fill, carry, s)
+}

@@ -1,0 +1,181 @@
+-- The amounts of stage 6, from a good state that passed test 7: a liquid cell's density, an interface cell's mass, and which cells take part. Assumes nothing.
+use mathlib.Core.Path.{_≡_, refl, sym, ap, subst}
+use mathlib.Core.Bool.{Bool, true, false, _&&_, not, cond}
+use Prim.Native.Nat.{ℕ, zero, suc, _+_, _*_, _≤_, _<_}
+use native.Mathlib.Nat.{div-le-of-le-mul, mul-le-mul-right}
+use native.Mathlib.Omega.{arith}
+use lib.IntN.{ℤ, pos, natAbs, _-ℤ_, _*ℤ_}
+use lib.Signed.{leZ}
+use borrow.Author.Tests.{not-false}
+use Rattle.whole.specs.Bools.{and-left, and-right}
+use Rattle.whole.specs.Bounds.{abs-add, abs-sub, abs-mul, abs-quot, abs-below}
+use Rattle.whole.specs.Fold.{dirs, first}
+use Rattle.whole.specs.Machine.{Within}
+use Rattle.whole.specs.Order.{leZ-true}
+use Rattle.whole.specs.Search.{Dir, as-dir, first-none}
+use Rattle.whole.specs.Sums.{sum-abs}
+use Rattle.lattice.specs.Lattice.{dot, d3q19, density}
+use Rattle.lattice.specs.Cell.{dense, slow, exchange, over, under}
+use Rattle.lattice.specs.declared.Settings.{Settings}
+use Rattle.lattice.proofs.Fills.{fill-most}
+use Rattle.lattice.proofs.Paired.{paired19}
+use Rattle.grid.specs.declared.Sides.{Sides}
+use Rattle.grid.specs.Grid.{cellsOf, gridOf, box}
+use Rattle.grid.specs.State.{Lent, Scene, byFlag, liquid, stateOf}
+use Rattle.grid.specs.Step.{flagAt, difference, traded, tradedMass, newDensity, newMomentum, tooFast, filled, emptied, besideFilled, besideEmptied, newFlag, flagAfter, fillFor}
+use Rattle.grid.specs.Outcome.{sceneOf}
+use Rattle.grid.specs.Between.{Poised, movedMass, settledMark}
+use Rattle.grid.specs.Passes.{Inner}
+use Rattle.grid.proofs.Laid.{inner}
+use Rattle.grid.proofs.Offsets.{near-below}
+use Rattle.flow.proofs.Poise.{poised-body, poised-mass, poised-fill, poised-inner}
+
+-- ---- by cases on flags and tests alone
+
+not-dense : (l d s : Bool) → l ≡ true → (l && not (d && s)) ≡ false → d ≡ true
+not-dense l d s h e = and-left d s (not-false (d && s) (subst (λ (b : Bool). (b && not (d && s)) ≡ false) h e))
+
+most : (φ n : ℕ) → φ ≤ 131072 → φ * n ≤ 131072 * n
+most φ n h = mul-le-mul-right n h
+
+exchange-le : (φ : ℕ) (d : ℤ) → φ ≤ 131072 → natAbs (exchange φ d) ≤ natAbs d
+unfolding exchange
+exchange-le φ d h =
+    omega (arith, abs-quot (pos φ *ℤ d) (pos 131072), abs-mul (pos φ) d, div-le-of-le-mul 131072 (most φ (natAbs d) h))
+
+-- what one direction brings
+traded-le : (f φ : ℕ) (d : ℤ) → φ ≤ 131072 → (liquid f ≡ true → natAbs d ≤ 2359296) → natAbs (byFlag f (pos 0) (exchange φ d) d (pos 0)) ≤ 2359296
+traded-le zero φ d h k = omega arith
+traded-le (suc zero) φ d h k = omega (arith, exchange-le φ d h, k refl)
+traded-le (suc (suc zero)) φ d h k = k refl
+traded-le (suc (suc (suc n))) φ d h k = omega arith
+
+abbrev mark : Bool → Bool → ℕ
+mark is-filled is-emptied = cond is-filled 1 (cond is-emptied 2 0)
+
+-- a cell that becomes or stays interface is not converted
+taker-cases : (f : ℕ) (bf ov un be : Bool) → flagAfter f bf (byFlag f false ov false false) (byFlag f false un false false) be ≡ 1
+    → mark (byFlag f false ov false false) (byFlag f false un false false) ≡ 0
+taker-cases zero bf ov un be e = refl
+taker-cases (suc zero) bf true un be e = absurd (omega arith)
+taker-cases (suc zero) bf false true be e = absurd (omega arith)
+taker-cases (suc zero) bf false false be e = refl
+taker-cases (suc (suc zero)) bf ov un be e = refl
+taker-cases (suc (suc (suc n))) bf ov un be e = refl
+
+-- only interface cells convert
+giver-cases : (f : ℕ) (ov un : Bool) → (mark (byFlag f false ov false false) (byFlag f false un false false) ≡ 0 → ⊥) → f ≡ 1
+giver-cases zero ov un h = absurd (h refl)
+giver-cases (suc zero) ov un h = refl
+giver-cases (suc (suc zero)) ov un h = absurd (h refl)
+giver-cases (suc (suc (suc n))) ov un h = absurd (h refl)
+
+fill-cases : (f : ℕ) (m ρ : ℤ) → fillFor f m ρ ≤ 65536
+unfolding fillFor
+fill-cases zero m ρ = omega arith
+fill-cases (suc zero) m ρ = fill-most m ρ
+fill-cases (suc (suc zero)) m ρ = omega arith
+fill-cases (suc (suc (suc n))) m ρ = omega arith
+
+wall-fill : (f : ℕ) (m ρ : ℤ) (x : ℕ) → x ≡ fillFor f m ρ → byFlag f (pos x) (pos x) (pos x) (pos 0) ≡ pos x
+unfolding fillFor
+wall-fill zero m ρ x e = refl
+wall-fill (suc zero) m ρ x e = refl
+wall-fill (suc (suc zero)) m ρ x e = refl
+wall-fill (suc (suc (suc n))) m ρ x e = ap pos (sym e)
+
+moved-le : (f : ℕ) (m ρ : ℤ) → (f ≡ 1 → natAbs m ≤ 44826624) → (liquid f ≡ true → natAbs ρ ≤ 1179648) → natAbs (byFlag f (pos 0) m ρ (pos 0)) ≤ 44826624
+moved-le zero m ρ h k = omega arith
+moved-le (suc zero) m ρ h k = h refl
+moved-le (suc (suc zero)) m ρ h k = omega (arith, k refl)
+moved-le (suc (suc (suc n))) m ρ h k = omega arith
+
+-- ---- any scene
+module _ (S : Scene) where
+  -- gather leans on this: the cells that it writes never give
+  pub taker-unmarked : (c : ℕ) → newFlag S c ≡ 1 → settledMark S c ≡ 0
+  unfolding newFlag settledMark filled emptied
+  taker-unmarked c e =
+      taker-cases (flagAt S c) (besideFilled S c) (over (tradedMass S c) (newDensity S c)) (under (tradedMass S c) (newDensity S c) && not (besideFilled S c)) (besideEmptied S c) e
+
+  pub marked-interface : (c : ℕ) → (settledMark S c ≡ 0 → ⊥) → flagAt S c ≡ 1
+  unfolding settledMark filled emptied
+  marked-interface c h =
+      giver-cases (flagAt S c) (over (tradedMass S c) (newDensity S c)) (under (tradedMass S c) (newDensity S c) && not (besideFilled S c)) h
+
+-- ---- a good state
+module _ (s : Sides) (g : Settings) (a : Lent) (r : Poised s g a) where
+  abbrev pub S : Scene
+  S = sceneOf s g a
+
+  abbrev pub flag : ℕ → ℕ
+  flag c = stateOf 18 a .flag c
+
+  pub outer-not : (c : ℕ) → c < cellsOf s → (flag c ≡ 3 → ⊥) → gridOf s .outer c ≡ false
+  unfolding gridOf box cellsOf
+  outer-not c h n = inner (gridOf s) (stateOf 18 a .flag) (r .walled) c h n
+
+  pub inner-cell : (c : ℕ) → c < cellsOf s → (flag c ≡ 3 → ⊥) → Inner s c
+  inner-cell c h n = poised-inner s g a r c h n
+
+  pub near-cell : (c i : ℕ) → c < cellsOf s → (flag c ≡ 3 → ⊥) → i < 19 → gridOf s .near c i < cellsOf s
+  near-cell c i h n l = near-below s i l c (inner-cell c h n)
+
+  pub fill-in : (c : ℕ) → c < cellsOf s → stateOf 18 a .fill c ≤ 65536
+  fill-in c h = omega (arith, poised-fill s g a r c h, fill-cases (flag c) (stateOf 18 a .mass c) (density d3q19 (stateOf 18 a .part c)))
+
+  -- a wall's fill is 0, so that what a cell sees of it is its fill
+  pub seen-fill : (c : ℕ) → c < cellsOf s → byFlag (flag c) (pos (stateOf 18 a .fill c)) (pos (stateOf 18 a .fill c)) (pos (stateOf 18 a .fill c)) (pos 0) ≡ pos (stateOf 18 a .fill c)
+  seen-fill c h = wall-fill (flag c) (stateOf 18 a .mass c) _ (stateOf 18 a .fill c) (poised-fill s g a r c h)
+
+  difference-in : (c i : ℕ) → c < cellsOf s → flag c ≡ 1 → Dir 18 i → liquid (flag (gridOf s .near c i)) ≡ true
+      → natAbs (stateOf 18 a .part (gridOf s .near c i) (d3q19 .opp i) -ℤ stateOf 18 a .part c i) ≤ 2359296
+  unfolding d3q19
+  difference-in c i h f d l =
+      let n : gridOf s .near c i < cellsOf s = near-cell c i h (λ e. omega arith) (omega (arith, d .most)) in
+      omega (
+        arith,
+        abs-sub (stateOf 18 a .part (gridOf s .near c i) (d3q19 .opp i)) (stateOf 18 a .part c i),
+        poised-body s g a r (gridOf s .near c i) n l .parts (d3q19 .opp i) (paired19 .dir i d .most) .abs,
+        poised-body s g a r c h (ap liquid f) .parts i (d .most) .abs,
+      )
+
+  pub traded-mass-in : (c : ℕ) → c < cellsOf s → flag c ≡ 1 → Within (tradedMass S c) 44826624
+  unfolding tradedMass traded difference sceneOf d3q19
+  traded-mass-in c h f =
+      record {
+        abs = omega (
+          arith,
+          abs-add (S .old .mass c) (dirs 18 (traded S c)),
+          poised-mass s g a r c h f .abs,
+          sum-abs 18 (λ b. traded S c (suc b)) 2359296 (λ b k. each (suc b) (as-dir k)),
+        );
+      }
+    where
+      each : (i : ℕ) → Dir 18 i → natAbs (traded S c i) ≤ 2359296
+      each i d =
+          let n : gridOf s .near c i < cellsOf s = near-cell c i h (λ e. omega arith) (omega (arith, d .most)) in
+          traded-le (flag (gridOf s .near c i)) (stateOf 18 a .fill c + stateOf 18 a .fill (gridOf s .near c i)) _
+          (omega (arith, fill-in c h, fill-in (gridOf s .near c i) n)) (λ l. difference-in c i h f d l)
+
+  -- ---- that passed test 7
+  module _ (t : cellsOf s ≤ first (cellsOf s) (tooFast S)) where
+    pub new-dense : (c : ℕ) → c < cellsOf s → liquid (flag c) ≡ true → dense (newDensity S c) ≡ true
+    unfolding tooFast sceneOf
+    new-dense c h l =
+        not-dense (liquid (flag c)) (dense (newDensity S c)) (slow (newDensity S c) (dot (newMomentum S c) (newMomentum S c))) l
+        (first-none (cellsOf s) (tooFast S) t c h)
+
+    pub new-density-in : (c : ℕ) → c < cellsOf s → liquid (flag c) ≡ true → Within (newDensity S c) 1179648
+    unfolding dense
+    new-density-in c h l =
+        let e = new-dense c h l in
+        record {
+          abs = abs-below {k = 294912} {z = newDensity S c} (leZ-true (and-left (leZ (pos 294912) (newDensity S c)) (leZ (newDensity S c) (pos 1179648)) e))
+              (leZ-true (and-right (leZ (pos 294912) (newDensity S c)) (leZ (newDensity S c) (pos 1179648)) e));
+        }
+
+    pub moved-mass-in : (c : ℕ) → c < cellsOf s → Within (movedMass S c) 44826624
+    unfolding movedMass sceneOf
+    moved-mass-in c h =
+        record { abs = moved-le (flag c) (tradedMass S c) (newDensity S c) (λ f. traded-mass-in c h f .abs) (λ l. new-density-in c h l .abs) }

@@ -1,0 +1,159 @@
+-- What a collision leaves of a cell that passed test 7 is in range: each part of a direction far below 2^25, and part 0 far below 2^30. Assumes nothing.
+use mathlib.Core.Path.{_≡_, refl, sym, subst}
+use mathlib.Core.Bool.{Bool, true, false, _&&_, not}
+use Prim.Native.Nat.{ℕ, zero, suc, _*_, _≤_, _<_}
+use native.Mathlib.Nat.{mul-le-mul}
+use native.Mathlib.Omega.{arith}
+use lib.IntN.{ℤ, pos, natAbs, _+ℤ_, _-ℤ_, _*ℤ_}
+use lib.Signed.{quotZ}
+use borrow.Author.Tests.{not-false}
+use Rattle.whole.specs.Bounds.{abs-add, abs-sub, abs-mul, abs-above}
+use Rattle.whole.specs.Fold.{dirs, first, tab}
+use Rattle.whole.specs.Machine.{Within}
+use Rattle.whole.specs.Search.{Dir, as-dir, first-none}
+use Rattle.whole.specs.Sums.{sum-abs}
+use Rattle.lattice.specs.Lattice.{V3, dot, d3q19}
+use Rattle.lattice.specs.Cell.{dense, slow, quad, relaxed}
+use Rattle.lattice.specs.Body.{Tame, steadyFlow}
+use Rattle.lattice.specs.declared.Flow.{Flow}
+use Rattle.lattice.specs.declared.Settings.{Settings}
+use Rattle.lattice.proofs.Collision.{relaxation-in}
+use Rattle.lattice.proofs.Paired.{paired19}
+use Rattle.lattice.proofs.Reading.{quot-abs}
+use Rattle.lattice.proofs.Tame.{steady-tame}
+use Rattle.grid.specs.declared.Sides.{Sides}
+use Rattle.grid.specs.Grid.{cellsOf}
+use Rattle.grid.specs.State.{Lent, Scene, liquid, stateOf}
+use Rattle.grid.specs.Step.{streamed, newDensity, newMomentum, tooFast, collidedDir, collided}
+use Rattle.grid.specs.Outcome.{sceneOf}
+use Rattle.grid.specs.Between.{Poised}
+use Rattle.grid.specs.Passes.{Inner, lowOf, offsetOf}
+use Rattle.grid.specs.Sight.{Around, flowing, sight}
+use Rattle.grid.proofs.Beside.{Offsets, above, place-is, place-low}
+use Rattle.flow.proofs.Collisions.{relaxation-of}
+use Rattle.flow.proofs.Plain.{streamed-same}
+use Rattle.flow.proofs.Poise.{poised-bodied, liquid-inner}
+use Rattle.flow.proofs.Spans.{weight-low, streamed-in}
+
+-- a product of two numbers in range
+times-in : (a b : ℤ) (m n : ℕ) → natAbs a ≤ m → natAbs b ≤ n → natAbs (a *ℤ b) ≤ m * n
+times-in a b m n h k = omega (arith, abs-mul a b, mul-le-mul h k)
+
+-- ---- numbers alone
+quad-in : (ρ ej jj : ℤ) → natAbs ρ ≤ 1179648 → natAbs ej ≤ 1179648 → natAbs jj ≤ 463856467968 → natAbs (quad ρ ej jj) ≤ 26000000000000
+unfolding quad
+quad-in ρ ej jj h k l =
+    omega (
+      arith,
+      abs-sub (pos 2 *ℤ (ρ *ℤ ρ) +ℤ pos 6 *ℤ (ρ *ℤ ej) +ℤ pos 9 *ℤ (ej *ℤ ej)) (pos 3 *ℤ jj),
+      abs-add (pos 2 *ℤ (ρ *ℤ ρ) +ℤ pos 6 *ℤ (ρ *ℤ ej)) (pos 9 *ℤ (ej *ℤ ej)),
+      abs-add (pos 2 *ℤ (ρ *ℤ ρ)) (pos 6 *ℤ (ρ *ℤ ej)),
+      abs-mul (pos 2) (ρ *ℤ ρ),
+      abs-mul (pos 6) (ρ *ℤ ej),
+      abs-mul (pos 9) (ej *ℤ ej),
+      abs-mul (pos 3) jj,
+      times-in ρ ρ 1179648 1179648 h h,
+      times-in ρ ej 1179648 1179648 h k,
+      times-in ej ej 1179648 1179648 k k,
+    )
+
+relaxed-in : (p : ℤ) (w : ℕ) (Q ρ f : ℤ) → natAbs p ≤ 2037 → w ≤ 2 → natAbs Q ≤ 26000000000000 → 294912 ≤ natAbs ρ → natAbs ρ ≤ 1179648 → natAbs f ≤ 2097152
+    → natAbs (relaxed p w Q ρ f) ≤ 33554432
+unfolding relaxed
+relaxed-in p w Q ρ f hp hw hQ low hρ hf =
+    let n = pos w *ℤ Q -ℤ pos 72 *ℤ (ρ *ℤ f) in
+    let inner : natAbs n ≤ 230120883699712 =
+    omega (arith, abs-sub (pos w *ℤ Q) (pos 72 *ℤ (ρ *ℤ f)), times-in (pos w) Q 2 26000000000000 hw hQ, abs-mul (pos 72) (ρ *ℤ f), times-in ρ f 1179648 2097152 hρ hf) in
+    let top : natAbs (p *ℤ n) ≤ 468756240096313344 = omega (arith, times-in p n 2037 230120883699712 hp inner) in
+    let bottom : 21743271936 ≤ natAbs (pos 73728 *ℤ ρ) = omega (arith, abs-mul (pos 73728) ρ) in
+    let q : natAbs (quotZ (p *ℤ n) (pos 73728 *ℤ ρ)) ≤ 21558679 = quot-abs (p *ℤ n) (pos 73728 *ℤ ρ) 468756240096313344 21743271936 top (omega arith) bottom in
+    omega (arith, abs-add f (quotZ (p *ℤ n) (pos 73728 *ℤ ρ)))
+
+-- e·j, of a direction
+along-in : (j : V3) (i : ℕ) → Dir 18 i → natAbs (j .x) ≤ 393216 → natAbs (j .y) ≤ 393216 → natAbs (j .z) ≤ 393216 → natAbs (dot (d3q19 .e i) j) ≤ 1179648
+unfolding d3q19
+along-in j i d hx hy hz =
+    let e = d3q19 .e i in
+    omega (
+      arith,
+      abs-add (e .x *ℤ j .x +ℤ e .y *ℤ j .y) (e .z *ℤ j .z),
+      abs-add (e .x *ℤ j .x) (e .y *ℤ j .y),
+      times-in (e .x) (j .x) 1 393216 (paired19 .ex i d .small) hx,
+      times-in (e .y) (j .y) 1 393216 (paired19 .ey i d .small) hy,
+      times-in (e .z) (j .z) 1 393216 (paired19 .ez i d .small) hz,
+    )
+
+square-in : (j : V3) → natAbs (j .x) ≤ 393216 → natAbs (j .y) ≤ 393216 → natAbs (j .z) ≤ 393216 → natAbs (dot j j) ≤ 463856467968
+square-in j hx hy hz =
+    omega (
+      arith,
+      abs-add (j .x *ℤ j .x +ℤ j .y *ℤ j .y) (j .z *ℤ j .z),
+      abs-add (j .x *ℤ j .x) (j .y *ℤ j .y),
+      times-in (j .x) (j .x) 393216 393216 hx hx,
+      times-in (j .y) (j .y) 393216 393216 hy hy,
+      times-in (j .z) (j .z) 393216 393216 hz hz,
+    )
+
+passes : (l d s : Bool) → l ≡ true → (l && not (d && s)) ≡ false → (d && s) ≡ true
+passes l d s h e = not-false (d && s) (subst (λ (b : Bool). (b && not (d && s)) ≡ false) h e)
+
+-- ---- a liquid cell of a set that is poised and passed test 7
+module _ (s : Sides) (g : Settings) (a : Lent) (r : Poised s g a) (t : cellsOf s ≤ first (cellsOf s) (tooFast (sceneOf s g a)))
+    (c : ℕ) (h : c < cellsOf s) (l : liquid (stateOf 18 a .flag c) ≡ true) where
+  abbrev S : Scene
+  S = sceneOf s g a
+
+  o : Offsets s (tab 19 (offsetOf s)) (lowOf s)
+  o = record { table = refl; lowest = refl }
+
+  inside : Inner s c
+  inside = liquid-inner s g a r c h l
+
+  around : Around (cellsOf s) (tab 19 (offsetOf s)) (lowOf s) c
+  around = record { is-cell = h; from = above o c inside; each = place-low o c inside }
+
+  abbrev seen : Scene
+  seen = sight (flowing (a .flags) (a .parts)) (tab 19 (offsetOf s)) (lowOf s) g
+
+  near : (i : ℕ) → Dir (d3q19 .q) i → S .grid .near c i ≡ seen .grid .near c i
+  unfolding sight sceneOf d3q19
+  near i d = sym (place-is o c inside i (omega (arith, d .most)))
+
+  stream-in : (k : ℕ) → k ≤ 18 → Within (streamed S c k) 2097152
+  unfolding sight sceneOf stateOf d3q19
+  stream-in k m =
+      subst (λ (z : ℤ). Within z 2097152)
+      (sym (streamed-same d3q19 paired19 (S .grid) (seen .grid) (S .old .flag) (S .old .part) c near
+      (S .old .mass) (seen .old .mass) (S .old .fill) (seen .old .fill) (S .old .carry) (seen .old .carry) (S .g) (seen .g) (S .relax) (seen .relax) k m))
+      (streamed-in (a .flags) (a .parts) (tab 19 (offsetOf s)) (lowOf s) g (poised-bodied s g a r) c (subst (λ (n : ℕ). Around n (tab 19 (offsetOf s)) (lowOf s) c) (sym (r .flags)) around) l k m)
+
+  -- density and momentum as a flow
+  flow : Flow
+  flow = record { rho = newDensity S c; x = newMomentum S c .x; y = newMomentum S c .y; z = newMomentum S c .z }
+
+  tame : Tame flow
+  unfolding flow steadyFlow tooFast sceneOf
+  tame =
+      steady-tame flow
+      (passes (liquid (stateOf 18 a .flag c)) (dense (newDensity S c)) (slow (newDensity S c) (dot (newMomentum S c) (newMomentum S c))) l
+      (first-none (cellsOf s) (tooFast S) t c h))
+
+  dir-in : (i : ℕ) → Dir 18 i → natAbs (collidedDir S c i) ≤ 33554432
+  unfolding collidedDir flow sceneOf
+  dir-in i d =
+      relaxed-in (g .p) (d3q19 .weight i) _ (newDensity S c) (streamed S c i) (relaxation-in (g .p) (relaxation-of g (r .settings)) .abs) (weight-low i (d .some) (omega (arith, d .most)))
+      (quad-in (newDensity S c) (dot (d3q19 .e i) (newMomentum S c)) (dot (newMomentum S c) (newMomentum S c)) (tame .rho .abs)
+      (along-in (newMomentum S c) i d (tame .x .abs) (tame .y .abs) (tame .z .abs)) (square-in (newMomentum S c) (tame .x .abs) (tame .y .abs) (tame .z .abs)))
+      (abs-above (tame .low)) (tame .rho .abs) (stream-in i (d .most) .abs)
+
+  pub collided-rest : Within (collided S c 0) 1073741824
+  unfolding collided flow sceneOf d3q19
+  collided-rest =
+      record {
+        abs = omega (arith, abs-sub (newDensity S c) (dirs 18 (collidedDir S c)), tame .rho .abs, sum-abs 18 (λ b. collidedDir S c (suc b)) 33554432 (λ b k. dir-in (suc b) (as-dir k)));
+      }
+
+  pub collided-at : (k : ℕ) → 0 < k → k < 19 → Within (collided S c k) 33554432
+  unfolding collided
+  collided-at zero z m = absurd (omega arith)
+  collided-at (suc b) z m = record { abs = dir-in (suc b) (as-dir (omega arith)) }

@@ -1,0 +1,15 @@
+pub mod Arrays
+pub mod Weighed
+pub mod Picked
+pub mod Births
+pub mod Means
+pub mod Newborns
+pub mod Offspring
+pub mod Quiet
+pub mod Settled
+pub mod Amounts
+pub mod Given
+pub mod Impacts
+pub mod Handed
+pub mod Turns
+pub mod Converts

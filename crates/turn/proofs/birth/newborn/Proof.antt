@@ -1,0 +1,95 @@
+-- `turn::birth::newborn`: visit after visit; the cells passed have their parts, the others are as they were. Assumes nothing.
+use borrow.Author.Needs.{needs}
+use mathlib.Core.Path.{_≡_, _∙_, ap, ap₂, subst}
+use mathlib.Core.Bool.{Bool, _&&_}
+use mathlib.Core.List.{List}
+use Prim.Native.Nat.{ℕ, _-_, _≤_, _<_}
+use native.Mathlib.Omega.{arith}
+use lib.ListN.{length}
+use Rattle.whole.specs.Fold.{all}
+use Rattle.grid.specs.Passes.{lowOf}
+use Rattle.turn.specs.Born.{flowSight, newlyBorn, laterFair, Peopled}
+use Rattle.turn.proofs.Weighed.{all-none, all-more}
+use Rattle.turn.proofs.Newborns.{Reached, reached-zero, reached-more, visited-fair, peopled}
+use Rattle.turn.proofs.birth.newborn.Statement.{statement}
+use Rattle.turn.proofs.birth.newborn.Tie as tie
+
+abbrev Inv-loop : tie.InvT-loop
+Inv-loop flags parts flags2 parts2₀ g off low fair₀ c₀ parts2 fair c =
+    (c ≤ length flags) × Reached (flowSight flags parts off low g) (newlyBorn flags flags2) parts2₀ parts2 c
+    × (fair ≡ all c (laterFair (flowSight flags parts off low g) (newlyBorn flags flags2)))
+
+abbrev μ-loop : tie.MeasureT-loop
+μ-loop flags parts flags2 parts2₀ g off low fair₀ c₀ parts2 fair c = length flags - c
+
+offsets-requires : tie.Need-offsets-requires Inv-loop μ-loop
+offsets-requires c κs = c .before .before .pre .0
+
+low-of-requires : tie.Need-low-of-requires Inv-loop μ-loop
+low-of-requires c κs = c .before .before .before .pre .0
+
+loop-holds : tie.Need-loop-holds Inv-loop μ-loop
+loop-holds c =
+    let a = c .before .before .before .before .args in
+    let S = flowSight (a .flags .now) (a .parts .now) (c .before .offsets .result) (c .low-of .result) (a .g) in
+    let w = newlyBorn (a .flags .now) (a .flags2 .now) in
+    (omega arith, reached-zero S w (a .parts2 .now), all-none (laterFair S w))
+
+visit-requires : tie.Need-visit-requires Inv-loop μ-loop
+visit-requires c κs =
+    let s = c .before .before .before .before .before .before .before .before in
+    let l = c .before .before .before .loop in
+    (rw (c .before .before .before .before .before .offsets .ensures, c .before .before .before .before .low-of .ensures) (s .pre .1), c .before .before .loop-test .taken, l .inv .1 .long ∙ s .pre .2)
+
+add-c : tie.Need-add-c Inv-loop μ-loop
+add-c c = search needs
+
+loop-less : tie.Need-loop-less Inv-loop μ-loop
+loop-less c = search needs
+
+loop-again : tie.Need-loop-again Inv-loop μ-loop
+loop-again c =
+    let s = c .before .before .before .before .before .before .before .before .before .before in
+    let a = s .args in
+    let l = c .before .before .before .before .before .loop in
+    let S = flowSight (a .flags .now) (a .parts .now) (c .before .before .before .before .before .before .before .offsets .result) (c .before .before .before .before .before .before .low-of .result) (a .g) in
+    let w = newlyBorn (a .flags .now) (a .flags2 .now) in
+    let h : l .c < length (a .flags .now) = c .before .before .before .before .loop-test .taken in (
+      omega arith,
+      reached-more S w (a .parts2 .now) (l .parts2) (c .before .visit .last .1 .1 .1 .0) (l .c) (omega (arith, s .pre .2)) (l .inv .1) (c .before .visit .ensures),
+      ap₂ (λ (x y : Bool). x && y) (l .inv .2) (visited-fair S w (a .parts2 .now) (c .before .visit .ensures)) ∙ all-more (l .c) (laterFair S w),
+    )
+
+same-length : tie.Need-same-length Inv-loop μ-loop
+same-length c = c .before .loop .inv .1 .long
+
+returns : tie.Need-returns Inv-loop μ-loop
+returns c =
+    let s = c .before .before .before .before .before .before in
+    let a = s .args in
+    let o = c .before .before .before .offsets in
+    let m = c .before .before .low-of in
+    let l = c .before .loop in
+    let S = flowSight (a .flags .now) (a .parts .now) (o .result) (m .result) (a .g) in
+    let w = newlyBorn (a .flags .now) (a .flags2 .now) in
+    let e : l .c ≡ length (a .flags .now) = omega arith in
+    subst (λ (off : List ℕ). Peopled (flowSight (a .flags .now) (a .parts .now) off (lowOf (a .s)) (a .g)) w (length (a .flags .now)) (a .parts2 .now) (l .parts2) (l .fair)) (o .ensures)
+    (subst (λ (low : ℕ). Peopled (flowSight (a .flags .now) (a .parts .now) (o .result) low (a .g)) w (length (a .flags .now)) (a .parts2 .now) (l .parts2) (l .fair)) (m .ensures)
+    (peopled S w (a .parts2 .now) (l .parts2) (length (a .flags .now)) (l .fair) (s .pre .2) (subst (Reached S w (a .parts2 .now) (l .parts2)) e (l .inv .1))
+    (l .inv .2 ∙ ap (λ (n : ℕ). all n (laterFair S w)) e)))
+
+pub newborn-spec : {M : Type 1} → statement M
+newborn-spec =
+    tie.close
+    (tie.spec
+    Inv-loop
+    μ-loop
+    offsets-requires
+    low-of-requires
+    loop-holds
+    visit-requires
+    add-c
+    loop-less
+    loop-again
+    same-length
+    returns)

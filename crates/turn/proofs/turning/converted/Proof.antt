@@ -1,0 +1,223 @@
+-- `turn::turning::converted`: passes 2 to 7, one after the other; Converts says what each asks and leaves. Assumes nothing.
+use mathlib.Core.Path.{_≡_, refl, sym, ap, _∙_, subst}
+use mathlib.Core.Bool.{Bool, true, _&&_}
+use mathlib.Core.List.{List, [], _∷_}
+use Prim.Native.Nat.{ℕ, _*_, _/_, _%_, _≤_, _<_}
+use native.Mathlib.Omega.{arith}
+use lib.IntN.{ℤ, pos, _+ℤ_}
+use lib.ListN.{length, getD, set, length-set, length-replicate}
+use borrow.Author.Needs.{needs}
+use mir.Syntax.{w64}
+use mir.Val.{toZ, ofZ}
+use mir.Facts.{toZ-ofZ}
+use Rattle.whole.specs.Bounds.{held}
+use Rattle.whole.specs.Bools.{and-left, and-right}
+use Rattle.whole.specs.Fold.{tab, sum}
+use Rattle.whole.specs.Machine.{Within}
+use Rattle.whole.specs.Tab.{length-tab}
+use Rattle.lattice.specs.Cell.{carryGood}
+use Rattle.grid.specs.Grid.{cellsOf}
+use Rattle.grid.specs.State.{Lent, Scene, stateOf}
+use Rattle.grid.specs.Step.{newFlag, newPart, newMass, newCarry}
+use Rattle.grid.specs.Outcome.{sceneOf}
+use Rattle.grid.specs.Between.{movedPart, movedMass, firstMark, gatheredMass}
+use Rattle.grid.specs.Halfway.{Moved, Turning, Turned}
+use Rattle.grid.specs.Passes.{lowOf, offsetOf}
+use Rattle.excess.specs.Gifts.{strayAt}
+use Rattle.turn.proofs.Converts.{asks-emptying, marks-settled, asks-marked, flags-turned, asks-fertile, parts-born, born-fair, midway, carry-told, carry-within}
+use Rattle.turn.proofs.Given.{gathered-is}
+use Rattle.turn.proofs.Handed.{grid-offsets, gathering, straying, settling, settled-is}
+use Rattle.turn.proofs.turning.converted.Statement.{statement}
+use Rattle.turn.proofs.turning.converted.Tie as tie
+
+abbrev set-of : tie.Start → Lent
+set-of t = record { flags = t .args .flags .now; parts = t .args .parts .now; masses = t .args .mass .now; fills = t .args .fill .now; carry = t .args .carry .now }
+
+-- a number within 10^12 is kept by 64 bits
+kept : (z : ℤ) → Within z 1000000000000 → toZ w64 (ofZ w64 z) ≡ z
+kept z w = held w64 (record { is = refl; abs = w .abs }) tt .is
+
+-- a list of one, stored to
+set-single : (xs : List ℤ) (z : ℤ) → length xs ≡ 1 → set xs 0 z ≡ z ∷ []
+set-single [] z e = absurd (omega arith)
+set-single (x ∷ []) z e = refl
+set-single (x ∷ (y ∷ xs)) z e = absurd (omega arith)
+
+parts-length : (t : tie.Start) → length (t .args .parts2 .now) ≡ 19 * cellsOf (t .args .s)
+parts-length t = ap length (t .pre .0 .moved .parts-are) ∙ length-tab (19 * cellsOf (t .args .s)) (λ m. movedPart (sceneOf (t .args .s) (t .args .g) (set-of t)) (m / 19) (m % 19))
+
+settle-marks-requires : tie.Need-settle-marks-requires
+settle-marks-requires c κs =
+    let t = c .before .before .before .before .before in
+    let a = set-of t in
+    let r = t .pre .0 .ready in
+    let m = t .pre .0 .moved in
+    asks-emptying (t .args .s) (t .args .g) a r (m .steady) _ (m .marks-are)
+
+new-flags-requires : tie.Need-new-flags-requires
+new-flags-requires c κs =
+    let t = c .before .before .before .before .before .before .before .before .before .before in
+    let a = set-of t in
+    let r = t .pre .0 .ready in
+    let m = t .pre .0 .moved in
+    let ek = marks-settled (t .args .s) (t .args .g) a r (m .steady) _ _ (m .marks-are) (c .before .before .before .before .settle-marks .ensures) in
+    (asks-marked (t .args .s) (t .args .g) a r (m .steady) _ ek, t .pre .1)
+
+newborn-requires : tie.Need-newborn-requires
+newborn-requires c κs =
+    let t = c .before .before .before .before .before .before .before .before .before .before .before .before .before .before .before in
+    let a = set-of t in
+    let r = t .pre .0 .ready in
+    let m = t .pre .0 .moved in
+    let ek = marks-settled (t .args .s) (t .args .g) a r (m .steady) _ _ (m .marks-are) (c .before .before .before .before .before .before .before .before .before .settle-marks .ensures) in
+    let ef = flags-turned (t .args .s) (t .args .g) a r (m .steady) _ _ ek (c .before .before .before .before .new-flags .ensures) in
+    (r .sides, asks-fertile (t .args .s) (t .args .g) a r (m .steady) _ ef, parts-length t ∙ ap (λ (n : ℕ). 19 * n) (sym (r .sized .flags)))
+
+shared-slice-copy-out-new-carry : tie.Need-shared-slice-copy-out-new-carry
+shared-slice-copy-out-new-carry c = let t = c .before .before .before .before .before .before .before .before .before .before .before .before .before .before .before .before .before .before .before .before .before in omega (arith, t .pre .0 .ready .sized .carry)
+
+new-carry-requires : tie.Need-new-carry-requires
+new-carry-requires c κs =
+    let t = c .before .before .before .before .before .before .before .before .before .before .before .before .before .before .before .before .before .before .before .before .before .before in
+    let a = set-of t in
+    let r = t .pre .0 .ready in
+    let m = t .pre .0 .moved in
+    let ek = marks-settled (t .args .s) (t .args .g) a r (m .steady) _ _ (m .marks-are) (c .before .before .before .before .before .before .before .before .before .before .before .before .before .before .before .before .settle-marks .ensures) in
+    let ef = flags-turned (t .args .s) (t .args .g) a r (m .steady) _ _ ek (c .before .before .before .before .before .before .before .before .before .before .before .new-flags .ensures) in
+    let ep = parts-born (t .args .s) (t .args .g) a r (m .steady) _ ef _ _ (m .parts-are) _ (c .before .before .before .before .before .before .newborn .ensures) in
+    let w = midway (t .args .s) (t .args .g) a r (m .steady) _ ef _ _ _ ep (m .masses-are) ek in
+    (straying w, rw (kept _ (carry-within (t .args .s) (t .args .g) a r (m .steady))) (carry-within (t .args .s) (t .args .g) a r (m .steady)))
+
+slice-set-from-k : tie.Need-slice-set-from-k
+slice-set-from-k c = let t = c .before .before .before .before .before .before .before .before .before .before .before .before .before .before .before .before .before .before .before .before .before .before .before in omega (arith, t .pre .0 .carry-room)
+
+gather-requires : tie.Need-gather-requires
+gather-requires c κs =
+    let t = c .before .before .before .before .before .before .before .before .before .before .before .before .before .before .before .before .before .before .before .before .before .before .before .before .before .before .before in
+    let a = set-of t in
+    let r = t .pre .0 .ready in
+    let m = t .pre .0 .moved in
+    let ek = marks-settled (t .args .s) (t .args .g) a r (m .steady) _ _ (m .marks-are) (c .before .before .before .before .before .before .before .before .before .before .before .before .before .before .before .before .before .before .before .before .before .settle-marks .ensures) in
+    let ef = flags-turned (t .args .s) (t .args .g) a r (m .steady) _ _ ek (c .before .before .before .before .before .before .before .before .before .before .before .before .before .before .before .before .new-flags .ensures) in
+    let ep = parts-born (t .args .s) (t .args .g) a r (m .steady) _ ef _ _ (m .parts-are) _ (c .before .before .before .before .before .before .before .before .before .before .before .newborn .ensures) in
+    let w = midway (t .args .s) (t .args .g) a r (m .steady) _ ef _ _ _ ep (m .masses-are) ek in
+    gathering w
+
+settle-requires : tie.Need-settle-requires
+settle-requires c κs =
+    let t = c .before .before .before .before .before .before .before .before .before .before .before .before .before .before .before .before .before .before .before .before .before .before .before .before .before .before .before .before .before .before .before .before in
+    let a = set-of t in
+    let r = t .pre .0 .ready in
+    let m = t .pre .0 .moved in
+    let ek = marks-settled (t .args .s) (t .args .g) a r (m .steady) _ _ (m .marks-are) (c .before .before .before .before .before .before .before .before .before .before .before .before .before .before .before .before .before .before .before .before .before .before .before .before .before .before .settle-marks .ensures) in
+    let ef = flags-turned (t .args .s) (t .args .g) a r (m .steady) _ _ ek (c .before .before .before .before .before .before .before .before .before .before .before .before .before .before .before .before .before .before .before .before .before .new-flags .ensures) in
+    let ep = parts-born (t .args .s) (t .args .g) a r (m .steady) _ ef _ _ (m .parts-are) _ (c .before .before .before .before .before .before .before .before .before .before .before .before .before .before .before .before .newborn .ensures) in
+    let w = midway (t .args .s) (t .args .g) a r (m .steady) _ ef _ _ _ ep (m .masses-are) ek in
+    let em = c .before .before .before .before .gather .ensures ∙ gathered-is w (grid-offsets (t .args .s)) in
+    settling w _ (ap length em ∙ length-tab (cellsOf (t .args .s)) (gatheredMass (sceneOf (t .args .s) (t .args .g) a)))
+
+fair-carry-requires : tie.Need-fair-carry-requires
+fair-carry-requires c κs = tt
+
+same-length : tie.Need-same-length
+same-length c =
+    let t = c .before .before .before .before .before .before .before .before .before .before .before .before .before .before .before .before .before .before .before .before .before .before .before .before .before .before .before .before .before .before .before .before .before .before .before .before .before .before in
+    let a = set-of t in
+    let r = t .pre .0 .ready in
+    let m = t .pre .0 .moved in
+    let ek = marks-settled (t .args .s) (t .args .g) a r (m .steady) _ _ (m .marks-are) (c .before .before .before .before .before .before .before .before .before .before .before .before .before .before .before .before .before .before .before .before .before .before .before .before .before .before .before .before .before .before .before .before .settle-marks .ensures) in
+    let ef = flags-turned (t .args .s) (t .args .g) a r (m .steady) _ _ ek (c .before .before .before .before .before .before .before .before .before .before .before .before .before .before .before .before .before .before .before .before .before .before .before .before .before .before .before .new-flags .ensures) in
+    let ep = parts-born (t .args .s) (t .args .g) a r (m .steady) _ ef _ _ (m .parts-are) _ (c .before .before .before .before .before .before .before .before .before .before .before .before .before .before .before .before .before .before .before .before .before .before .newborn .ensures) in
+    let w = midway (t .args .s) (t .args .g) a r (m .steady) _ ef _ _ _ ep (m .masses-are) ek in
+    let em = c .before .before .before .before .before .before .before .before .before .before .gather .ensures ∙ gathered-is w (grid-offsets (t .args .s)) in
+    let done = settled-is w em (c .before .before .before .before .before .settle .ensures) in
+    ap length ef ∙ length-tab (cellsOf (t .args .s)) (newFlag (sceneOf (t .args .s) (t .args .g) a)) ∙ sym (t .pre .0 .flags-room)
+
+same-length-2 : tie.Need-same-length-2
+same-length-2 c =
+    let t = c .before .before .before .before .before .before .before .before .before .before .before .before .before .before .before .before .before .before .before .before .before .before .before .before .before .before .before .before .before .before .before .before .before .before .before .before .before .before in
+    let a = set-of t in
+    let r = t .pre .0 .ready in
+    let m = t .pre .0 .moved in
+    let ek = marks-settled (t .args .s) (t .args .g) a r (m .steady) _ _ (m .marks-are) (c .before .before .before .before .before .before .before .before .before .before .before .before .before .before .before .before .before .before .before .before .before .before .before .before .before .before .before .before .before .before .before .before .settle-marks .ensures) in
+    let ef = flags-turned (t .args .s) (t .args .g) a r (m .steady) _ _ ek (c .before .before .before .before .before .before .before .before .before .before .before .before .before .before .before .before .before .before .before .before .before .before .before .before .before .before .before .new-flags .ensures) in
+    let ep = parts-born (t .args .s) (t .args .g) a r (m .steady) _ ef _ _ (m .parts-are) _ (c .before .before .before .before .before .before .before .before .before .before .before .before .before .before .before .before .before .before .before .before .before .before .newborn .ensures) in
+    let w = midway (t .args .s) (t .args .g) a r (m .steady) _ ef _ _ _ ep (m .masses-are) ek in
+    let em = c .before .before .before .before .before .before .before .before .before .before .gather .ensures ∙ gathered-is w (grid-offsets (t .args .s)) in
+    let done = settled-is w em (c .before .before .before .before .before .settle .ensures) in
+    ap length (done .0) ∙ length-tab (19 * cellsOf (t .args .s)) (λ m. newPart (sceneOf (t .args .s) (t .args .g) a) (m / 19) (m % 19)) ∙ sym (parts-length t)
+
+same-length-3 : tie.Need-same-length-3
+same-length-3 c =
+    let t = c .before .before .before .before .before .before .before .before .before .before .before .before .before .before .before .before .before .before .before .before .before .before .before .before .before .before .before .before .before .before .before .before .before .before .before .before .before .before in
+    let a = set-of t in
+    let r = t .pre .0 .ready in
+    let m = t .pre .0 .moved in
+    let ek = marks-settled (t .args .s) (t .args .g) a r (m .steady) _ _ (m .marks-are) (c .before .before .before .before .before .before .before .before .before .before .before .before .before .before .before .before .before .before .before .before .before .before .before .before .before .before .before .before .before .before .before .before .settle-marks .ensures) in
+    let ef = flags-turned (t .args .s) (t .args .g) a r (m .steady) _ _ ek (c .before .before .before .before .before .before .before .before .before .before .before .before .before .before .before .before .before .before .before .before .before .before .before .before .before .before .before .new-flags .ensures) in
+    let ep = parts-born (t .args .s) (t .args .g) a r (m .steady) _ ef _ _ (m .parts-are) _ (c .before .before .before .before .before .before .before .before .before .before .before .before .before .before .before .before .before .before .before .before .before .before .newborn .ensures) in
+    let w = midway (t .args .s) (t .args .g) a r (m .steady) _ ef _ _ _ ep (m .masses-are) ek in
+    let em = c .before .before .before .before .before .before .before .before .before .before .gather .ensures ∙ gathered-is w (grid-offsets (t .args .s)) in
+    let done = settled-is w em (c .before .before .before .before .before .settle .ensures) in
+    ap length (done .1) ∙ length-tab (cellsOf (t .args .s)) (newMass (sceneOf (t .args .s) (t .args .g) a)) ∙ sym (ap length (m .masses-are) ∙ length-tab (cellsOf (t .args .s)) (movedMass (sceneOf (t .args .s) (t .args .g) a)))
+
+same-length-4 : tie.Need-same-length-4
+same-length-4 c = simp length-set
+
+same-length-5 : tie.Need-same-length-5
+same-length-5 c =
+    let t = c .before .before .before .before .before .before .before .before .before .before .before .before .before .before .before .before .before .before .before .before .before .before .before .before .before .before .before .before .before .before .before .before .before .before .before .before .before .before in
+    let a = set-of t in
+    let r = t .pre .0 .ready in
+    let m = t .pre .0 .moved in
+    let ek = marks-settled (t .args .s) (t .args .g) a r (m .steady) _ _ (m .marks-are) (c .before .before .before .before .before .before .before .before .before .before .before .before .before .before .before .before .before .before .before .before .before .before .before .before .before .before .before .before .before .before .before .before .settle-marks .ensures) in
+    let ef = flags-turned (t .args .s) (t .args .g) a r (m .steady) _ _ ek (c .before .before .before .before .before .before .before .before .before .before .before .before .before .before .before .before .before .before .before .before .before .before .before .before .before .before .before .new-flags .ensures) in
+    let ep = parts-born (t .args .s) (t .args .g) a r (m .steady) _ ef _ _ (m .parts-are) _ (c .before .before .before .before .before .before .before .before .before .before .before .before .before .before .before .before .before .before .before .before .before .before .newborn .ensures) in
+    let w = midway (t .args .s) (t .args .g) a r (m .steady) _ ef _ _ _ ep (m .masses-are) ek in
+    let em = c .before .before .before .before .before .before .before .before .before .before .gather .ensures ∙ gathered-is w (grid-offsets (t .args .s)) in
+    let done = settled-is w em (c .before .before .before .before .before .settle .ensures) in
+    ap length (done .2) ∙ length-replicate (cellsOf (t .args .s)) 0 ∙ sym (ap length (m .marks-are) ∙ length-tab (cellsOf (t .args .s)) (firstMark (sceneOf (t .args .s) (t .args .g) a)))
+
+returns : tie.Need-returns
+returns c =
+    let t = c .before .before .before .before .before .before .before .before .before .before .before .before .before .before .before .before .before .before .before .before .before .before .before .before .before .before .before .before .before .before .before .before .before .before .before .before .before .before in
+    let a = set-of t in
+    let r = t .pre .0 .ready in
+    let m = t .pre .0 .moved in
+    let ek = marks-settled (t .args .s) (t .args .g) a r (m .steady) _ _ (m .marks-are) (c .before .before .before .before .before .before .before .before .before .before .before .before .before .before .before .before .before .before .before .before .before .before .before .before .before .before .before .before .before .before .before .before .settle-marks .ensures) in
+    let ef = flags-turned (t .args .s) (t .args .g) a r (m .steady) _ _ ek (c .before .before .before .before .before .before .before .before .before .before .before .before .before .before .before .before .before .before .before .before .before .before .before .before .before .before .before .new-flags .ensures) in
+    let ep = parts-born (t .args .s) (t .args .g) a r (m .steady) _ ef _ _ (m .parts-are) _ (c .before .before .before .before .before .before .before .before .before .before .before .before .before .before .before .before .before .before .before .before .before .before .newborn .ensures) in
+    let w = midway (t .args .s) (t .args .g) a r (m .steady) _ ef _ _ _ ep (m .masses-are) ek in
+    let em = c .before .before .before .before .before .before .before .before .before .before .gather .ensures ∙ gathered-is w (grid-offsets (t .args .s)) in
+    let done = settled-is w em (c .before .before .before .before .before .settle .ensures) in
+    let carry = toZ-ofZ {w = w64} (record { sfits = c .before .before .before .before .before .before .before .before .before .before .before .before .before .before .before .new-carry .ok }) in
+    let sum-is = carry-told (t .args .s) (t .args .g) a r (m .steady) _ ef _ _ _ ep (m .masses-are) ek _ _ (kept _ (carry-within (t .args .s) (t .args .g) a r (m .steady))) (c .before .before .before .before .before .before .before .before .before .before .before .before .before .before .before .new-carry .ensures) in
+    record {
+      flags-are = ef;
+      parts-are = done .0;
+      masses-are = done .1;
+      carry-is = set-single (t .args .carry2 .now) _ (t .pre .0 .carry-room) ∙ ap (λ (z : ℤ). z ∷ []) (carry ∙ sum-is);
+      marks-are = done .2;
+      newborn = λ e. born-fair (t .args .s) (t .args .g) a r (m .steady) _ ef _ _ (m .parts-are) _ (c .before .before .before .before .before .before .before .before .before .before .before .before .before .before .before .before .before .before .before .before .before .before .newborn .ensures) (and-left (c .before .before .before .before .before .before .before .before .before .before .before .before .before .before .before .before .before .before .before .before .before .before .newborn .result) (c .fair-carry .result) e);
+      carry-fair = λ e. ap carryGood (sym (carry ∙ sum-is)) ∙ sym (c .fair-carry .ensures) ∙ and-right (c .before .before .before .before .before .before .before .before .before .before .before .before .before .before .before .before .before .before .before .before .before .before .newborn .result) (c .fair-carry .result) e;
+    }
+
+pub converted-spec : {M : Type 1} → statement M
+converted-spec =
+    tie.close
+    (tie.spec
+    settle-marks-requires
+    new-flags-requires
+    newborn-requires
+    shared-slice-copy-out-new-carry
+    new-carry-requires
+    slice-set-from-k
+    gather-requires
+    settle-requires
+    fair-carry-requires
+    same-length
+    same-length-2
+    same-length-3
+    same-length-4
+    same-length-5
+    returns)

@@ -1,0 +1,52 @@
+-- Stage 7 over lent lists: what working out the fills asks, the fill of each cell, and the one rule of a good state that this pass tests. Assumes nothing.
+use mathlib.Core.Path.{_≡_}
+use mathlib.Core.Bool.{Bool, not, _||_}
+use mathlib.Core.List.{List}
+use Prim.Native.Nat.{ℕ, _+_, _*_, _<_, _≤_}
+use lib.IntN.{ℤ, pos}
+use lib.Signed.{_<ℤ_}
+use lib.Dec.{eqb}
+use lib.ListN.{length, getD}
+use Rattle.whole.specs.Fold.{tab, all}
+use Rattle.whole.specs.Machine.{Within}
+use Rattle.lattice.specs.Lattice.{d3q19, density}
+use Rattle.lattice.specs.Cell.{massGood}
+use Rattle.grid.specs.Step.{fillFor}
+
+-- part k of cell c
+abbrev pub partOf : List ℤ → ℕ → ℕ → ℤ
+partOf parts c k = getD parts (19 * c + k) (pos 0)
+
+-- parts whose sum 32 bits can hold, and a density that can be divided by
+pub record Weighty (f : ℕ → ℤ) : Type 0 where
+  pub rest : Within (f 0) 1073741824
+  pub each : (k : ℕ) → 0 < k → k < 19 → Within (f k) 33554432
+  pub some : pos 0 <ℤ density d3q19 f
+
+-- nineteen parts and a mass a cell, and every interface cell has a density
+pub record Fillable (flags : List ℕ) (parts masses : List ℤ) : Type 0 where
+  pub few : length flags ≤ 262144
+  pub parts-count : length parts ≡ 19 * length flags
+  pub masses-count : length masses ≡ length flags
+  pub weighty : (c : ℕ) → c < length flags → getD flags c 3 ≡ 1 → Weighty (partOf parts c)
+
+-- a cell's fill
+unfoldable pub fillAt : List ℕ → List ℤ → List ℤ → ℕ → ℕ
+fillAt flags parts masses c = fillFor (getD flags c 3) (getD masses c (pos 0)) (density d3q19 (partOf parts c))
+
+-- a mass that a cell of flag f may have: an interface cell's is in its range
+unfoldable pub fairMass : ℕ → ℤ → Bool
+fairMass f m = not (eqb f 1) || massGood m
+
+unfoldable pub fairAt : List ℕ → List ℤ → ℕ → Bool
+fairAt flags masses c = fairMass (getD flags c 3) (getD masses c (pos 0))
+
+-- what the pass leaves: every cell's fill, and whether every interface cell's mass is in its range
+pub record Refilled (flags : List ℕ) (parts masses : List ℤ) (fills : List ℕ) (fair : Bool) : Type 0 where
+  pub fills-are : fills ≡ tab (length flags) (fillAt flags parts masses)
+  pub fair-is : fair ≡ all (length flags) (fairAt flags masses)
+
+-- names every definition of this file: whoever unfolds this computes with all of them
+unfoldable pub open-filled : Unit {0}
+unfolding fillAt fairMass fairAt
+open-filled = tt

@@ -1,0 +1,266 @@
+/*
+ * skwarzyna.h: the library as a host in C (C99) or C++ sees it. Water in a grid of cells, stepped in whole numbers.
+ *
+ * THE GRID has sides nx, ny, nz of 3 to 128 cells and N = nx*ny*nz of at most 262,144 cells; cell (x, y, z) has the number
+ * c = x + nx*(y + ny*z). A SET is one state of it, lent as five slices of exactly these lengths:
+ *
+ *     flags     N      SKW_EMPTY, SKW_INTERFACE, SKW_FLUID or SKW_WALL; the outer layer of cells is all wall
+ *     parts     19*N   part k of cell c at [19*c + k]; a cell's density is the sum of its parts, and SKW_ONE is one density unit
+ *     masses    N      the water in the cell, in the unit of the parts
+ *     fills     N      how full the cell is, in 65,536ths: 0 to SKW_FULL
+ *     carry     1      water that found no cell to go to, in the unit of the parts
+ *
+ * The water of a set is the sum of its masses and its carry. No accepted step changes it by one unit.
+ *
+ * A GOOD STATE: flags and outer layer are right; no fluid cell has an empty one among its 18 neighbours (those that share a face or
+ * an edge with it); wall and empty cells have parts, mass and fill 0; a liquid cell (fluid or interface) has parts within +-1,179,648,
+ * density rho of 294,912 to 1,179,648 and momentum j (sum of part times direction) with 9*|j|*|j| <= rho*rho; a fluid cell has mass
+ * rho and fill 65,536; an interface cell has mass m within +-2,359,296 and fill floor(65,536*m/rho), held to 0..65,536; the carry is
+ * within +-10^12.
+ *
+ * SETTINGS: p of 1 to 2037, the relaxation in 1,024ths; gx, gy, gz, gravity in cells per step and step, in 1,048,576ths, the sum of
+ * their squares at most 1,099,511. edge, that of a cell, 1 to 1,000 mm. ox, oy, oz, the survey point of the grid's corner, and every
+ * survey point in whole mm within +-10^10. Numbers are wider than their ranges, so that none has to be cut to be refused.
+ *
+ * WHAT EVERY CALL KEEPS. It accepts any numbers and slices of any length, and ends. It answers 0 if accepted, else the refusal's number
+ * (SKW_BAD_.. below), and then the place through *place; 0 if accepted. All other numbers that it answers through pointers are written
+ * too: 0 beside a refusal, but for the run's count. It allocates nothing and keeps nothing between calls, so that calls on buffers of
+ * their own may run at the same time.
+ *
+ * WHAT A CALLER OWES. A slice is a pointer, then its length in numbers (not bytes). Pointers are never null and are aligned for
+ * their type, those of slices of length 0 as well. Every number lent has been given a value (memory from calloc has). What is lent for
+ * writing (no const: slices, and the numbers that answers go to) overlaps nothing else that is lent to the same call; const slices may.
+ *
+ * LINKING: `bindings/object` prints the path of what a host links with on this machine; nothing beyond C's own library is needed.
+ */
+#ifndef SKWARZYNA_H
+#define SKWARZYNA_H
+
+#include <stddef.h>
+#include <stdint.h>
+
+#ifdef __cplusplus
+extern "C" {
+#endif
+
+/* The library is for 64-bit processors. */
+typedef char skw_size_t_has_64_bits[sizeof(size_t) == 8 ? 1 : -1];
+
+/* Flags. */
+enum { SKW_EMPTY = 0, SKW_INTERFACE = 1, SKW_FLUID = 2, SKW_WALL = 3 };
+
+/* Kinds of depth. */
+enum { SKW_DEPTH_REFUSED = 0, SKW_DEPTH_SOLID = 1, SKW_DEPTH_DRY = 2, SKW_DEPTH_DEEP = 3 };
+
+/* One density unit, 36*16,384: the water of a full cell under no pressure. */
+#define SKW_ONE 589824
+/* The fill of a full cell. */
+#define SKW_FULL 65536
+/* Parts of a cell. */
+#define SKW_PARTS 19
+
+/* Ranges. */
+#define SKW_SIDE_LEAST 3
+#define SKW_SIDE_MOST 128
+#define SKW_CELLS_MOST 262144
+#define SKW_STEPS_MOST 1000
+#define SKW_P_LEAST 1
+#define SKW_P_MOST 2037
+#define SKW_GRAVITY_SQUARED_MOST 1099511
+#define SKW_EDGE_LEAST 1
+#define SKW_EDGE_MOST 1000
+#define SKW_COORDINATE_MOST ((int64_t)10000 * 1000000)
+#define SKW_PART_MOST 1179648
+#define SKW_DENSITY_LEAST 294912
+#define SKW_DENSITY_MOST 1179648
+#define SKW_MASS_MOST 2359296
+#define SKW_CARRY_MOST ((int64_t)1000000 * 1000000)
+
+/* Length in bytes of the record of a grid with so many cells, interface cells and liquid cells (fluid and interface). */
+#define SKW_RECORD_BYTES(cells, interfaces, liquids) \
+    ((size_t)92 + (size_t)(cells) + (size_t)4 * (size_t)(interfaces) + (size_t)76 * (size_t)(liquids))
+/* Room in bytes that the record of any grid with so many cells fits into. */
+#define SKW_RECORD_BYTES_MOST(cells) SKW_RECORD_BYTES(cells, cells, cells)
+
+/*
+ * Refusals: document 01's numbers, in the words of its table, and the place beside each. Where not said otherwise the tests come in
+ * ascending order and the first that fails is told. All but 7 and 8 leave every lent slice as it was.
+ */
+enum {
+    SKW_ACCEPTED = 0,
+    /* a side or the product of the sides is outside its range; place 0 */
+    SKW_BAD_SIDES = 1,
+    /* a lent slice is not of its exact length (record and room have none); place 0 */
+    SKW_BAD_LENGTH = 2,
+    /* a setting, origin or point coordinate is out of range; place 0 */
+    SKW_BAD_SETTING = 3,
+    /* a flag is above 3, or an outer cell is not wall; place: the lowest such cell */
+    SKW_BAD_FLAG = 4,
+    /* fluid beside empty; place: the lowest fluid cell that has an empty neighbour */
+    SKW_BAD_LAYER = 5,
+    /* another rule of a good state is broken; place: the lowest such cell, N for the carry alone */
+    SKW_BAD_STATE = 6,
+    /* density or speed is out of range after streaming and gravity; place: the lowest such cell */
+    SKW_BAD_FLOW = 7,
+    /* the next state breaks a rule that 6 stands for; place as for 6 */
+    SKW_BAD_NEXT = 8,
+    /* steps above 1,000 (tested first); place 0 */
+    SKW_BAD_STEPS = 9,
+    /* the record ends early or has bytes left over; place: the byte where the section's count stands, or where the rest begins */
+    SKW_BAD_END = 10,
+    /* a section's count is wrong; place: the section, 1 to 7 */
+    SKW_BAD_COUNT = 11,
+    /* room for the record is too small (tested last); place: the bytes needed */
+    SKW_BAD_ROOM = 12,
+    /* column, cell or point outside the grid; place 0 */
+    SKW_OUTSIDE = 13
+};
+
+/*
+ * CHECK: is this set a good state of a grid with these sides?
+ * Tests 1, 2, 4, 5, 6. Writes *place alone.
+ */
+uint8_t skw_check(const uint8_t *flags, size_t flags_len,
+                  const int32_t *parts, size_t parts_len,
+                  const int32_t *masses, size_t masses_len,
+                  const uint32_t *fills, size_t fills_len,
+                  const int64_t *carry, size_t carry_len,
+                  size_t nx, size_t ny, size_t nz,
+                  size_t *place);
+
+/*
+ * STEP: the state one step after the first set, into the second. marks is N bytes of work space, whatever they hold.
+ * Tests 1 to 6 (2 on both sets and the marks; 4 to 6 on the first set alone), then 7, then 8.
+ *
+ *     answer           second set             marks
+ *     accepted         the next state         all 0
+ *     7, 8             a copy of the first    all 0
+ *     1 to 6           as it was              as they were
+ *
+ * The first set is never written.
+ */
+uint8_t skw_step(const uint8_t *flags, size_t flags_len,
+                 const int32_t *parts, size_t parts_len,
+                 const int32_t *masses, size_t masses_len,
+                 const uint32_t *fills, size_t fills_len,
+                 const int64_t *carry, size_t carry_len,
+                 uint8_t *flags2, size_t flags2_len,
+                 int32_t *parts2, size_t parts2_len,
+                 int32_t *masses2, size_t masses2_len,
+                 uint32_t *fills2, size_t fills2_len,
+                 int64_t *carry2, size_t carry2_len,
+                 uint8_t *marks, size_t marks_len,
+                 size_t nx, size_t ny, size_t nz,
+                 int64_t p, int64_t gx, int64_t gy, int64_t gz,
+                 size_t *place);
+
+/*
+ * RUN: so many steps, 0 to 1,000, from the state in the first set; it stops at the first step that is refused. It returns how many
+ * steps were accepted; *number and *place are those of the refusal that stopped it, 0 0 if none did.
+ * Tests 9, then 1 to 6 as a step makes them, then 7 and 8 of each step.
+ *
+ *     *number          returns                      both sets             marks
+ *     0                the steps asked              the state reached     all 0
+ *     7, 8             the steps before that one    the state reached     all 0
+ *     1 to 6, 9        0                            as they were          as they were
+ *
+ * It is faster than so many single steps: it tests the state once, and goes back and forth between the sets.
+ */
+size_t skw_run(size_t steps,
+               uint8_t *flags, size_t flags_len,
+               int32_t *parts, size_t parts_len,
+               int32_t *masses, size_t masses_len,
+               uint32_t *fills, size_t fills_len,
+               int64_t *carry, size_t carry_len,
+               uint8_t *flags2, size_t flags2_len,
+               int32_t *parts2, size_t parts2_len,
+               int32_t *masses2, size_t masses2_len,
+               uint32_t *fills2, size_t fills2_len,
+               int64_t *carry2, size_t carry2_len,
+               uint8_t *marks, size_t marks_len,
+               size_t nx, size_t ny, size_t nz,
+               int64_t p, int64_t gx, int64_t gy, int64_t gz,
+               uint8_t *number, size_t *place);
+
+/*
+ * READ: a grid record, rec_len bytes of it, into a set without flags: 19*N parts, N masses, N fills (worked out), the carry. The flags
+ * are not copied: they are the bytes rec[*flags_from] to before rec[*flags_to] of the caller's own record. Sides, settings, edge and
+ * origin come through their pointers.
+ *
+ * How much to lend: the sides stand in bytes 4 to 15 of the record, three unsigned 32-bit numbers, little-endian. Where a record is too
+ * short for them or they are out of range, lend slices of any length: the record is refused before these are looked at.
+ *
+ * A section that is not whole is 10, and its count is tested (11) as soon as it is read; after section 1 come tests 1 and 2, after
+ * section 5 test 4, after section 7 that no bytes are left over (10), then 3, 5 and 6. Beside a refusal the slices are as they were
+ * and all numbers 0, so that the flags are the empty part rec[0..0].
+ */
+uint8_t skw_read(const uint8_t *rec, size_t rec_len,
+                 int32_t *parts, size_t parts_len,
+                 int32_t *masses, size_t masses_len,
+                 uint32_t *fills, size_t fills_len,
+                 int64_t *carry, size_t carry_len,
+                 size_t *nx, size_t *ny, size_t *nz,
+                 int64_t *p, int64_t *gx, int64_t *gy, int64_t *gz,
+                 int64_t *edge, int64_t *ox, int64_t *oy, int64_t *oz,
+                 size_t *flags_from, size_t *flags_to,
+                 size_t *place);
+
+/*
+ * WRITE: the record of a set, settings, edge and origin, from the front of the room; *bytes is its length, SKW_RECORD_BYTES. Room past
+ * the record stays as it was; beside a refusal all of it does, and *bytes is 0. What is written reads back as the same grid.
+ * Tests 1 to 6, then 12, whose place is the bytes needed: a first call with little room is a way to ask for them.
+ */
+uint8_t skw_write(size_t nx, size_t ny, size_t nz,
+                  int64_t p, int64_t gx, int64_t gy, int64_t gz,
+                  int64_t edge, int64_t ox, int64_t oy, int64_t oz,
+                  const uint8_t *flags, size_t flags_len,
+                  const int32_t *parts, size_t parts_len,
+                  const int32_t *masses, size_t masses_len,
+                  const uint32_t *fills, size_t fills_len,
+                  const int64_t *carry, size_t carry_len,
+                  uint8_t *room, size_t room_len,
+                  size_t *bytes, size_t *place);
+
+/*
+ * PLACE: the number of the cell that holds survey point (x, y, z), in mm: per axis floor((point - origin)/edge).
+ * Tests 1, 3 (edge, origin, point), 13. Beside a refusal *cell is 0.
+ */
+uint8_t skw_place(size_t nx, size_t ny, size_t nz,
+                  int64_t edge, int64_t ox, int64_t oy, int64_t oz,
+                  int64_t x, int64_t y, int64_t z,
+                  size_t *cell, size_t *place);
+
+/*
+ * POINT: the centre of a cell, in cells from the grid's corner, and its fill as a share of 1; all four exact.
+ * Tests 1, 2, 13, then 6: that this cell's fill is at most 65,536. Beside a refusal the four are 0.
+ */
+uint8_t skw_point(size_t nx, size_t ny, size_t nz,
+                  const uint32_t *fills, size_t fills_len,
+                  size_t cell,
+                  float *x, float *y, float *z, float *fill,
+                  size_t *place);
+
+/*
+ * DEPTH: of the water in column (x, y), in cells, exact: the fills of the cells that are not wall, added and divided by 65,536.
+ *
+ *     *kind                 when                                       *depth
+ *     SKW_DEPTH_REFUSED     the answer is not 0                        0
+ *     SKW_DEPTH_SOLID       every cell of the column is wall           0
+ *     SKW_DEPTH_DRY         the fills of the others add to 0           0
+ *     SKW_DEPTH_DEEP        else                                       above 0, at most 128
+ *
+ * Tests 1, 2, 13, then in this column alone that no flag is above 3 (4), and that no fill, walls' included, is above 65,536 (6), each
+ * at the lowest such cell.
+ */
+uint8_t skw_depth(size_t nx, size_t ny, size_t nz,
+                  const uint8_t *flags, size_t flags_len,
+                  const uint32_t *fills, size_t fills_len,
+                  size_t x, size_t y,
+                  uint8_t *kind, float *depth,
+                  size_t *place);
+
+#ifdef __cplusplus
+}
+#endif
+
+#endif

@@ -1,0 +1,699 @@
+/*
+ * Every call of skwarzyna.h on good and on bad input, held to the figures and the table of document 01. The same text is compiled as C
+ * and as C++. Arguments: the record of case T, and what gridstep prints for it.
+ */
+#include "skwarzyna.h"
+
+#include <stdio.h>
+#include <stdlib.h>
+#include <string.h>
+
+#ifdef __cplusplus
+#define LANGUAGE "C++"
+#else
+#define LANGUAGE "C"
+#endif
+
+/* The most cells of a grid here. */
+#define ROOM 64
+/* Case T: a box of 27 cells, all wall but for the middle. */
+#define CELLS 27
+#define MIDDLE 13
+#define RECORD 199
+
+static int tried = 0;
+static int failed = 0;
+
+static void expect(int holds, int line, const char *text)
+{
+    tried += 1;
+    if (!holds) {
+        failed += 1;
+        printf("header (%s): line %d: %s\n", LANGUAGE, line, text);
+    }
+}
+
+#define EXPECT(holds) expect((holds) != 0, __LINE__, #holds)
+
+/* Number and place of an answer in one number, so that both stand in one comparison. */
+#define REFUSED(number, place) ((long)(number) * 1000000 + (long)(place))
+#define ACCEPTED REFUSED(SKW_ACCEPTED, 0)
+
+struct set {
+    uint8_t flags[ROOM];
+    int32_t parts[SKW_PARTS * ROOM];
+    int32_t masses[ROOM];
+    uint32_t fills[ROOM];
+    int64_t carry[2];
+};
+
+/* Lengths under which a set is lent, and marks and room besides. */
+struct lengths {
+    size_t flags, parts, masses, fills, carry, marks;
+};
+
+struct sides {
+    size_t nx, ny, nz;
+};
+
+struct settings {
+    int64_t p, gx, gy, gz;
+};
+
+struct site {
+    int64_t edge, ox, oy, oz;
+};
+
+static const struct sides THREE = {3, 3, 3};
+static const struct settings FALLING = {1024, 0, 0, -1024};
+static const struct site CORNER = {50, 0, 0, 0};
+
+static struct lengths lengths_of(size_t cells)
+{
+    struct lengths l;
+    l.flags = l.masses = l.fills = l.marks = cells;
+    l.parts = SKW_PARTS * cells;
+    l.carry = 1;
+    return l;
+}
+
+/* The lengths of case T with one of them wrong, in twelve ways. */
+static struct lengths wrong_lengths(int way)
+{
+    struct lengths l = lengths_of(CELLS);
+    size_t *const each[6] = {&l.flags, &l.parts, &l.masses, &l.fills, &l.carry, &l.marks};
+    size_t *const one = each[way / 2];
+    *one = way % 2 ? *one + 1 : *one - 1;
+    return l;
+}
+#define WRONG_LENGTHS 12
+/* Those of them that are not about the marks. */
+#define WRONG_SET_LENGTHS 10
+
+/* A value that no call writes, to see what it leaves alone. */
+static size_t unset(void)
+{
+    return (size_t)-1;
+}
+
+static long check(const struct set *a, struct lengths l, struct sides s)
+{
+    size_t place = unset();
+    const uint8_t number = skw_check(a->flags, l.flags, a->parts, l.parts, a->masses, l.masses, a->fills, l.fills, a->carry, l.carry,
+                                     s.nx, s.ny, s.nz, &place);
+    return REFUSED(number, place);
+}
+
+static long step(const struct set *a, struct lengths la, struct set *b, struct lengths lb, uint8_t *marks, struct sides s,
+                 struct settings g)
+{
+    size_t place = unset();
+    const uint8_t number = skw_step(a->flags, la.flags, a->parts, la.parts, a->masses, la.masses, a->fills, la.fills, a->carry, la.carry,
+                                    b->flags, lb.flags, b->parts, lb.parts, b->masses, lb.masses, b->fills, lb.fills, b->carry, lb.carry,
+                                    marks, lb.marks, s.nx, s.ny, s.nz, g.p, g.gx, g.gy, g.gz, &place);
+    return REFUSED(number, place);
+}
+
+static long run(size_t steps, struct set *a, struct lengths la, struct set *b, struct lengths lb, uint8_t *marks, struct sides s,
+                struct settings g, size_t *count)
+{
+    uint8_t number = 255;
+    size_t place = unset();
+    *count = skw_run(steps, a->flags, la.flags, a->parts, la.parts, a->masses, la.masses, a->fills, la.fills, a->carry, la.carry, b->flags,
+                     lb.flags, b->parts, lb.parts, b->masses, lb.masses, b->fills, lb.fills, b->carry, lb.carry, marks, lb.marks, s.nx,
+                     s.ny, s.nz, g.p, g.gx, g.gy, g.gz, &number, &place);
+    return REFUSED(number, place);
+}
+
+/* What the reader answers beside the slices. */
+struct head {
+    struct sides s;
+    struct settings g;
+    struct site t;
+    size_t flags_from, flags_to;
+};
+
+static long read_record(const uint8_t *rec, size_t rec_len, struct set *a, struct lengths l, struct head *h)
+{
+    size_t place = unset();
+    memset(h, 255, sizeof *h);
+    const uint8_t number = skw_read(rec, rec_len, a->parts, l.parts, a->masses, l.masses, a->fills, l.fills, a->carry, l.carry, &h->s.nx,
+                                    &h->s.ny, &h->s.nz, &h->g.p, &h->g.gx, &h->g.gy, &h->g.gz, &h->t.edge, &h->t.ox, &h->t.oy, &h->t.oz,
+                                    &h->flags_from, &h->flags_to, &place);
+    return REFUSED(number, place);
+}
+
+static long write_record(struct sides s, struct settings g, struct site t, const struct set *a, struct lengths l, uint8_t *room,
+                         size_t room_len, size_t *bytes)
+{
+    size_t place = unset();
+    *bytes = unset();
+    const uint8_t number = skw_write(s.nx, s.ny, s.nz, g.p, g.gx, g.gy, g.gz, t.edge, t.ox, t.oy, t.oz, a->flags, l.flags, a->parts,
+                                     l.parts, a->masses, l.masses, a->fills, l.fills, a->carry, l.carry, room, room_len, bytes, &place);
+    return REFUSED(number, place);
+}
+
+static long place_point(struct sides s, struct site t, int64_t x, int64_t y, int64_t z, size_t *cell)
+{
+    size_t place = unset();
+    *cell = unset();
+    const uint8_t number = skw_place(s.nx, s.ny, s.nz, t.edge, t.ox, t.oy, t.oz, x, y, z, cell, &place);
+    return REFUSED(number, place);
+}
+
+static long point(struct sides s, const uint32_t *fills, size_t fills_len, size_t cell, float answer[4])
+{
+    size_t place = unset();
+    answer[0] = answer[1] = answer[2] = answer[3] = -1;
+    const uint8_t number = skw_point(s.nx, s.ny, s.nz, fills, fills_len, cell, &answer[0], &answer[1], &answer[2], &answer[3], &place);
+    return REFUSED(number, place);
+}
+
+static long depth(struct sides s, const struct set *a, size_t flags_len, size_t fills_len, size_t x, size_t y, int *kind, float *deep)
+{
+    size_t place = unset();
+    uint8_t found = 255;
+    *deep = -1;
+    const uint8_t number = skw_depth(s.nx, s.ny, s.nz, a->flags, flags_len, a->fills, fills_len, x, y, &found, deep, &place);
+    *kind = found;
+    return REFUSED(number, place);
+}
+
+/* A set that is not good in any of its numbers, to see what is overwritten and what is not. */
+static void soil(struct set *a)
+{
+    memset(a, 0x5a, sizeof *a);
+}
+
+static int same(const struct set *a, const struct set *b)
+{
+    return memcmp(a, b, sizeof *a) == 0;
+}
+
+/* Equal in the first so many cells and the carry. */
+static int same_state(const struct set *a, const struct set *b, size_t cells)
+{
+    return memcmp(a->flags, b->flags, cells) == 0 && memcmp(a->parts, b->parts, SKW_PARTS * cells * sizeof a->parts[0]) == 0 &&
+           memcmp(a->masses, b->masses, cells * sizeof a->masses[0]) == 0 &&
+           memcmp(a->fills, b->fills, cells * sizeof a->fills[0]) == 0 && a->carry[0] == b->carry[0];
+}
+
+static int all(const uint8_t *bytes, size_t count, uint8_t value)
+{
+    size_t i;
+    for (i = 0; i < count; i += 1) {
+        if (bytes[i] != value) {
+            return 0;
+        }
+    }
+    return 1;
+}
+
+static void rest(struct set *a, size_t cell)
+{
+    int k;
+    for (k = 0; k < SKW_PARTS; k += 1) {
+        a->parts[SKW_PARTS * cell + (size_t)k] = (k == 0 ? 12 : k < 7 ? 2 : 1) * 16384;
+    }
+}
+
+/* Case T, made by hand. */
+static void case_t(struct set *a)
+{
+    memset(a, 0, sizeof *a);
+    memset(a->flags, SKW_WALL, CELLS);
+    a->flags[MIDDLE] = SKW_INTERFACE;
+    rest(a, MIDDLE);
+    a->masses[MIDDLE] = SKW_ONE / 2;
+    a->fills[MIDDLE] = SKW_FULL / 2;
+}
+
+/* A row of three cells between walls, in a box of 5, 3, 3: fluid, interface without water, empty. */
+#define ROW 45
+#define ROW_FLUID 21
+static const struct sides FIVE = {5, 3, 3};
+
+static void row(struct set *a)
+{
+    memset(a, 0, sizeof *a);
+    memset(a->flags, SKW_WALL, ROW);
+    a->flags[ROW_FLUID] = SKW_FLUID, a->flags[ROW_FLUID + 1] = SKW_INTERFACE, a->flags[ROW_FLUID + 2] = SKW_EMPTY;
+    rest(a, ROW_FLUID), rest(a, ROW_FLUID + 1);
+    a->masses[ROW_FLUID] = SKW_ONE;
+    a->fills[ROW_FLUID] = SKW_FULL;
+}
+
+/* The same with its interface and its empty cell changed over, so that the fluid lies open. */
+static void open_row(struct set *a)
+{
+    row(a);
+    a->flags[ROW_FLUID + 1] = SKW_EMPTY, a->flags[ROW_FLUID + 2] = SKW_INTERFACE;
+}
+
+/* Case T with its water moving along x at density ONE; parts by document 01's stage 5. */
+static void moving(struct set *a, int64_t j)
+{
+    static const int along[SKW_PARTS] = {0, 1, -1, 0, 0, 0, 0, 1, -1, 1, -1, 0, 0, 0, 0, 1, -1, 1, -1};
+    const int64_t rho = SKW_ONE;
+    int64_t others = 0;
+    int k;
+    case_t(a);
+    for (k = 1; k < SKW_PARTS; k += 1) {
+        const int64_t w = k < 7 ? 2 : 1;
+        const int64_t q = 2 * rho * rho + 6 * rho * along[k] * j + 9 * along[k] * along[k] * j * j - 3 * j * j;
+        const int64_t part = w * q / (72 * rho);
+        a->parts[SKW_PARTS * MIDDLE + k] = (int32_t)part;
+        others += part;
+    }
+    a->parts[SKW_PARTS * MIDDLE] = (int32_t)(rho - others);
+}
+
+/* The fields of gridstep's lines: fluid, interface, empty, wall cells, total with the carry, carry. */
+static void tally(const struct set *a, size_t cells, char *line, size_t room)
+{
+    int counts[4] = {0, 0, 0, 0};
+    long total = (long)a->carry[0];
+    size_t c;
+    for (c = 0; c < cells; c += 1) {
+        counts[a->flags[c]] += 1;
+        total += a->masses[c];
+    }
+    snprintf(line, room, "%d %d %d %d %ld %ld", counts[SKW_FLUID], counts[SKW_INTERFACE], counts[SKW_EMPTY], counts[SKW_WALL], total,
+             (long)a->carry[0]);
+}
+
+static void test_check(void)
+{
+    const struct lengths l = lengths_of(CELLS);
+    struct set a;
+    struct sides s;
+    int way;
+    case_t(&a);
+    EXPECT(check(&a, l, THREE) == ACCEPTED);
+    s = THREE, s.nx = 2;
+    EXPECT(check(&a, l, s) == REFUSED(SKW_BAD_SIDES, 0));
+    s = THREE, s.nz = SKW_SIDE_MOST + 1;
+    EXPECT(check(&a, l, s) == REFUSED(SKW_BAD_SIDES, 0));
+    s = THREE, s.ny = (size_t)-1;
+    EXPECT(check(&a, l, s) == REFUSED(SKW_BAD_SIDES, 0));
+    s.nx = s.ny = 128, s.nz = 17;
+    EXPECT(check(&a, l, s) == REFUSED(SKW_BAD_SIDES, 0));
+    s.nz = 16;
+    EXPECT(check(&a, l, s) == REFUSED(SKW_BAD_LENGTH, 0));
+    for (way = 0; way < WRONG_SET_LENGTHS; way += 1) {
+        EXPECT(check(&a, wrong_lengths(way), THREE) == REFUSED(SKW_BAD_LENGTH, 0));
+    }
+    EXPECT(check(&a, lengths_of(0), THREE) == REFUSED(SKW_BAD_LENGTH, 0));
+
+    case_t(&a), a.flags[26] = 4;
+    EXPECT(check(&a, l, THREE) == REFUSED(SKW_BAD_FLAG, 26));
+    a.flags[12] = SKW_EMPTY;
+    EXPECT(check(&a, l, THREE) == REFUSED(SKW_BAD_FLAG, 12));
+    case_t(&a), a.fills[MIDDLE] += 1;
+    EXPECT(check(&a, l, THREE) == REFUSED(SKW_BAD_STATE, MIDDLE));
+    case_t(&a), a.masses[5] = 1;
+    EXPECT(check(&a, l, THREE) == REFUSED(SKW_BAD_STATE, 5));
+    case_t(&a), a.masses[MIDDLE] = SKW_MASS_MOST, a.fills[MIDDLE] = SKW_FULL;
+    EXPECT(check(&a, l, THREE) == ACCEPTED);
+    a.masses[MIDDLE] += 1;
+    EXPECT(check(&a, l, THREE) == REFUSED(SKW_BAD_STATE, MIDDLE));
+    case_t(&a), a.carry[0] = -SKW_CARRY_MOST;
+    EXPECT(check(&a, l, THREE) == ACCEPTED);
+    a.carry[0] -= 1;
+    EXPECT(check(&a, l, THREE) == REFUSED(SKW_BAD_STATE, CELLS));
+    case_t(&a), a.flags[MIDDLE] = SKW_FLUID, a.masses[MIDDLE] = SKW_ONE, a.fills[MIDDLE] = SKW_FULL;
+    EXPECT(check(&a, l, THREE) == ACCEPTED);
+
+    row(&a);
+    EXPECT(check(&a, lengths_of(ROW), FIVE) == ACCEPTED);
+    open_row(&a);
+    EXPECT(check(&a, lengths_of(ROW), FIVE) == REFUSED(SKW_BAD_LAYER, ROW_FLUID));
+}
+
+static void test_step(const char *wanted)
+{
+    const struct lengths l = lengths_of(CELLS);
+    struct set a, b, kept, dirty;
+    struct settings g;
+    struct sides s;
+    uint8_t marks[ROOM];
+    char before[99], after[99], text[300];
+    int way, k;
+    case_t(&a), case_t(&kept), soil(&b), soil(&dirty);
+    memset(marks, 7, sizeof marks);
+
+    /* Case T. */
+    EXPECT(step(&a, l, &b, l, marks, THREE, FALLING) == ACCEPTED);
+    EXPECT(same(&a, &kept));
+    EXPECT(all(marks, CELLS, 0) && all(marks + CELLS, ROOM - CELLS, 7));
+    for (k = 0; k < SKW_PARTS; k += 1) {
+        /* Directions of weight 1 with z up, and with z down. */
+        const int up = k == 11 || k == 14 || k == 15 || k == 18, down = k == 12 || k == 13 || k == 16 || k == 17;
+        const int32_t old = a.parts[SKW_PARTS * MIDDLE + k], now = b.parts[SKW_PARTS * MIDDLE + k];
+        EXPECT(now == (k == 0 ? 196603 : k == 5 ? 32673 : k == 6 ? 32864 : up ? 16337 : down ? 16432 : old));
+        kept.parts[SKW_PARTS * MIDDLE + k] = now;
+    }
+    EXPECT(same_state(&b, &kept, CELLS));
+    EXPECT(b.flags[CELLS] == 0x5a && b.parts[SKW_PARTS * CELLS] == 0x5a5a5a5a && b.masses[CELLS] == 0x5a5a5a5a);
+    tally(&a, CELLS, before, sizeof before), tally(&b, CELLS, after, sizeof after);
+    snprintf(text, sizeof text, "before %s\nstep 0 0\nafter %s\n", before, after);
+    EXPECT(strcmp(text, wanted) == 0);
+    case_t(&kept);
+
+    /* Refused before the step: nothing is written. */
+    soil(&b), memset(marks, 7, sizeof marks);
+    s = THREE, s.nx = 0;
+    EXPECT(step(&a, l, &b, l, marks, s, FALLING) == REFUSED(SKW_BAD_SIDES, 0));
+    for (way = 0; way < WRONG_LENGTHS; way += 1) {
+        EXPECT(step(&a, l, &b, wrong_lengths(way), marks, THREE, FALLING) == REFUSED(SKW_BAD_LENGTH, 0));
+    }
+    for (way = 0; way < WRONG_SET_LENGTHS; way += 1) {
+        EXPECT(step(&a, wrong_lengths(way), &b, l, marks, THREE, FALLING) == REFUSED(SKW_BAD_LENGTH, 0));
+    }
+    g = FALLING, g.p = 0;
+    EXPECT(step(&a, l, &b, l, marks, THREE, g) == REFUSED(SKW_BAD_SETTING, 0));
+    g.p = SKW_P_MOST + 1;
+    EXPECT(step(&a, l, &b, l, marks, THREE, g) == REFUSED(SKW_BAD_SETTING, 0));
+    g = FALLING, g.gx = 35, g.gz = -1048;
+    EXPECT(step(&a, l, &b, l, marks, THREE, g) == REFUSED(SKW_BAD_SETTING, 0));
+    g.gx = INT64_MIN;
+    EXPECT(step(&a, l, &b, l, marks, THREE, g) == REFUSED(SKW_BAD_SETTING, 0));
+    a.flags[0] = SKW_FLUID;
+    EXPECT(step(&a, l, &b, l, marks, THREE, FALLING) == REFUSED(SKW_BAD_FLAG, 0));
+    open_row(&a);
+    EXPECT(step(&a, lengths_of(ROW), &b, lengths_of(ROW), marks, FIVE, FALLING) == REFUSED(SKW_BAD_LAYER, ROW_FLUID));
+    case_t(&a), a.carry[0] = INT64_MAX;
+    EXPECT(step(&a, l, &b, l, marks, THREE, FALLING) == REFUSED(SKW_BAD_STATE, CELLS));
+    case_t(&a);
+    EXPECT(same(&b, &dirty) && all(marks, ROOM, 7));
+    g = FALLING, g.gx = 34, g.gz = -1048;
+    EXPECT(step(&a, l, &b, l, marks, THREE, g) == ACCEPTED);
+
+    /* Refused on the way: the second set is a copy of the first. Water at the limit of speed is thrown back by the wall, and gravity
+       adds to it; and with p above 1024 it adds more than was tested. */
+    g.p = 1024, g.gx = -1024, g.gy = 0, g.gz = 0;
+    moving(&a, SKW_ONE / 3), soil(&b), memset(marks, 7, sizeof marks);
+    EXPECT(check(&a, l, THREE) == ACCEPTED);
+    EXPECT(step(&a, l, &b, l, marks, THREE, g) == REFUSED(SKW_BAD_FLOW, MIDDLE));
+    EXPECT(same_state(&a, &b, CELLS) && all(marks, CELLS, 0));
+    g.p = 1500, g.gx = 1048;
+    moving(&a, -196018), soil(&b), memset(marks, 7, sizeof marks);
+    EXPECT(step(&a, l, &b, l, marks, THREE, g) == REFUSED(SKW_BAD_NEXT, MIDDLE));
+    EXPECT(same_state(&a, &b, CELLS) && all(marks, CELLS, 0));
+}
+
+static void test_run(void)
+{
+    const struct lengths l = lengths_of(CELLS);
+    struct set a, b, kept, single, next, dirty;
+    struct settings g = FALLING;
+    struct sides s = THREE;
+    uint8_t marks[ROOM];
+    size_t count;
+    int way, made;
+    case_t(&a), case_t(&kept), soil(&b), soil(&dirty), memset(marks, 7, sizeof marks);
+
+    EXPECT(run(SKW_STEPS_MOST + 1, &a, l, &b, l, marks, THREE, FALLING, &count) == REFUSED(SKW_BAD_STEPS, 0) && count == 0);
+    s.ny = 129;
+    EXPECT(run(1, &a, l, &b, l, marks, s, FALLING, &count) == REFUSED(SKW_BAD_SIDES, 0) && count == 0);
+    for (way = 0; way < WRONG_LENGTHS; way += 1) {
+        EXPECT(run(1, &a, l, &b, wrong_lengths(way), marks, THREE, FALLING, &count) == REFUSED(SKW_BAD_LENGTH, 0) && count == 0);
+    }
+    for (way = 0; way < WRONG_SET_LENGTHS; way += 1) {
+        EXPECT(run(1, &a, wrong_lengths(way), &b, l, marks, THREE, FALLING, &count) == REFUSED(SKW_BAD_LENGTH, 0) && count == 0);
+    }
+    g.p = -1;
+    EXPECT(run(0, &a, l, &b, l, marks, THREE, g, &count) == REFUSED(SKW_BAD_SETTING, 0) && count == 0);
+    EXPECT(same(&a, &kept));
+    a.flags[1] = 9, kept = a;
+    EXPECT(run(3, &a, l, &b, l, marks, THREE, FALLING, &count) == REFUSED(SKW_BAD_FLAG, 1) && count == 0);
+    EXPECT(same(&a, &kept));
+    open_row(&a), kept = a;
+    EXPECT(run(0, &a, lengths_of(ROW), &b, lengths_of(ROW), marks, FIVE, FALLING, &count) == REFUSED(SKW_BAD_LAYER, ROW_FLUID));
+    EXPECT(same(&a, &kept) && count == 0);
+    case_t(&a), a.fills[0] = 1, kept = a;
+    EXPECT(run(3, &a, l, &b, l, marks, THREE, FALLING, &count) == REFUSED(SKW_BAD_STATE, 0) && count == 0);
+    EXPECT(same(&a, &kept) && same(&b, &dirty) && all(marks, ROOM, 7));
+    case_t(&a), case_t(&kept);
+
+    EXPECT(run(0, &a, l, &b, l, marks, THREE, FALLING, &count) == ACCEPTED && count == 0);
+    EXPECT(same(&a, &kept) && same_state(&a, &b, CELLS) && all(marks, CELLS, 0));
+
+    /* Five steps at once, and five single ones. */
+    EXPECT(run(5, &a, l, &b, l, marks, THREE, FALLING, &count) == ACCEPTED && count == 5);
+    case_t(&single);
+    for (made = 0; made < 5; made += 1) {
+        next = single;
+        EXPECT(step(&single, l, &next, l, marks, THREE, FALLING) == ACCEPTED);
+        single = next;
+    }
+    EXPECT(same_state(&a, &single, CELLS) && same_state(&b, &single, CELLS) && !same_state(&a, &kept, CELLS));
+
+    /* Stopped on the way, at the step that single steps stop at: the walls turn the water round at every step, so that gravity, hardly
+       taken over with p 1, brakes it at the first and pushes it past the limit at the second. */
+    g.p = 1, g.gx = 1048, g.gz = 0;
+    moving(&a, 196300), single = a, soil(&b), memset(marks, 7, sizeof marks);
+    for (made = 0; made < 50; made += 1) {
+        next = single;
+        if (step(&single, l, &next, l, marks, THREE, g) != ACCEPTED) {
+            break;
+        }
+        single = next;
+    }
+    EXPECT(made == 1);
+    EXPECT(run(50, &a, l, &b, l, marks, THREE, g, &count) == REFUSED(SKW_BAD_FLOW, MIDDLE));
+    EXPECT(count == (size_t)made);
+    EXPECT(same_state(&a, &single, CELLS) && same_state(&b, &single, CELLS) && all(marks, CELLS, 0));
+    EXPECT(run(SKW_STEPS_MOST, &a, l, &b, l, marks, THREE, FALLING, &count) == ACCEPTED && count == SKW_STEPS_MOST);
+}
+
+static int refused_head(const struct head *h)
+{
+    return h->s.nx == 0 && h->s.ny == 0 && h->s.nz == 0 && h->g.p == 0 && h->g.gx == 0 && h->g.gy == 0 && h->g.gz == 0 && h->t.edge == 0 &&
+           h->t.ox == 0 && h->t.oy == 0 && h->t.oz == 0 && h->flags_from == 0 && h->flags_to == 0;
+}
+
+static void test_read(const uint8_t *record)
+{
+    /* Where the counts of case T's seven sections stand. */
+    static const size_t counts[7] = {0, 16, 40, 68, 80, 111, 119};
+    const struct lengths l = lengths_of(CELLS);
+    struct set a, wanted, dirty;
+    struct head h;
+    uint8_t bytes[RECORD + 1], row_record[SKW_RECORD_BYTES(ROW, 1, 2)];
+    size_t length;
+    int way;
+    case_t(&wanted), soil(&a), soil(&dirty);
+
+    EXPECT(read_record(record, RECORD, &a, l, &h) == ACCEPTED);
+    EXPECT(h.s.nx == 3 && h.s.ny == 3 && h.s.nz == 3);
+    EXPECT(h.g.p == 1024 && h.g.gx == 0 && h.g.gy == 0 && h.g.gz == -1024);
+    EXPECT(h.t.edge == 50 && h.t.ox == 0 && h.t.oy == 0 && h.t.oz == 0);
+    EXPECT(h.flags_from == 84 && h.flags_to == 84 + CELLS);
+    memcpy(a.flags, record + h.flags_from, CELLS);
+    EXPECT(same_state(&a, &wanted, CELLS));
+
+    /* Cut at every byte, and with one byte left over. */
+    soil(&a);
+    for (length = 0, way = 0; length < RECORD; length += 1) {
+        way += way < 6 && length == counts[way + 1];
+        EXPECT(read_record(record, length, &a, l, &h) == REFUSED(SKW_BAD_END, counts[way]) && refused_head(&h));
+    }
+    memcpy(bytes, record, RECORD), bytes[RECORD] = 0;
+    EXPECT(read_record(bytes, RECORD + 1, &a, l, &h) == REFUSED(SKW_BAD_END, RECORD) && refused_head(&h));
+
+    /* A wrong count in each section. */
+    for (way = 0; way < 7; way += 1) {
+        memcpy(bytes, record, RECORD), bytes[counts[way]] ^= 128;
+        EXPECT(read_record(bytes, RECORD, &a, l, &h) == REFUSED(SKW_BAD_COUNT, way + 1) && refused_head(&h));
+    }
+    for (way = 0; way < WRONG_SET_LENGTHS; way += 1) {
+        /* The reader is lent no flags. */
+        EXPECT(read_record(record, RECORD, &a, wrong_lengths(way), &h) == (way < 2 ? ACCEPTED : REFUSED(SKW_BAD_LENGTH, 0)));
+        EXPECT(way < 2 || refused_head(&h));
+        soil(&a);
+    }
+    memcpy(bytes, record, RECORD), bytes[4] = 2;
+    EXPECT(read_record(bytes, RECORD, &a, lengths_of(0), &h) == REFUSED(SKW_BAD_SIDES, 0) && refused_head(&h));
+    memcpy(bytes, record, RECORD), bytes[36] = 0;
+    EXPECT(read_record(bytes, RECORD, &a, l, &h) == REFUSED(SKW_BAD_SETTING, 0) && refused_head(&h));
+    memcpy(bytes, record, RECORD), bytes[84 + 20] = SKW_EMPTY;
+    EXPECT(read_record(bytes, RECORD, &a, l, &h) == REFUSED(SKW_BAD_FLAG, 20) && refused_head(&h));
+    memcpy(bytes, record, RECORD), bytes[118] = 127;
+    EXPECT(read_record(bytes, RECORD, &a, l, &h) == REFUSED(SKW_BAD_STATE, MIDDLE) && refused_head(&h));
+    EXPECT(same(&a, &dirty));
+
+    row(&wanted);
+    EXPECT(write_record(FIVE, FALLING, CORNER, &wanted, lengths_of(ROW), row_record, sizeof row_record, &length) == ACCEPTED);
+    EXPECT(read_record(row_record, length, &a, lengths_of(ROW), &h) == ACCEPTED);
+    memcpy(a.flags, row_record + h.flags_from, ROW);
+    EXPECT(h.flags_to == 84 + ROW && same_state(&a, &wanted, ROW));
+    soil(&a), row_record[84 + ROW_FLUID + 1] = SKW_EMPTY, row_record[84 + ROW_FLUID + 2] = SKW_INTERFACE;
+    EXPECT(read_record(row_record, length, &a, lengths_of(ROW), &h) == REFUSED(SKW_BAD_LAYER, ROW_FLUID) && refused_head(&h));
+    EXPECT(same(&a, &dirty));
+}
+
+static void test_write(const uint8_t *record)
+{
+    const struct lengths l = lengths_of(CELLS);
+    struct set a;
+    struct sides s = THREE;
+    struct settings g = FALLING;
+    struct site t = CORNER;
+    uint8_t room[SKW_RECORD_BYTES_MOST(CELLS)];
+    size_t bytes;
+    int way;
+    case_t(&a), memset(room, 7, sizeof room);
+
+    EXPECT(SKW_RECORD_BYTES(CELLS, 1, 1) == RECORD);
+    EXPECT(write_record(THREE, FALLING, CORNER, &a, l, room, RECORD - 1, &bytes) == REFUSED(SKW_BAD_ROOM, RECORD) && bytes == 0);
+    EXPECT(write_record(THREE, FALLING, CORNER, &a, l, room, 0, &bytes) == REFUSED(SKW_BAD_ROOM, RECORD) && bytes == 0);
+    s.nz = 2;
+    EXPECT(write_record(s, FALLING, CORNER, &a, l, room, sizeof room, &bytes) == REFUSED(SKW_BAD_SIDES, 0) && bytes == 0);
+    for (way = 0; way < WRONG_SET_LENGTHS; way += 1) {
+        EXPECT(write_record(THREE, FALLING, CORNER, &a, wrong_lengths(way), room, sizeof room, &bytes) == REFUSED(SKW_BAD_LENGTH, 0));
+        EXPECT(bytes == 0);
+    }
+    t.edge = SKW_EDGE_MOST + 1;
+    EXPECT(write_record(THREE, FALLING, t, &a, l, room, sizeof room, &bytes) == REFUSED(SKW_BAD_SETTING, 0) && bytes == 0);
+    t = CORNER, t.oy = SKW_COORDINATE_MOST + 1;
+    EXPECT(write_record(THREE, FALLING, t, &a, l, room, sizeof room, &bytes) == REFUSED(SKW_BAD_SETTING, 0) && bytes == 0);
+    g.gy = 1049;
+    EXPECT(write_record(THREE, g, CORNER, &a, l, room, sizeof room, &bytes) == REFUSED(SKW_BAD_SETTING, 0) && bytes == 0);
+    a.flags[MIDDLE] = 4;
+    EXPECT(write_record(THREE, FALLING, CORNER, &a, l, room, sizeof room, &bytes) == REFUSED(SKW_BAD_FLAG, MIDDLE) && bytes == 0);
+    open_row(&a);
+    EXPECT(write_record(FIVE, FALLING, CORNER, &a, lengths_of(ROW), room, sizeof room, &bytes) == REFUSED(SKW_BAD_LAYER, ROW_FLUID));
+    EXPECT(bytes == 0);
+    case_t(&a), a.masses[0] = 1;
+    EXPECT(write_record(THREE, FALLING, CORNER, &a, l, room, sizeof room, &bytes) == REFUSED(SKW_BAD_STATE, 0) && bytes == 0);
+    EXPECT(all(room, sizeof room, 7));
+
+    case_t(&a);
+    EXPECT(write_record(THREE, FALLING, CORNER, &a, l, room, sizeof room, &bytes) == ACCEPTED && bytes == RECORD);
+    EXPECT(memcmp(room, record, RECORD) == 0 && all(room + RECORD, sizeof room - RECORD, 7));
+    EXPECT(write_record(THREE, FALLING, CORNER, &a, l, room, RECORD, &bytes) == ACCEPTED && bytes == RECORD);
+}
+
+static void test_place(void)
+{
+    const int64_t far = (int64_t)52 * 100000000;
+    struct sides s = {10, 3, 4};
+    struct site t = {50, 0, 0, 0};
+    size_t cell;
+    t.ox = t.oy = t.oz = far;
+
+    EXPECT(place_point(s, t, far, far, far, &cell) == ACCEPTED && cell == 0);
+    EXPECT(place_point(s, t, far + 149, far, far, &cell) == ACCEPTED && cell == 2);
+    EXPECT(place_point(s, t, far + 150, far, far, &cell) == ACCEPTED && cell == 3);
+    EXPECT(place_point(s, t, far + 499, far + 149, far + 199, &cell) == ACCEPTED && cell == 9 + 10 * (2 + 3 * 3));
+    EXPECT(place_point(s, t, far - 1, far, far, &cell) == REFUSED(SKW_OUTSIDE, 0) && cell == 0);
+    EXPECT(place_point(s, t, far, far + 150, far, &cell) == REFUSED(SKW_OUTSIDE, 0) && cell == 0);
+    EXPECT(place_point(s, t, far, far, SKW_COORDINATE_MOST, &cell) == REFUSED(SKW_OUTSIDE, 0) && cell == 0);
+    EXPECT(place_point(s, t, far, far, SKW_COORDINATE_MOST + 1, &cell) == REFUSED(SKW_BAD_SETTING, 0) && cell == 0);
+    EXPECT(place_point(s, t, INT64_MIN, far, far, &cell) == REFUSED(SKW_BAD_SETTING, 0) && cell == 0);
+    t.edge = 0;
+    EXPECT(place_point(s, t, far, far, far, &cell) == REFUSED(SKW_BAD_SETTING, 0) && cell == 0);
+    t.edge = 50, t.oz = -SKW_COORDINATE_MOST - 1;
+    EXPECT(place_point(s, t, far, far, far, &cell) == REFUSED(SKW_BAD_SETTING, 0) && cell == 0);
+    s.ny = 2;
+    EXPECT(place_point(s, t, far, far, far, &cell) == REFUSED(SKW_BAD_SIDES, 0) && cell == 0);
+}
+
+static int nothing(const float answer[4])
+{
+    return answer[0] == 0 && answer[1] == 0 && answer[2] == 0 && answer[3] == 0;
+}
+
+static void test_point(void)
+{
+    struct sides s = {3, 4, 5};
+    uint32_t fills[60];
+    float answer[4];
+    memset(fills, 0, sizeof fills);
+    fills[1 + 3 * (2 + 4 * 3)] = 65535;
+
+    EXPECT(point(s, fills, 60, 1 + 3 * (2 + 4 * 3), answer) == ACCEPTED);
+    EXPECT(answer[0] == 1.5f && answer[1] == 2.5f && answer[2] == 3.5f && answer[3] == 65535.0f / 65536.0f);
+    EXPECT(point(s, fills, 60, 59, answer) == ACCEPTED);
+    EXPECT(answer[0] == 2.5f && answer[1] == 3.5f && answer[2] == 4.5f && answer[3] == 0);
+    EXPECT(point(s, fills, 60, 60, answer) == REFUSED(SKW_OUTSIDE, 0) && nothing(answer));
+    EXPECT(point(s, fills, 60, (size_t)-1, answer) == REFUSED(SKW_OUTSIDE, 0) && nothing(answer));
+    EXPECT(point(s, fills, 59, 0, answer) == REFUSED(SKW_BAD_LENGTH, 0) && nothing(answer));
+    fills[59] = SKW_FULL + 1;
+    EXPECT(point(s, fills, 60, 59, answer) == REFUSED(SKW_BAD_STATE, 59) && nothing(answer));
+    EXPECT(point(s, fills, 60, 58, answer) == ACCEPTED);
+    s.nx = 1;
+    EXPECT(point(s, fills, 60, 0, answer) == REFUSED(SKW_BAD_SIDES, 0) && nothing(answer));
+}
+
+static void test_depth(void)
+{
+    const struct sides s = {3, 4, 5};
+    const struct sides none = {0, 0, 0};
+    const size_t foot = 1 + 3 * 2, layer = 12;
+    struct set a;
+    float deep;
+    int kind;
+    memset(&a, 0, sizeof a), memset(a.flags, SKW_WALL, 60);
+
+    EXPECT(depth(s, &a, 60, 60, 1, 2, &kind, &deep) == ACCEPTED && kind == SKW_DEPTH_SOLID && deep == 0);
+    a.flags[foot + 2 * layer] = SKW_EMPTY;
+    EXPECT(depth(s, &a, 60, 60, 1, 2, &kind, &deep) == ACCEPTED && kind == SKW_DEPTH_DRY && deep == 0);
+    a.flags[foot + layer] = SKW_FLUID, a.fills[foot + layer] = SKW_FULL, a.flags[foot + 2 * layer] = SKW_INTERFACE;
+    a.fills[foot + 2 * layer] = 16384;
+    EXPECT(depth(s, &a, 60, 60, 1, 2, &kind, &deep) == ACCEPTED && kind == SKW_DEPTH_DEEP && deep == 1.25f);
+    EXPECT(depth(s, &a, 60, 60, 3, 2, &kind, &deep) == REFUSED(SKW_OUTSIDE, 0) && kind == SKW_DEPTH_REFUSED && deep == 0);
+    EXPECT(depth(s, &a, 60, 60, 1, 4, &kind, &deep) == REFUSED(SKW_OUTSIDE, 0) && kind == SKW_DEPTH_REFUSED && deep == 0);
+    EXPECT(depth(s, &a, 59, 60, 1, 2, &kind, &deep) == REFUSED(SKW_BAD_LENGTH, 0) && kind == SKW_DEPTH_REFUSED && deep == 0);
+    EXPECT(depth(s, &a, 60, 61, 1, 2, &kind, &deep) == REFUSED(SKW_BAD_LENGTH, 0) && kind == SKW_DEPTH_REFUSED && deep == 0);
+    EXPECT(depth(none, &a, 60, 60, 1, 2, &kind, &deep) == REFUSED(SKW_BAD_SIDES, 0) && kind == SKW_DEPTH_REFUSED && deep == 0);
+    a.fills[foot] = SKW_FULL + 1;
+    EXPECT(depth(s, &a, 60, 60, 1, 2, &kind, &deep) == REFUSED(SKW_BAD_STATE, foot) && kind == SKW_DEPTH_REFUSED && deep == 0);
+    a.flags[foot + 4 * layer] = 4;
+    EXPECT(depth(s, &a, 60, 60, 1, 2, &kind, &deep) == REFUSED(SKW_BAD_FLAG, foot + 4 * layer) && kind == SKW_DEPTH_REFUSED && deep == 0);
+    EXPECT(depth(s, &a, 60, 60, 1, 1, &kind, &deep) == ACCEPTED && kind == SKW_DEPTH_SOLID && deep == 0);
+}
+
+/* A file of at most so many bytes; its length, or one more than fits. */
+static size_t contents(const char *name, void *bytes, size_t room)
+{
+    FILE *file = fopen(name, "rb");
+    size_t length;
+    if (file == NULL) {
+        perror(name);
+        exit(2);
+    }
+    length = fread(bytes, 1, room, file);
+    if (length == room && fgetc(file) != EOF) {
+        length += 1;
+    }
+    fclose(file);
+    return length;
+}
+
+int main(int count, char **words)
+{
+    uint8_t record[RECORD];
+    char text[300];
+    size_t length;
+    if (count != 3) {
+        fprintf(stderr, "usage: calls RECORD TEXT: case T's record, and what gridstep prints for it\n");
+        return 2;
+    }
+    EXPECT(contents(words[1], record, sizeof record) == RECORD);
+    length = contents(words[2], text, sizeof text - 1);
+    EXPECT(length < sizeof text);
+    text[length < sizeof text ? length : 0] = 0;
+
+    test_check();
+    test_step(text);
+    test_run();
+    test_read(record);
+    test_write(record);
+    test_place();
+    test_point();
+    test_depth();
+    printf("header (%s): %d expectations, %d failed\n", LANGUAGE, tried, failed);
+    return failed != 0;
+}
