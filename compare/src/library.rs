@@ -3,7 +3,8 @@
 
 mod calls;
 mod cases;
-#[path = "library/raw.rs"]
+// One extern block for all who call the library.
+#[path = "../../bindings/rust/src/raw.rs"]
 mod raw;
 mod reference;
 

@@ -1,6 +1,7 @@
 // The whole of document 01 once more, by another hand: what the delivered code is compared with.
 
 pub mod damage;
+pub mod drawing;
 pub mod grid;
 pub mod hunt;
 pub mod lattice;

@@ -6,12 +6,15 @@ use std::process::ExitCode;
 use std::time::Instant;
 
 use oracle::damage::bad;
+use oracle::drawing::{drawn, section};
+use oracle::grid::Grid;
 use oracle::hunt::{hunt, EVENTS};
+use oracle::record::read_within;
 use oracle::scenes::good;
-use oracle::text::{gridread, gridrun, gridstep, requests, GRIDSTEP_BYTES};
+use oracle::text::{gridread, gridrun, gridstep, refused_record, requests, water, GRIDSTEP_BYTES};
 
 const USAGE: &str = "usage: oracle gridstep | gridrun K | gridread (place X Y Z | point C | depth X Y)... \
-| make good|bad SEED | batch good|bad FROM TO DIR (TO itself left out) | hunt SEEDS STEPS";
+| water | show | draw | make good|bad SEED | batch good|bad FROM TO DIR (TO itself left out) | hunt SEEDS STEPS";
 
 /// The record of a kind and a seed.
 type Maker = fn(u64) -> Vec<u8>;
@@ -53,6 +56,13 @@ fn hunted(seeds: u64, steps: u32) -> ExitCode {
     }
 }
 
+/// A record's section, or its refusal.
+fn shown(bytes: &[u8]) -> String {
+    let read = read_within(bytes, usize::MAX);
+    let drawn = read.and_then(|(reading, _)| Ok(section(&Grid::new(reading.sides)?, reading.flags)));
+    drawn.unwrap_or_else(refused_record)
+}
+
 /// Does what the arguments ask; none where they ask for nothing.
 fn obey(arguments: &[&str]) -> Option<std::io::Result<ExitCode>> {
     Some(match arguments {
@@ -66,6 +76,12 @@ fn obey(arguments: &[&str]) -> Option<std::io::Result<ExitCode>> {
             let requests = requests(rest)?;
             input(u64::MAX).and_then(|bytes| print(gridread(&bytes, &requests).as_bytes()))
         }
+        ["water"] => input(u64::MAX).and_then(|bytes| print(water(&bytes).as_bytes())),
+        ["show"] => input(u64::MAX).and_then(|bytes| print(shown(&bytes).as_bytes())),
+        ["draw"] => input(u64::MAX).and_then(|text| match drawn(&String::from_utf8_lossy(&text)) {
+            Ok(scene) => print(&scene.record()),
+            Err(wrong) => Err(std::io::Error::other(wrong)),
+        }),
         ["make", kind, seed] => print(&maker(kind)?(seed.parse().ok()?)),
         ["batch", kind, from, to, folder] => {
             let (make, from, to): (_, u64, u64) = (maker(kind)?, from.parse().ok()?, to.parse().ok()?);

@@ -17,7 +17,8 @@ pub const GRIDSTEP_ROOM: usize = 862;
 /// The most cells gridrun and gridread have room for.
 pub const ROOM: usize = 4096;
 
-fn refused_record(refusal: Refusal) -> String {
+/// The one line of a refused record.
+pub fn refused_record(refusal: Refusal) -> String {
     format!("record {} {}\n", refusal.number, refusal.place)
 }
 
@@ -31,6 +32,20 @@ fn tally(set: Set) -> String {
     let total = State::of(set).total();
     let [fluid, interface, empty, wall] = [FLUID, INTERFACE, EMPTY, WALL].map(count);
     format!("{fluid} {interface} {empty} {wall} {total} {}", set.carry[0])
+}
+
+/// Where a record's water is, in the unit of its masses: in fluid cells, in interface cells, the carry, and all together.
+pub fn water(bytes: &[u8]) -> String {
+    let (reading, store) = match read_within(bytes, usize::MAX) {
+        Ok(accepted) => accepted,
+        Err(refusal) => return refused_record(refusal),
+    };
+    let within = |wanted: u8| -> i128 {
+        let cells = reading.flags.iter().zip(&store.masses).filter(|(flag, _)| **flag == wanted);
+        cells.map(|(_, &mass)| i128::from(mass)).sum()
+    };
+    let (fluid, interface, carry) = (within(FLUID), within(INTERFACE), i128::from(store.carry[0]));
+    format!("{fluid} {interface} {carry} {}\n", fluid + interface + carry)
 }
 
 /// gridstep's whole output for the bytes on its standard input.
