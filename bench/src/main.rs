@@ -56,9 +56,9 @@ fn wish(mut words: impl Iterator<Item = String>) -> Result<Wish, String> {
 }
 
 /// Holds the engines to the oracle on random states.
-fn compare_random(engines: &[(Engine, Inputs)], seeds: u64) -> Result<(), String> {
-    for &(engine, inputs) in engines {
-        let tally = hunt(engine, 0..seeds, 6, inputs)?;
+fn compare_random(engines: &[Engine], seeds: u64) -> Result<(), String> {
+    for &engine in engines {
+        let tally = hunt(engine, 0..seeds, 6, Inputs::Any)?;
         println!(
             "identical   {} and the oracle: {} random steps accepted, {} refused, {} runs",
             engine.name,
@@ -71,14 +71,14 @@ fn compare_random(engines: &[(Engine, Inputs)], seeds: u64) -> Result<(), String
 }
 
 /// Holds the engines to the oracle on a scene's first step, and on the step from the state that is timed.
-fn compare_scene(engines: &[(Engine, Inputs)], scene: &Scene) -> Result<(), String> {
+fn compare_scene(engines: &[Engine], scene: &Scene) -> Result<(), String> {
     let start = Case::of_scene(scene);
     let mut warm = start.clone();
     let ran = warm.run(PLAIN, WARM_UP);
     if ran.answer != ACCEPTED {
         return Err(format!("refused before it can be timed: {ran:?}"));
     }
-    for &(engine, _) in engines {
+    for &engine in engines {
         for case in [&start, &Case::of(scene.sides, scene.settings, &warm.first)] {
             same_step(engine, ORACLE, case)?;
         }
@@ -91,10 +91,10 @@ fn total(store: &Store) -> i128 {
 }
 
 /// Runs a scene in whole numbers, the engines held to each other, and in f32: what water is left.
-fn count_water(engines: &[(Engine, Inputs)], scene: &Scene, steps: usize) -> Result<Totals, String> {
+fn count_water(engines: &[Engine], scene: &Scene, steps: usize) -> Result<Totals, String> {
     let start = Case::of_scene(scene);
-    let (first, _) = engines[0];
-    let (last, _) = engines[engines.len() - 1];
+    let first = engines[0];
+    let last = engines[engines.len() - 1];
     let (ran, after) = same_run(first, last, &start, steps)?;
     let mut float = FloatStore::of(&scene.store);
     let float_start = float.total();
@@ -115,9 +115,8 @@ fn count_water(engines: &[(Engine, Inputs)], scene: &Scene, steps: usize) -> Res
 
 fn bench(wish: &Wish) -> Result<(), String> {
     let proved = native::proved();
-    report::machine(proved.map(|(engine, _)| engine));
-    let engines: Vec<(Engine, Inputs)> = proved.into_iter().chain([(PLAIN, Inputs::Any)]).collect();
-    let names: Vec<Engine> = engines.iter().map(|(engine, _)| *engine).collect();
+    report::machine(proved);
+    let engines: Vec<Engine> = proved.into_iter().chain([PLAIN]).collect();
 
     compare_random(&engines, wish.seeds)?;
     let all: Vec<Scene> = wish.sides.iter().flat_map(|&side| scenes::all(side)).collect();
@@ -128,19 +127,19 @@ fn bench(wish: &Wish) -> Result<(), String> {
         totals.push(count_water(&engines, scene, wish.steps).map_err(named)?);
     }
     println!("identical   each of them and the oracle: every scene's first step, and its step from the state that is timed");
-    if names.len() > 1 {
-        println!("identical   {} and {}: every buffer after the runs below", names[0].name, PLAIN.name);
+    if engines.len() > 1 {
+        println!("identical   {} and {}: every buffer after the runs below", engines[0].name, PLAIN.name);
     }
     println!();
     report::totals(&totals);
 
-    let measured: Vec<_> = all.iter().flat_map(|scene| measure(scene, &names, wish.effort)).collect();
+    let measured: Vec<_> = all.iter().flat_map(|scene| measure(scene, &engines, wish.effort)).collect();
     report::speeds(&measured);
 
     let largest = wish.growth_sides[wish.growth_sides.len() - 1];
-    let over_cells = growth::over_cells(&names, &wish.growth_sides, wish.effort);
-    let over_share = growth::over_share(&names, largest, wish.effort);
-    report::growth(&names, &over_cells, &over_share);
+    let over_cells = growth::over_cells(&engines, &wish.growth_sides, wish.effort);
+    let over_share = growth::over_share(&engines, largest, wish.effort);
+    report::growth(&engines, &over_cells, &over_share);
 
     match totals.iter().find(|row| row.lost != 0) {
         Some(row) => Err(format!("{}, side {}: {} units lost", row.scene, row.side, row.lost)),

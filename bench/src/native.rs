@@ -1,24 +1,61 @@
-// The proved library's step and run as Rust calls them; which functions it exports is said in one file each.
+// The proved library's step and run, called as a host calls them: through the Rust wrapper of bindings/rust, over lent slices.
 
 use crate::engine::Engine;
-use crate::identical::Inputs;
 
-#[cfg(exports = "host")]
-#[path = "native/host.rs"]
-mod exports;
-
-// Stands in for crates/host until that exists: the same two functions over what the speed study exports.
-#[cfg(exports = "study")]
-#[path = "native/study.rs"]
-mod exports;
-
-/// The proved step and run, if bench/run linked a library, and the inputs on which it keeps document 01.
-#[cfg(linked)]
-pub fn proved() -> Option<(Engine, Inputs)> {
-    Some((Engine { name: exports::NAME, step: exports::step, run: exports::run }, exports::INPUTS))
+/// The proved step and run, if bench/run linked the library.
+#[cfg(feature = "library")]
+pub fn proved() -> Option<Engine> {
+    Some(Engine { name: "proved", step: linked::step, run: linked::run })
 }
 
-#[cfg(not(linked))]
-pub fn proved() -> Option<(Engine, Inputs)> {
+#[cfg(not(feature = "library"))]
+pub fn proved() -> Option<Engine> {
     None
+}
+
+#[cfg(feature = "library")]
+mod linked {
+    use oracle::{Set, SetMut};
+    use skwarzyna::{lent, Refusal, State, StateMut};
+
+    use crate::engine::{Answer, Ran, Settings, ACCEPTED};
+
+    fn sides([nx, ny, nz]: [usize; 3]) -> skwarzyna::Sides {
+        skwarzyna::Sides { nx, ny, nz }
+    }
+
+    fn settings(Settings { p, gravity: [gx, gy, gz] }: Settings) -> skwarzyna::Settings {
+        skwarzyna::Settings { p, gx, gy, gz }
+    }
+
+    fn state(Set { flags, parts, masses, fills, carry }: Set) -> State {
+        State { flags, parts, masses, fills, carry }
+    }
+
+    fn state_mut(SetMut { flags, parts, masses, fills, carry }: SetMut) -> StateMut {
+        StateMut { flags, parts, masses, fills, carry }
+    }
+
+    fn refused(refusal: Refusal) -> Answer {
+        Answer { number: refusal.number, place: refusal.place }
+    }
+
+    pub fn step(size: [usize; 3], wish: Settings, first: Set, second: SetMut, marks: &mut [u8]) -> Answer {
+        lent::step(sides(size), settings(wish), state(first), state_mut(second), marks)
+            .map_or_else(refused, |()| ACCEPTED)
+    }
+
+    pub fn run(
+        size: [usize; 3],
+        wish: Settings,
+        steps: usize,
+        first: SetMut,
+        second: SetMut,
+        marks: &mut [u8],
+    ) -> Ran {
+        match lent::run(sides(size), settings(wish), steps, state_mut(first), state_mut(second), marks) {
+            Ok(()) => Ran { count: steps, answer: ACCEPTED },
+            Err(stopped) => Ran { count: stopped.count, answer: refused(stopped.refusal) },
+        }
+    }
 }
