@@ -3,9 +3,9 @@
 mod answers;
 pub mod check;
 pub mod depth;
+pub mod many_steps;
+pub mod one_step;
 pub mod place;
 pub mod point;
 pub mod read;
-pub mod run;
-pub mod step;
 pub mod write;

@@ -1,9 +1,9 @@
--- `host::step::skw_step`: the step's own promise, its answer told as number and place. Assumes nothing.
+-- `host::one_step::skw_step`: the step's own promise, its answer told as number and place. Assumes nothing.
 use borrow.Author.Needs.{needs}
 use Rattle.host.proofs.Returned.{settings-back}
 use Rattle.host.proofs.Told.{step-told}
-use Rattle.host.proofs.step.skw_step.Statement.{statement}
-use Rattle.host.proofs.step.skw_step.Tie as tie
+use Rattle.host.proofs.one_step.skw_step.Statement.{statement}
+use Rattle.host.proofs.one_step.skw_step.Tie as tie
 
 step-requires : tie.Need-step-requires
 step-requires c κs = search needs

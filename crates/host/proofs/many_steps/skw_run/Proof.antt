@@ -1,9 +1,9 @@
--- `host::run::skw_run`: the run's own promise, its answer told as number and place. Assumes nothing.
+-- `host::many_steps::skw_run`: the run's own promise, its answer told as number and place. Assumes nothing.
 use borrow.Author.Needs.{needs}
 use Rattle.host.proofs.Returned.{settings-back}
 use Rattle.host.proofs.Told.{run-told}
-use Rattle.host.proofs.run.skw_run.Statement.{statement}
-use Rattle.host.proofs.run.skw_run.Tie as tie
+use Rattle.host.proofs.many_steps.skw_run.Statement.{statement}
+use Rattle.host.proofs.many_steps.skw_run.Tie as tie
 
 run-requires : tie.Need-run-requires
 run-requires c κs = search needs
