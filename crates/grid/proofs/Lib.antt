@@ -20,6 +20,7 @@ pub mod Lists
 pub mod Walls
 pub mod Inside
 pub mod Open
+pub mod Rows
 pub mod Beside
 pub mod Prepared
 pub mod Blocks

@@ -2,7 +2,7 @@
 -- marks. Assumes nothing.
 use Prim.Native.Nat.{ℕ, _+_, _<_, _≤_}
 use mathlib.Core.Path.{_≡_}
-use mathlib.Core.Bool.{Bool, true, _&&_, _||_, not, cond}
+use mathlib.Core.Bool.{Bool, true, false, _&&_, _||_, not, cond}
 use mathlib.Core.List.{List, [], _∷_}
 use lib.IntN.{ℤ, pos}
 use lib.Dec.{leb, ltb, eqb}
@@ -14,7 +14,7 @@ use Rattle.grid.specs.declared.layer.Place.{Place}
 use Rattle.grid.specs.Grid.{cellAt, atEnd, toward, cellsOf, sidesGood, gridOf}
 use Rattle.grid.specs.State.{Lent}
 use Rattle.grid.specs.Step.{flagAfter}
-use Rattle.grid.specs.Good.{badFlag}
+use Rattle.grid.specs.Good.{flagGood, badFlag}
 
 -- the lowest cell that is not in the outer layer
 unfoldable pub lowOf : Sides → ℕ
@@ -58,6 +58,17 @@ placeAfter s p =
 -- whether a cell that stands there is in the outer layer
 unfoldable pub outerAt : Sides → Place → Bool
 outerAt s p = atEnd (s .nx) (p .x) || atEnd (s .ny) (p .y) || atEnd (s .nz) (p .z)
+
+-- a row begins at cell c, which stands at p
+pub record RowAt (s : Sides) (c : ℕ) (p : Place) : Type 0 where
+  pub stands : Stands s c p
+  pub first : p .x ≡ 0
+
+-- x is the first cell of the row at c that breaks test 4's rule, nx if none does
+pub record FirstInRow (s : Sides) (flags : List ℕ) (c x : ℕ) : Type 0 where
+  pub most : x ≤ s .nx
+  pub before : (k : ℕ) → k < x → not (flagGood (gridOf s) (λ c. getD flags c 3) (c + k)) ≡ false
+  pub here : x < s .nx → not (flagGood (gridOf s) (λ c. getD flags c 3) (c + x)) ≡ true
 
 -- ---- flags that passed test 4
 

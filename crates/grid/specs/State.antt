@@ -16,6 +16,10 @@ pub record Lent : Type 0 where
   pub fills : List ℕ
   pub carry : List ℤ
 
+-- five slices' contents as a set
+abbrev pub lent : List ℕ → List ℤ → List ℤ → List ℕ → List ℤ → Lent
+lent flags parts masses fills carry = record { flags = flags; parts = parts; masses = masses; fills = fills; carry = carry }
+
 -- the state that it holds, cell by cell
 pub record State : Type 0 where
   pub flag : ℕ → ℕ

@@ -2,11 +2,12 @@
 use crate::Sides;
 ghost use mathlib.Core.Path.{_≡_};
 ghost use mathlib.Core.Bool.{true, not, _&&_, _||_};
+ghost use Prim.Native.Nat.{_<_};
 ghost use lib.Dec.{ltb, eqb};
 ghost use lib.ListN.{length, getD};
 ghost use Rattle.grid.specs.Grid.{sidesGood, cellsOf, gridOf};
 ghost use Rattle.grid.specs.Good.{badFlag};
-ghost use Rattle.grid.specs.Passes.{Of, placeAfter, outerAt};
+ghost use Rattle.grid.specs.Passes.{Of, placeAfter, outerAt, RowAt, FirstInRow};
 
 // A cell's coordinates.
 pub struct Place {
@@ -61,7 +62,27 @@ fn bad_flag(f: u8, p: Place, s: Sides) -> bool
     (f != 3) & outer(p, s)
 }
 
-// The lowest cell whose flag is above 3, or that is outer and not wall; N if there is none.
+// The first cell of the row at c whose flag is above 3, or that is outer and not wall; nx if there is none.
+fn first_in_row(flags: &[u8], c: usize, p: Place, s: Sides) -> usize
+    requires { ⌜ (sidesGood s ≡ true) × (length (now flags) ≡ cellsOf s) × (c < length (now flags)) × RowAt s c p ⌝ }
+    ensures { λ r. ⌜ FirstInRow s (now (flags .entry)) c r ⌝ }
+{
+    let mut x = 0;
+    while x < s.nx {
+        let q = Place {
+            x: x,
+            y: p.y,
+            z: p.z,
+        };
+        if bad_flag(flags[c + x], q, s) {
+            return x;
+        }
+        x += 1;
+    }
+    x
+}
+
+// The lowest cell whose flag is above 3, or that is outer and not wall; N if there is none. Row by row: where a row lies is asked once.
 pub fn first_bad_flag(flags: &[u8], s: Sides) -> usize
     requires { ⌜ (sidesGood s ≡ true) × (length (now flags) ≡ cellsOf s) ⌝ }
     ensures { λ r. ⌜ r ≡ badFlag (gridOf s) (λ c. getD (now (flags .entry)) c 3) ⌝ }
@@ -69,11 +90,17 @@ pub fn first_bad_flag(flags: &[u8], s: Sides) -> usize
     let mut p = Place { x: 0, y: 0, z: 0 };
     let mut c = 0;
     while c < flags.len() {
-        if bad_flag(flags[c], p, s) {
-            return c;
+        let x = first_in_row(flags, c, p, s);
+        if x < s.nx {
+            return c + x;
         }
-        p = after(p, s);
-        c += 1;
+        let q = Place {
+            x: s.nx - 1,
+            y: p.y,
+            z: p.z,
+        };
+        p = after(q, s);
+        c += s.nx;
     }
     c
 }

@@ -3,7 +3,7 @@ use crate::answers::number_of;
 use crate::answers::place_of;
 use grid::Sides;
 use grid::checking;
-ghost use Rattle.run.specs.Turns.{lent};
+ghost use Rattle.grid.specs.State.{lent};
 ghost use Rattle.host.specs.Promise.{sidesOf, CheckTold};
 
 // The check of one lent set.

@@ -4,7 +4,7 @@ use crate::answers::place_of;
 use grid::Sides;
 use lattice::Settings;
 use step::stepping;
-ghost use Rattle.run.specs.Turns.{lent};
+ghost use Rattle.grid.specs.State.{lent};
 ghost use Rattle.host.specs.Promise.{sidesOf, settingsOf, StepTold};
 
 // One step from the first set to the second.

@@ -5,7 +5,7 @@ use grid::Sides;
 use lattice::Settings;
 use record::Site;
 use record::writer;
-ghost use Rattle.run.specs.Turns.{lent};
+ghost use Rattle.grid.specs.State.{lent};
 ghost use Rattle.host.specs.Promise.{sidesOf, settingsOf, siteOf, WriteTold};
 
 // The record of a grid, from the front of the room.

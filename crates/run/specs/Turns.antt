@@ -13,10 +13,6 @@ use Rattle.grid.specs.State.{Lent}
 use Rattle.grid.specs.Outcome.{ran}
 use Rattle.grid.specs.Halfway.{Advanced}
 
--- five slices' contents as a set
-abbrev pub lent : List ℕ → List ℤ → List ℤ → List ℕ → List ℤ → Lent
-lent flags parts masses fills carry = record { flags = flags; parts = parts; masses = masses; fills = fills; carry = carry }
-
 -- the set that holds the state reached, and the other one, which the next turn writes
 abbrev pub here : Bool → Lent → Lent → Lent
 here back a b = cond back b a

@@ -10,7 +10,8 @@ ghost use mathlib.Core.Path.{_≡_};
 ghost use Rattle.grid.specs.Outcome.{runEntry};
 ghost use Rattle.grid.specs.Promise.{RanTo};
 ghost use Rattle.grid.specs.Halfway.{Alike, Stepping};
-ghost use Rattle.run.specs.Turns.{lent, here, there, Crossed, Evened, Went};
+ghost use Rattle.grid.specs.State.{lent};
+ghost use Rattle.run.specs.Turns.{here, there, Crossed, Evened, Went};
 
 // How far a run came: the number of leading accepted steps, and the refusal that stopped it.
 pub struct Ran {

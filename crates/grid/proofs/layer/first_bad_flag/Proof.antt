@@ -1,98 +1,94 @@
--- `grid::layer::first_bad_flag` is test 4's place. The loop walks the coordinates beside the cell number; no cell passed breaks the rule. Assumes nothing.
+-- `grid::layer::first_bad_flag` is test 4's place. The loop walks row by row; no cell passed breaks the rule. Assumes nothing.
 use borrow.Author.Needs.{needs}
-use borrow.Author.Count.{below-more}
-use mathlib.Core.Path.{_≡_, refl, sym, _∙_}
-use mathlib.Core.Bool.{Bool, true, false, not, _&&_, _||_}
-use mathlib.Core.List.{List}
-use Prim.Native.Nat.{ℕ, _-_, _≤_, _<_}
+use mathlib.Core.Path.{_≡_, refl}
+use mathlib.Core.Bool.{false}
+use Prim.Native.Nat.{ℕ, _+_, _-_, _≤_, _<_}
 use native.Mathlib.Omega.{arith}
 use native.Mathlib.Nat.{not-suc-le-zero}
-use lib.Dec.{ltb, eqb}
-use lib.ListN.{length, getD}
-use Rattle.whole.specs.Search.{first-is, first-all}
-use Rattle.grid.specs.declared.Sides.{Sides}
+use lib.ListN.{length}
 use Rattle.grid.specs.declared.layer.Place.{Place}
-use Rattle.grid.specs.Grid.{gridOf, box, cellsOf}
-use Rattle.grid.specs.Good.{flagGood, badFlag}
-use Rattle.grid.specs.Passes.{Stands, outerAt}
-use Rattle.grid.proofs.Coordinates.{stands-first, stands-after, place-of, outer-at}
-use Rattle.grid.proofs.Lists.{getD-there}
+use Rattle.grid.specs.Grid.{cellsOf}
+use Rattle.grid.specs.Passes.{RowAt}
+use Rattle.grid.proofs.GoodSides.{good-sides}
+use Rattle.grid.proofs.Coordinates.{stands-first}
+use Rattle.grid.proofs.Rows.{bad, found, none-found, row-place, row-room, row-next, passed}
 use Rattle.grid.proofs.layer.first_bad_flag.Statement.{statement}
 use Rattle.grid.proofs.layer.first_bad_flag.Tie as tie
 
--- the rule broken at a cell
-abbrev bad : Sides → List ℕ → ℕ → Bool
-bad s flags c = not (flagGood (gridOf s) (λ c. getD flags c 3) c)
-
 abbrev Inv-loop : tie.InvT-loop
-Inv-loop flags s p₀ c₀ p c = (c ≤ length flags) × Stands s c p × ((k : ℕ) → k < c → bad s flags k ≡ false)
+Inv-loop flags s p₀ c₀ p c = (c ≤ length flags) × RowAt s c p × ((k : ℕ) → k < c → bad s flags k ≡ false)
 
 abbrev μ-loop : tie.MeasureT-loop
 μ-loop flags s p₀ c₀ p c = length flags - c
 
--- the test of one cell is the rule's
-here : (s : Sides) (flags : List ℕ) (c : ℕ) (p : Place) → c < length flags → Stands s c p
-    → not (ltb (getD flags c 0) 4 && (not (outerAt s p) || eqb (getD flags c 0) 3)) ≡ bad s flags c
-unfolding flagGood
-here s flags c p h st = rw (getD-there flags c 3 0 h, outer-at st) refl
+-- a row ends in the grid, which is small
+room : (a : tie.Start Inv-loop μ-loop) (c : ℕ) (p : Place) → RowAt (a .args .s) c p → c < length (a .args .flags .now) → c + a .args .s .nx ≤ cellsOf (a .args .s)
+room a c p r h = row-room r (omega (arith, a .pre .1))
 
-found : (s : Sides) (flags : List ℕ) (c : ℕ) → length flags ≡ cellsOf s → c < length flags → ((k : ℕ) → k < c → bad s flags k ≡ false) → bad s flags c ≡ true
-    → c ≡ badFlag (gridOf s) (λ c. getD flags c 3)
-unfolding badFlag gridOf box cellsOf
-found s flags c e h low t = sym (first-is (cellsOf s) (bad s flags) c (omega (arith, e)) low t)
-
-none-found : (s : Sides) (flags : List ℕ) (c : ℕ) → length flags ≡ cellsOf s → c ≤ length flags → length flags ≤ c → ((k : ℕ) → k < c → bad s flags k ≡ false)
-    → c ≡ badFlag (gridOf s) (λ c. getD flags c 3)
-unfolding badFlag gridOf box cellsOf
-none-found s flags c e h g low = sym (first-all (cellsOf s) (bad s flags) (λ k l. low k (omega (arith, e))) ∙ omega (arith, e))
+small : (a : tie.Start Inv-loop μ-loop) → cellsOf (a .args .s) ≤ 262144
+unfolding cellsOf
+small a = good-sides _ (a .pre .0) .all
 
 loop-holds : tie.Need-loop-holds Inv-loop μ-loop
-loop-holds c = (omega arith, stands-first _ (c .before .pre .0), λ k l. absurd (not-suc-le-zero l))
+loop-holds c = (omega arith, record { stands = stands-first _ (c .before .pre .0); first = refl }, λ k l. absurd (not-suc-le-zero l))
 
-shared-slice-read-bad-flag : tie.Need-shared-slice-read-bad-flag Inv-loop μ-loop
-shared-slice-read-bad-flag c = search needs
+first-in-row-requires : tie.Need-first-in-row-requires Inv-loop μ-loop
+first-in-row-requires c κs =
+    let a = c .before .before .before in
+    (a .pre .0, a .pre .1, c .loop-test .taken, c .before .loop .inv .1)
 
-bad-flag-requires : tie.Need-bad-flag-requires Inv-loop μ-loop
-bad-flag-requires c κs =
-    let l = c .before .before in
-    let q = l .before .before .pre in
-    (q .0, place-of _ _ _ (l .loop .inv .1) (omega (arith, q .1, c .before .loop-test .taken)))
+add-result : tie.Need-add-result Inv-loop μ-loop
+add-result c =
+    let l = c .before .before .before .before in
+    let a = l .before .before in
+    record { fits = omega (arith, room a (l .loop .c) (l .loop .p) (l .loop .inv .1) (c .before .before .before .loop-test .taken), c .before .before .first-in-row .ensures .most, small a) }
 
 returns : tie.Need-returns Inv-loop μ-loop
 returns c =
     let l = c .before .before .before .before in
-    let q = l .before .before .pre in
-    found _ (l .before .before .args .flags .now) _ (q .1) (c .before .before .before .loop-test .taken) (l .loop .inv .2)
-    (sym (here (l .before .before .args .s) (l .before .before .args .flags .now) (l .loop .c) (l .loop .p) (c .before .before .before .loop-test .taken) (l .loop .inv .1)) ∙ sym (c .before .bad-flag .ensures) ∙ c .if1 .taken)
+    let a = l .before .before in
+    let f = c .before .before .first-in-row .ensures in
+    let h = c .before .before .before .loop-test .taken in
+    found (a .args .s) (a .args .flags .now) (l .loop .c + c .before .before .first-in-row .result) (a .pre .1)
+    (omega (arith, room a (l .loop .c) (l .loop .p) (l .loop .inv .1) h, c .if1 .taken, a .pre .1))
+    (passed (a .args .s) (a .args .flags .now) (l .loop .c) _ (l .loop .inv .2) (f .before)) (f .here (c .if1 .taken))
+
+sub-t7 : tie.Need-sub-t7 Inv-loop μ-loop
+sub-t7 c = let a = c .before .before .before .before .before .before .before in omega (arith, good-sides _ (a .pre .0) .x .low)
 
 after-requires : tie.Need-after-requires Inv-loop μ-loop
 after-requires c κs =
-    let l = c .before .before .before .before in
-    let q = l .before .before .pre in
-    (q .0, place-of _ _ _ (l .loop .inv .1) (omega (arith, q .1, c .before .before .before .loop-test .taken)))
+    let l = c .before .before .before .before .before in
+    let a = l .before .before in
+    (a .pre .0, row-place (l .loop .inv .1) _ (omega (arith, good-sides _ (a .pre .0) .x .low)) (omega (arith, a .pre .1, c .before .before .before .before .loop-test .taken)))
 
 add-c : tie.Need-add-c Inv-loop μ-loop
-add-c c = search needs
+add-c c =
+    let l = c .before .before .before .before .before .before .before in
+    let a = l .before .before in
+    record { fits = omega (arith, room a (l .loop .c) (l .loop .p) (l .loop .inv .1) (c .before .before .before .before .before .before .loop-test .taken), small a) }
 
 loop-less : tie.Need-loop-less Inv-loop μ-loop
-loop-less c = search needs
+loop-less c =
+    let a = c .before .before .before .before .before .before .before .before .before in
+    omega (arith, good-sides _ (a .pre .0) .x .low, c .before .before .before .before .before .before .loop-test .taken)
 
 loop-again : tie.Need-loop-again Inv-loop μ-loop
 loop-again c =
-    let l = c .before .before .before .before .before in
-    let a = l .before .before .args in
-    let h = c .before .before .before .before .loop-test .taken in (
-      omega arith,
-      rw (c .after .ensures) (stands-after _ _ _ (l .loop .inv .1)),
-      below-more _ _ (l .loop .inv .2)
-          (sym (here (a .s) (a .flags .now) (l .loop .c) (l .loop .p) h (l .loop .inv .1)) ∙ sym (c .before .before .bad-flag .ensures) ∙ c .before .if1 .left),
+    let l = c .before .before .before .before .before .before .before in
+    let a = l .before .before in
+    let f = c .before .before .before .before .before .first-in-row .ensures in
+    let h = c .before .before .before .before .before .before .loop-test .taken in (
+      omega (arith, room a (l .loop .c) (l .loop .p) (l .loop .inv .1) h, a .pre .1),
+      rw (c .before .after .ensures) (row-next (l .loop .inv .1) (a .pre .0)),
+      λ k m. passed (a .args .s) (a .args .flags .now) (l .loop .c) _ (l .loop .inv .2) (f .before) k (omega (arith, c .before .before .before .if1 .left)),
     )
 
 returns-2 : tie.Need-returns-2 Inv-loop μ-loop
 returns-2 c =
     let l = c .before in
-    let q = l .before .before .pre in
-    none-found _ (l .before .before .args .flags .now) _ (q .1) (l .loop .inv .0) (c .loop-test .left) (l .loop .inv .2)
+    let a = l .before .before in
+    none-found (a .args .s) (a .args .flags .now) (l .loop .c) (a .pre .1) (l .loop .inv .0) (c .loop-test .left) (l .loop .inv .2)
 
 pub first-bad-flag-spec : {M : Type 1} → statement M
 first-bad-flag-spec =
@@ -101,9 +97,10 @@ first-bad-flag-spec =
     Inv-loop
     μ-loop
     loop-holds
-    shared-slice-read-bad-flag
-    bad-flag-requires
+    first-in-row-requires
+    add-result
     returns
+    sub-t7
     after-requires
     add-c
     loop-less

@@ -6,7 +6,7 @@ use Prim.Native.Nat.{_-_}
 use native.Mathlib.Omega.{arith}
 use Rattle.grid.specs.Halfway.{Alike}
 use Rattle.step.proofs.Finishes.{alike-sized, like-sized}
-use Rattle.run.specs.Turns.{lent}
+use Rattle.grid.specs.State.{lent}
 use Rattle.run.proofs.Runs.{Going, going-first, going-stepping, going-alike, going-on, going-stops, going-ends}
 use Rattle.run.proofs.running.going.Statement.{statement}
 use Rattle.run.proofs.running.going.Tie as tie
