@@ -8,6 +8,8 @@ mod cases;
 mod raw;
 mod reference;
 
+use std::fmt::{Display, Formatter};
+
 use oracle::record::read_within;
 
 use crate::report::{Met, Outcome, Total, Wanted, Wish};
@@ -19,11 +21,18 @@ use cases::Case;
 const SEEDS: u64 = 50_000;
 
 /// What a call answers: number and place of the refusal, 0 0 if there is none, and its other values as bits.
-#[derive(Clone, Debug, PartialEq, Eq)]
+#[derive(Clone, PartialEq, Eq)]
 pub struct Reply {
     pub number: u8,
     pub place: usize,
     pub values: Vec<u64>,
+}
+
+impl Display for Reply {
+    fn fmt(&self, f: &mut Formatter) -> std::fmt::Result {
+        write!(f, "{} {}", self.number, self.place)?;
+        self.values.iter().try_for_each(|value| write!(f, " {}", *value as i64))
+    }
 }
 
 type Call = fn(&mut Case) -> Reply;
@@ -70,7 +79,7 @@ fn called((call, library, reference): Pair, case: &Case, name: &str) -> (Outcome
     let differs = if given == wanted {
         wanted_case.apart(&given_case)
     } else {
-        Some(format!("wanted {wanted:?}, given {given:?}"))
+        Some(format!("wanted {wanted}, given {given}"))
     };
     let differs = differs.map(|text| format!("{call}, {name}: {text}"));
     (Outcome { met: met(call, &wanted), differs }, wanted, wanted_case)

@@ -15,7 +15,7 @@ use report::{Total, Wish};
 const USAGE: &str = "compare [--from SEED] [--first] [PART...], from the top of the repository
   PART      gridstep, gridrun, gridread or library; all if not said
   --from    the first seed, 0 if not said
-  --first   stop a part at its first difference";
+  --first   stop at the first difference";
 
 /// A program by its name, or the library.
 #[derive(Clone, Copy)]

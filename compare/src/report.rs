@@ -10,7 +10,7 @@ use std::time::Instant;
 /// What the command line asks.
 pub struct Wish {
     pub from: u64,
-    /// Whether a part ends at its first difference.
+    /// Whether all ends at the first difference.
     pub first: bool,
 }
 
@@ -67,6 +67,9 @@ impl Total {
         wanted: &Wanted,
         group: impl Fn(usize) -> Vec<Outcome> + Sync,
     ) {
+        if wish.first && self.differ > 0 {
+            return;
+        }
         println!("compare: {title}");
         let start = Instant::now();
         let (findings, whole) = gather(wish, count, group);

@@ -11,7 +11,9 @@ use oracle::grid::Grid;
 use oracle::hunt::{hunt, EVENTS};
 use oracle::record::read_within;
 use oracle::scenes::good;
-use oracle::text::{gridread, gridrun, gridstep, refused_record, requests, water, GRIDSTEP_BYTES};
+use oracle::text::{
+    gridread, gridrun, gridstep, refused_record, requests, steps_asked, water, GRIDSTEP_BYTES,
+};
 
 const USAGE: &str = "usage: oracle gridstep | gridrun K | gridread (place X Y Z | point C | depth X Y)... \
 | water | show | draw | make good|bad SEED | batch good|bad FROM TO DIR (TO itself left out) | hunt SEEDS STEPS";
@@ -69,7 +71,7 @@ fn obey(arguments: &[&str]) -> Option<std::io::Result<ExitCode>> {
         // One byte more than gridstep takes, so that it sees the excess.
         ["gridstep"] => input(GRIDSTEP_BYTES as u64 + 1).and_then(|bytes| print(gridstep(&bytes).as_bytes())),
         ["gridrun", steps] => {
-            let steps = steps.parse().ok()?;
+            let steps = steps_asked(steps)?;
             input(u64::MAX).and_then(|bytes| print(&gridrun(&bytes, steps)))
         }
         ["gridread", rest @ ..] => {

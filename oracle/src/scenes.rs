@@ -87,6 +87,7 @@ pub fn good(seed: u64) -> Scene {
     let mut scene = match random.below(20) {
         0 => fast_newborn(random),
         1 => gravity_past_speed(random),
+        2 => at_a_limit(random),
         _ => mixed(random),
     };
     scene.origin = [(); 3].map(|_| coordinate(random));
@@ -416,5 +417,27 @@ fn gravity_past_speed(random: &mut Random) -> Scene {
     let mut cells: Vec<Cell> = hollow(&grid).into_iter().map(Cell::blank).collect();
     cells[grid.cell([1, 1, 1])] = Cell { flag: INTERFACE, parts: parts_at(rho, &j), mass, fill: 0 };
     let settings = Settings { p: random.between(1025, 2037) as i32, gravity, edge: 50 };
+    Scene { sides, settings, origin: [0; 3], state: State { cells, carry: carry(random) } }
+}
+
+/// A cell between walls, so that streaming leaves its density, speed and mass as they are, exactly at a limit or one unit beside it: of filling,
+/// of emptying, or of speed.
+fn at_a_limit(random: &mut Random) -> Scene {
+    let sides = [3, 3, 3];
+    let grid = Grid::new(sides).expect("sides in range");
+    let beside = random.between(-1, 1);
+    let thousands = random.between(295, 1179);
+    // Ninths, as a momentum of 2, 1 and 2 of them is 3 long; none is pushed past the limit, which only a damaged record is.
+    let ninths = random.between(LOWEST_DENSITY / 9 + 1, HIGHEST_DENSITY / 9 - 1);
+    let (rho, j, mass) = match random.below(4) {
+        0 => (1000 * thousands, [0; 3], 1001 * thousands + beside),
+        1 => (1000 * thousands, [0; 3], -thousands + beside),
+        2 => (9 * ninths, [3 * ninths, 0, 0], random.between(0, 9 * ninths)),
+        _ => (9 * ninths + beside.max(0), [-2 * ninths, ninths, 2 * ninths], random.between(0, 9 * ninths)),
+    };
+    let mut cells: Vec<Cell> = hollow(&grid).into_iter().map(Cell::blank).collect();
+    cells[grid.cell([1, 1, 1])] = Cell { flag: INTERFACE, parts: parts_at(rho, &j), mass, fill: 0 };
+    // Gravity would push a speed past its limit.
+    let settings = Settings { gravity: [0; 3], ..settings(random) };
     Scene { sides, settings, origin: [0; 3], state: State { cells, carry: carry(random) } }
 }

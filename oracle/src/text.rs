@@ -69,6 +69,18 @@ pub fn gridstep(bytes: &[u8]) -> String {
     )
 }
 
+/// A number of digits alone, with a sign before them where one may stand.
+fn number<T: FromStr>(word: &str, signed: bool) -> Option<T> {
+    let digits = word.strip_prefix('-').filter(|_| signed).unwrap_or(word);
+    let spelled = word.len() <= 64 && !digits.is_empty() && digits.bytes().all(|byte| byte.is_ascii_digit());
+    word.parse().ok().filter(|_| spelled)
+}
+
+/// The number of steps that gridrun's argument asks for.
+pub fn steps_asked(word: &str) -> Option<u32> {
+    number(word, false)
+}
+
 /// gridrun's whole output: a line, then the record of the state reached unless the run was refused.
 pub fn gridrun(bytes: &[u8], steps: u32) -> Vec<u8> {
     let (reading, mut first) = match read_within(bytes, ROOM) {
@@ -116,13 +128,6 @@ impl Request {
         };
         [vec![name.to_string()], numbers].concat()
     }
-}
-
-/// A number of digits alone, with a sign before them where one may stand.
-fn number<T: FromStr>(word: &str, signed: bool) -> Option<T> {
-    let digits = word.strip_prefix('-').filter(|_| signed).unwrap_or(word);
-    let spelled = word.len() <= 64 && !digits.is_empty() && digits.bytes().all(|byte| byte.is_ascii_digit());
-    word.parse().ok().filter(|_| spelled)
 }
 
 /// The requests that gridread's arguments make; none where one cannot be read, or where there is none.

@@ -2,7 +2,7 @@
 
 use oracle::drawing::{drawn, section};
 use oracle::scenes::case_t;
-use oracle::text::{gridread, requests, water, Request};
+use oracle::text::{gridread, requests, steps_asked, water, Request};
 use oracle::{check, Store};
 
 const SUMP: &str = include_str!("../../examples/sump.txt");
@@ -65,6 +65,9 @@ fn requests_are_digits_after_a_word() {
     }
     assert_eq!(asked(&format!("point|{:064}", 3)), Some(vec![Request::Point(3)]));
     assert_eq!(asked(&format!("point|{:065}", 3)), None);
+    assert_eq!(steps_asked("0060"), Some(60));
+    assert_eq!(steps_asked("4294967296"), None);
+    assert_eq!(steps_asked("-0"), None);
 }
 
 #[test]

@@ -1,6 +1,6 @@
 // gridrun: the line and the record of the state reached, byte for byte, at several numbers of steps.
 
-use oracle::text::gridrun;
+use oracle::text::{gridrun, steps_asked};
 
 use super::Starter;
 use crate::report::{apart, Met, Outcome, Total, Wanted, Wish};
@@ -27,15 +27,17 @@ fn met(wanted: &[u8]) -> Met {
     }
 }
 
-fn outcome(starter: &Starter, source: Source, steps: u32) -> Outcome {
+/// gridrun with its argument as it is spelled; one that spells no number has no output.
+fn outcome(starter: &Starter, source: Source, steps: &str) -> Outcome {
     let bytes = source.bytes();
-    let wanted = gridrun(&bytes, steps);
+    let wanted = steps_asked(steps).map(|steps| gridrun(&bytes, steps));
     let differs = match starter.output("gridrun", &[steps.to_string()], &bytes) {
-        Ok(given) => apart(&wanted, &given),
+        Ok(given) => apart(wanted.as_deref().unwrap_or_default(), &given),
         Err(error) => Some(error),
     };
     let told = |text: String| format!("gridrun {steps}, {source}: {text}");
-    Outcome { met: met(&wanted), differs: differs.map(told) }
+    let met = wanted.map_or(Met::new("argument", "unreadable"), |wanted| met(&wanted));
+    Outcome { met, differs: differs.map(told) }
 }
 
 pub fn compare(starter: &Starter, wish: &Wish, total: &mut Total) {
@@ -61,6 +63,31 @@ pub fn compare(starter: &Starter, wish: &Wish, total: &mut Total) {
     );
     total.compare(&title, wish, runs.len(), ANSWERS, |number| {
         let (source, steps) = runs[number];
-        vec![outcome(starter, source, steps)]
+        vec![outcome(starter, source, &steps.to_string())]
+    });
+
+    let long = [64, 65].map(|length| format!("{:0length$}", 2));
+    let spelled = [
+        "",
+        "2",
+        "+2",
+        "-2",
+        "-0",
+        " 2",
+        "2 ",
+        "2.0",
+        "0x2",
+        "two",
+        "002",
+        "1001",
+        "4294967295",
+        "4294967296",
+    ];
+    let spelled: Vec<&str> = spelled.into_iter().chain(long.iter().map(String::as_str)).collect();
+    let title = format!("gridrun on case T with {} spellings of its argument", spelled.len());
+    let wanted: &Wanted = &[("run", &["0", "9"]), ("argument", &["unreadable"])];
+    let whole = Source::Cut(SMALL[0], SMALL[0].record().len());
+    total.compare(&title, wish, spelled.len(), wanted, |number| {
+        vec![outcome(starter, whole, spelled[number])]
     });
 }
