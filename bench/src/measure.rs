@@ -158,6 +158,9 @@ pub fn steps_in(seconds: f64, bench: &mut Bench) -> usize {
     2 * ((seconds / step / 2.0) as usize).clamp(1, 200)
 }
 
+/// Steps of a run that is timed, at least: a run tests its state once and evens its sets once, which a host that asks for few steps pays more often.
+const RUN_STEPS: usize = 100;
+
 /// All contenders on one scene, in turns: the engines on the same buffers, then f32 on its own.
 pub fn measure(scene: &Scene, engines: &[Engine], effort: Effort) -> Vec<Measured> {
     let mut bench = Bench::new(scene, WARM_UP);
@@ -165,7 +168,8 @@ pub fn measure(scene: &Scene, engines: &[Engine], effort: Effort) -> Vec<Measure
     let steps = steps_in(effort.seconds, &mut bench);
     let mut rounds = vec![[Vec::new(), Vec::new()]; engines.len() + 1];
     for _ in 0..effort.rounds {
-        for (at, way) in [Way::Step, Way::Run].into_iter().enumerate() {
+        let ways = [(Way::Step, steps), (Way::Run, steps.max(RUN_STEPS))];
+        for (at, (way, steps)) in ways.into_iter().enumerate() {
             for (engine, rounds) in engines.iter().zip(&mut rounds) {
                 rounds[at].push(bench.time(*engine, way, steps));
             }
