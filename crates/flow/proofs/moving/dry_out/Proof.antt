@@ -23,9 +23,9 @@ already : (out v : List ℤ) (c : ℕ) → 19 * c + 19 ≤ length out → v ≡ 
 already out v c room read zeros =
     pasted-same out (19 * c) (replicate 19 (pos 0)) room (length-replicate 19 (pos 0))
     (λ k h.
-      sym (ap (λ (x : List ℤ). getD x k (pos 0)) read ∙ getD-tab 19 (λ i. getD out (19 * c + i) (pos 0)) (pos 0) k h)
-      ∙ eqZ-true (partsOf v k) (pos 0) (all-at 19 (λ i. eqZ (partsOf v i) (pos 0)) zeros k h)
-      ∙ sym (getD-replicate 19 k (pos 0) (pos 0) h))
+    sym (ap (λ (x : List ℤ). getD x k (pos 0)) read ∙ getD-tab 19 (λ i. getD out (19 * c + i) (pos 0)) (pos 0) k h)
+    ∙ eqZ-true (partsOf v k) (pos 0) (all-at 19 (λ i. eqZ (partsOf v i) (pos 0)) zeros k h)
+    ∙ sym (getD-replicate 19 k (pos 0) (pos 0) h))
 
 own-requires : tie.Need-own-requires
 own-requires c κs = search needs
