@@ -2,9 +2,9 @@
 use crate::leaning::used_weights;
 use grid::Sides;
 use grid::cells::own;
-use grid::kinds::next_of;
 use grid::neighbours::low_of;
 use grid::neighbours::offsets;
+use grid::seeking::next_of;
 use lattice::excess::given;
 use lattice::moments::density;
 use whole::wide;

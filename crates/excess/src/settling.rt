@@ -1,6 +1,7 @@
 // Pass 7: filled and emptied cells come to their own, and the marks go.
 use grid::cells::own;
 use grid::cells::paste;
+use grid::seeking::next_marked;
 use lattice::moments::density;
 ghost use Prim.Native.Nat.{_<_};
 ghost use lib.ListN.{length};
@@ -31,6 +32,6 @@ pub fn settle(parts: &mut [i32], masses: &mut [i32], marks: &mut [u8])
             settle_cell(parts, masses, c, m);
             marks[c] = 0;
         }
-        c += 1;
+        c = next_marked(marks, c + 1);
     }
 }

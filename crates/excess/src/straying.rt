@@ -4,6 +4,7 @@ use crate::leaning::evens;
 use grid::Sides;
 use grid::neighbours::low_of;
 use grid::neighbours::offsets;
+use grid::seeking::next_marked;
 use lattice::excess::total;
 ghost use mathlib.Core.Path.{_≡_};
 ghost use Prim.Native.Nat.{_<_};
@@ -56,7 +57,7 @@ pub fn new_carry(
         if m != 0 {
             t += lost(flags, parts, masses, &off, low, c, m);
         }
-        c += 1;
+        c = next_marked(marks, c + 1);
     }
     t
 }

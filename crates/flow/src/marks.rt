@@ -1,6 +1,7 @@
 // The passes that write marks: where every part streams straight in, and which cells are emptied after all.
 use grid::Sides;
 use grid::neighbours;
+use grid::seeking;
 ghost use mathlib.Core.Path.{_≡_};
 ghost use mathlib.Core.Bool.{true, cond};
 ghost use lib.ListN.{length};
@@ -53,6 +54,6 @@ pub fn settle_marks(marks: &mut [u8], s: Sides)
         if marks[c] == 2 {
             marks[c] = kept(neighbours::beside(marks, &off, c - low, 1));
         }
-        c += 1;
+        c = seeking::next_marked(marks, c + 1);
     }
 }

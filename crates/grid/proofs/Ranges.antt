@@ -3,6 +3,7 @@
 use mathlib.Core.Path.{_≡_, refl, sym, ap, _∙_, subst}
 use mathlib.Core.Bool.{Bool, true, false, _&&_, cond}
 use mathlib.Core.List.{List}
+use mathlib.Core.Logic.{⊎-elim}
 use Prim.Native.Nat.{ℕ, zero, suc, _+_, _-_, _≤_, _<_}
 use native.Mathlib.Nat.{add-zero, add-suc}
 use native.Mathlib.Numerals.{add-one}
@@ -14,7 +15,9 @@ use lib.Seq.{getD-set-same, getD-set-other}
 use borrow.Author.Tests.{le-leb, lt-leb, lt-ltb, le-ltb}
 use Rattle.whole.specs.Bools.{cond-yes, cond-no, and-true}
 use Rattle.whole.specs.Fold.{tab}
+use Rattle.whole.specs.Order.{≤-or}
 use Rattle.whole.specs.Tab.{upto-all}
+use Rattle.grid.specs.Passes.{Unmarked}
 
 -- two tests of order that go together
 pub ltb-same : (a b c d : ℕ) → (a < b → c < d) → (c < d → a < b) → ltb a b ≡ ltb c d
@@ -34,6 +37,17 @@ over-gap P a b h keep p = subst P (omega arith) (go (b - a) (omega arith))
     go : (n : ℕ) → a + n ≤ b → P (a + n)
     go zero k = subst P (sym (add-zero a)) p
     go (suc n) k = subst P (sym (add-suc a n) ∙ refl) (subst P (add-one (a + n)) (keep (a + n) (omega arith) (omega arith) (go n (omega arith))))
+
+-- places without a mark, and some more
+pub unmarked-first : (marks : List ℕ) (a : ℕ) → a ≤ length marks → Unmarked marks a a
+unmarked-first marks a h = record { least = omega arith; most = h; before = λ j k l. absurd (omega arith) }
+
+pub unmarked-more : (marks : List ℕ) (a c n : ℕ) → Unmarked marks a c → c + n ≤ length marks → ((k : ℕ) → k < n → getD marks (c + k) 0 ≡ 0) → Unmarked marks a (c + n)
+unmarked-more marks a c n u h z = record {
+  least = omega (arith, u .least);
+  most = h;
+  before = λ j k l. ⊎-elim (λ m. ap (λ (i : ℕ). getD marks i 0) (omega arith) ∙ z (j - c) (omega arith)) (λ m. u .before j k m) (≤-or c j);
+}
 
 module _ {ℓ} {A : Type ℓ} (d : A) (f : ℕ → A) (old : List A) (a b : ℕ) where
   abbrev pub ranged : ℕ → A

@@ -77,6 +77,17 @@ pub record NextOf (bytes : List ℕ) (a k r : ℕ) : Type 0 where
   pub before : (j : ℕ) → a ≤ j → j < r → getD bytes j 0 ≡ k → ⊥
   pub here : r < length bytes → getD bytes r 0 ≡ k
 
+-- the places from a to r − 1 have no mark
+pub record Unmarked (marks : List ℕ) (a r : ℕ) : Type 0 where
+  pub least : a ≤ r
+  pub most : r ≤ length marks
+  pub before : (j : ℕ) → a ≤ j → j < r → getD marks j 0 ≡ 0
+
+-- r is the lowest place from a on that has a mark, the number of places if none has
+pub record NextMarked (marks : List ℕ) (a r : ℕ) : Type 0 where
+  pub past : Unmarked marks a r
+  pub here : r < length marks → getD marks r 0 ≡ 0 → ⊥
+
 -- ---- flags that passed test 4
 
 -- the flag of a cell; what is no cell counts as wall

@@ -5,6 +5,7 @@ use mathlib.Core.Logic.{⊎-elim}
 use Prim.Native.Nat.{_+_, _-_, _<_}
 use native.Mathlib.Omega.{arith}
 use lib.ListN.{length}
+use Rattle.grid.proofs.Ranges.{over-gap}
 use Rattle.excess.proofs.Settles.{Upon, upon-as, upon-first, upon-keep, upon-settle, upon-all, parts-still}
 use Rattle.excess.proofs.settling.settle.Statement.{statement}
 use Rattle.excess.proofs.settling.settle.Tie as tie
@@ -33,23 +34,43 @@ settle-cell-requires c κs =
 slice-write-marks : tie.Need-slice-write-marks Inv-loop μ-loop
 slice-write-marks c = search needs
 
-add-c : tie.Need-add-c Inv-loop μ-loop
-add-c c = search needs
-
-loop-less : tie.Need-loop-less Inv-loop μ-loop
-loop-less c = search needs
-
-loop-again : tie.Need-loop-again Inv-loop μ-loop
-loop-again c =
-    let l = c .before .before .before in
+-- cell c is settled, whether it had a mark or not
+turned : (b : tie.Joined1 Inv-loop μ-loop)
+    → let l = b .before .before .before in
     let s = l .before .before in
-    let h : l .loop .c < length (s .args .marks .now) = omega (arith, l .loop .inv .marks-size, c .before .before .loop-test .taken) in
+    Upon (s .args .parts .now) (s .args .masses .now) (s .args .marks .now) (b .if1 .parts) (b .if1 .masses) (b .if1 .marks) (l .loop .c + 1)
+turned b =
+    let l = b .before .before .before in
+    let s = l .before .before in
+    let h : l .loop .c < length (s .args .marks .now) = omega (arith, l .loop .inv .marks-size, b .before .before .loop-test .taken) in
     ⊎-elim
     (λ w. upon-as _ _ _ (l .loop .c + 1) (w .6) (w .7) (w .8)
     (upon-settle _ _ _ (l .loop .parts) (l .loop .masses) (l .loop .marks) (l .loop .c) (l .loop .inv) h (w .0 .taken)
     (omega (arith, l .loop .inv .parts-size, s .pre .parts-there)) (omega (arith, l .loop .inv .masses-size, s .pre .masses-there)) _ _ (w .3 .ensures)))
     (λ w. upon-as _ _ _ (l .loop .c + 1) (w .1) (w .2) (w .3) (upon-keep _ _ _ (l .loop .parts) (l .loop .masses) (l .loop .marks) (l .loop .c) (l .loop .inv) h (w .0 .left)))
-    (c .if1 .came)
+    (b .if1 .came)
+
+add-next-marked : tie.Need-add-next-marked Inv-loop μ-loop
+add-next-marked c = search needs
+
+next-marked-requires : tie.Need-next-marked-requires Inv-loop μ-loop
+next-marked-requires c κs = omega (arith, turned (c .before) .to, turned (c .before) .marks-size)
+
+loop-less : tie.Need-loop-less Inv-loop μ-loop
+loop-less c =
+    let b = c .before .before in
+    let n = c .next-marked .ensures .past in
+    omega (arith, n .least, n .most, turned b .marks-size, turned b .to)
+
+loop-again : tie.Need-loop-again Inv-loop μ-loop
+loop-again c =
+    let b = c .before .before in
+    let l = b .before .before .before in
+    let s = l .before .before in
+    let n = c .next-marked .ensures .past in
+    -- up to the next mark all is as it is to be
+    over-gap (λ j. Upon (s .args .parts .now) (s .args .masses .now) (s .args .marks .now) (b .if1 .parts) (b .if1 .masses) (b .if1 .marks) j) (l .loop .c + 1) (c .next-marked .result) (n .least)
+    (λ j k i q. upon-keep _ _ _ (b .if1 .parts) (b .if1 .masses) (b .if1 .marks) j q (omega (arith, n .most, turned b .marks-size)) (n .before j k i)) (turned b)
 
 same-length : tie.Need-same-length Inv-loop μ-loop
 same-length c = c .before .loop .inv .parts-size
@@ -76,7 +97,8 @@ settle-spec =
     slice-read-m
     settle-cell-requires
     slice-write-marks
-    add-c
+    add-next-marked
+    next-marked-requires
     loop-less
     loop-again
     same-length

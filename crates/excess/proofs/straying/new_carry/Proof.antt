@@ -3,7 +3,7 @@ use borrow.Author.Needs.{needs}
 use mathlib.Core.Path.{_≡_, refl, sym, ap, ap₂, _∙_}
 use mathlib.Core.Logic.{⊎-elim}
 use mathlib.Core.List.{List}
-use Prim.Native.Nat.{ℕ, _-_, _≤_, _<_}
+use Prim.Native.Nat.{ℕ, _+_, _-_, _≤_, _<_}
 use native.Mathlib.Omega.{arith}
 use lib.IntN.{ℤ, _+ℤ_, +ℤ-idr}
 use lib.ListN.{length}
@@ -14,6 +14,7 @@ use Rattle.whole.specs.Fold.{sum}
 use Rattle.whole.specs.Machine.{Val, Within, within-by, does-fit, reads-as, v+, v64}
 use Rattle.grid.specs.Grid.{cellsOf}
 use Rattle.grid.proofs.GoodSides.{good-sides}
+use Rattle.grid.proofs.Ranges.{over-gap}
 use Rattle.excess.specs.Gifts.{strayAt}
 use Rattle.excess.proofs.Strays.{around-as, stray-some, stray-in, strays-in, strays-more, strays-keep}
 use Rattle.excess.proofs.Readings.{told64, held-in}
@@ -89,26 +90,38 @@ both c =
 add-t : tie.Need-add-t Inv-loop μ-loop
 add-t c = does-fit (both c) tt
 
-add-c : tie.Need-add-c Inv-loop μ-loop
-add-c c = search needs
+add-next-marked : tie.Need-add-next-marked Inv-loop μ-loop
+add-next-marked c = search needs
+
+next-marked-requires : tie.Need-next-marked-requires Inv-loop μ-loop
+next-marked-requires c κs = search needs
 
 loop-less : tie.Need-loop-less Inv-loop μ-loop
-loop-less c = search needs
+loop-less c =
+    let n = c .next-marked .ensures .past in
+    omega (arith, n .least, n .most, c .before .before .before .loop-test .taken)
 
 loop-again : tie.Need-loop-again Inv-loop μ-loop
 loop-again c =
-    let l = c .before .before .before in
+    let b = c .before in
+    let l = b .before .before .before in
     let a = l .before .before .before .before .before .args in
-    let k = toZ w64 (ofZ w64 (a .carry)) in (
-      omega (arith, c .before .before .loop-test .taken),
-      ⊎-elim
+    let off = l .before .before .offsets .result in
+    let low = l .before .low-of .result in
+    let k = toZ w64 (ofZ w64 (a .carry)) in
+    let n = c .next-marked .ensures .past in (
+      n .most,
+      -- up to the next mark nothing strays
+      over-gap (λ j. toZ w64 (b .if1 .t) ≡ k +ℤ sum j (strayAt (a .flags .now) (a .parts .now) (a .masses .now) (a .marks .now) off low)) (l .loop .c + 1) (c .next-marked .result) (n .least)
+          (λ j h i e. e ∙ strays-keep (a .flags .now) (a .parts .now) (a .masses .now) (a .marks .now) off low k j (n .before j h i))
+          (⊎-elim
           (λ w.
-          let d : tie.After-lost Inv-loop μ-loop = record { before = record { before = record { before = c .before; if1 = w .0 }; off = w .1 }; lost = w .2 } in
+          let d : tie.After-lost Inv-loop μ-loop = record { before = record { before = record { before = b .before; if1 = w .0 }; off = w .1 }; lost = w .2 } in
           ap (toZ w64) (w .3) ∙ reads-as (v64 (both d)) tt
-          ∙ strays-more (a .flags .now) (a .parts .now) (a .masses .now) (a .marks .now) (l .before .before .offsets .result) (l .before .low-of .result) k (l .loop .c))
+          ∙ strays-more (a .flags .now) (a .parts .now) (a .masses .now) (a .marks .now) off low k (l .loop .c))
           (λ w. ap (toZ w64) (w .1) ∙ l .loop .inv .1
-          ∙ strays-keep (a .flags .now) (a .parts .now) (a .masses .now) (a .marks .now) (l .before .before .offsets .result) (l .before .low-of .result) k (l .loop .c) (w .0 .left))
-          (c .if1 .came),
+          ∙ strays-keep (a .flags .now) (a .parts .now) (a .masses .now) (a .marks .now) off low k (l .loop .c) (w .0 .left))
+          (b .if1 .came)),
     )
 
 returns : tie.Need-returns Inv-loop μ-loop
@@ -133,7 +146,8 @@ new-carry-spec =
     shared-slice-read-m
     lost-requires
     add-t
-    add-c
+    add-next-marked
+    next-marked-requires
     loop-less
     loop-again
     returns)

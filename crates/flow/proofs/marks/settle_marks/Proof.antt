@@ -1,16 +1,16 @@
 -- `flow::marks::settle_marks` is pass 2. It changes only marks 2, and looks only for marks 1, so what it finds at each cell is what was there at first.
 -- Assumes nothing.
 use borrow.Author.Needs.{needs}
-use mathlib.Core.Path.{sym, ap, _∙_, subst}
+use mathlib.Core.Path.{_≡_, sym, ap, _∙_, subst}
 use mathlib.Core.Bool.{Bool, cond}
 use mathlib.Core.List.{List}
 use mathlib.Core.Logic.{⊎-elim}
 use Prim.Native.Nat.{ℕ, _+_, _-_, _<_}
 use native.Mathlib.Omega.{arith}
-use lib.ListN.{length}
+use lib.ListN.{length, getD}
 use Rattle.grid.specs.Passes.{Inner}
 use Rattle.grid.proofs.Beside.{Offsets, above, reach}
-use Rattle.grid.proofs.Ranges.{Ranged, ranged-first, ranged-more, ranged-keep}
+use Rattle.grid.proofs.Ranges.{Ranged, over-gap, ranged-first, ranged-more, ranged-keep}
 use Rattle.flow.proofs.Marking.{settledAt, settled-turn, settled-skip, settled}
 use Rattle.flow.proofs.marks.settle_marks.Statement.{statement}
 use Rattle.flow.proofs.marks.settle_marks.Tie as tie
@@ -54,26 +54,49 @@ kept-requires c κs = search needs
 slice-write-marks : tie.Need-slice-write-marks Inv-loop μ-loop
 slice-write-marks c = search needs
 
-add-c : tie.Need-add-c Inv-loop μ-loop
-add-c c = search needs
-
-loop-less : tie.Need-loop-less Inv-loop μ-loop
-loop-less c = search needs
-
-loop-again : tie.Need-loop-again Inv-loop μ-loop
-loop-again c =
-    let l = c .before .before .before in
+-- cell c is settled, whether it was to be emptied or not
+turned : (b : tie.Joined1 Inv-loop μ-loop)
+    → let l = b .before .before .before in
+    let a = l .before .before .before .before .args .marks .now in
+    Ranged 0 (settledAt a (l .before .before .offsets .result) (l .before .low-of .result)) a 0 (length a) (b .if1 .marks) (l .loop .c + 1)
+turned b =
+    let l = b .before .before .before in
     let a = l .before .before .before .before .args .marks .now in
     let off = l .before .before .offsets .result in
     let low = l .before .low-of .result in
-    let h : l .loop .c < length a = omega (arith, l .loop .inv .size, c .before .before .loop-test .taken) in
+    let h : l .loop .c < length a = omega (arith, l .loop .inv .size, b .before .before .loop-test .taken) in
     ⊎-elim
     (λ w. subst (λ (m : List ℕ). Ranged 0 (settledAt a off low) a 0 (length a) m (l .loop .c + 1)) (sym (w .5))
     (ranged-more 0 (settledAt a off low) a 0 (length a) (l .loop .marks) (l .loop .c) _ (l .loop .inv) h (omega arith)
     (settled-turn a off low (length a) (l .loop .inv) _ (w .0 .taken) (w .4 .ensures ∙ ap (λ (b : Bool). cond b 0 2) (w .3 .ensures)))))
     (λ w. subst (λ (m : List ℕ). Ranged 0 (settledAt a off low) a 0 (length a) m (l .loop .c + 1)) (sym (w .1))
     (ranged-keep 0 (settledAt a off low) a 0 (length a) (l .loop .marks) (l .loop .c) (l .loop .inv) h (settled-skip a off low (length a) (l .loop .inv) (w .0 .left))))
-    (c .if1 .came)
+    (b .if1 .came)
+
+add-next-marked : tie.Need-add-next-marked Inv-loop μ-loop
+add-next-marked c = search needs
+
+next-marked-requires : tie.Need-next-marked-requires Inv-loop μ-loop
+next-marked-requires c κs = omega (arith, turned (c .before) .to, turned (c .before) .size)
+
+loop-less : tie.Need-loop-less Inv-loop μ-loop
+loop-less c =
+    let b = c .before .before in
+    let n = c .next-marked .ensures .past in
+    omega (arith, n .least, n .most, turned b .size, turned b .to)
+
+loop-again : tie.Need-loop-again Inv-loop μ-loop
+loop-again c =
+    let b = c .before .before in
+    let l = b .before .before .before in
+    let a = l .before .before .before .before .args .marks .now in
+    let off = l .before .before .offsets .result in
+    let low = l .before .low-of .result in
+    let n = c .next-marked .ensures .past in
+    -- up to the next mark nothing is to be settled
+    over-gap (λ j. Ranged 0 (settledAt a off low) a 0 (length a) (b .if1 .marks) j) (l .loop .c + 1) (c .next-marked .result) (n .least)
+    (λ j k i q. ranged-keep 0 (settledAt a off low) a 0 (length a) (b .if1 .marks) j q (omega (arith, n .most, turned b .size))
+    (settled-skip a off low (length a) q (λ e. let z : 0 ≡ getD (b .if1 .marks) j 0 = sym (n .before j k i) in absurd (omega (arith, z, e))))) (turned b)
 
 same-length : tie.Need-same-length Inv-loop μ-loop
 same-length c = c .before .loop .inv .size
@@ -99,7 +122,8 @@ settle-marks-spec =
     beside-requires
     kept-requires
     slice-write-marks
-    add-c
+    add-next-marked
+    next-marked-requires
     loop-less
     loop-again
     same-length

@@ -1,4 +1,4 @@
--- `grid::kinds::next_of`: no cell that was passed is of the kind. Assumes nothing.
+-- `grid::seeking::next_of`: no cell that was passed is of the kind. Assumes nothing.
 use borrow.Author.Needs.{needs}
 use mathlib.Core.Path.{_≡_, sym, ap, _∙_}
 use mathlib.Core.List.{List}
@@ -6,8 +6,8 @@ use Prim.Native.Nat.{ℕ, _+_, _-_, _≤_, _<_}
 use native.Mathlib.Decide.{ℕ-discrete}
 use native.Mathlib.Omega.{arith}
 use lib.ListN.{length, getD}
-use Rattle.grid.proofs.kinds.next_of.Statement.{statement}
-use Rattle.grid.proofs.kinds.next_of.Tie as tie
+use Rattle.grid.proofs.seeking.next_of.Statement.{statement}
+use Rattle.grid.proofs.seeking.next_of.Tie as tie
 
 -- the places from a to c − 1 do not hold k
 abbrev Passed : List ℕ → ℕ → ℕ → ℕ → Type 0

@@ -1,0 +1,66 @@
+// Where a pass that does much at few cells goes on: from one such cell to the next. Its own loop would keep what it counts in memory.
+ghost use mathlib.Core.Path.{_≡_};
+ghost use Prim.Native.Nat.{_+_, _≤_};
+ghost use lib.Dec.{eqb};
+ghost use lib.ListN.{length, getD};
+ghost use Rattle.whole.specs.Fold.{all};
+ghost use Rattle.grid.specs.Passes.{NextOf, NextMarked, Unmarked};
+
+// The next cell of a kind, from a on; the number of cells if there is none.
+pub fn next_of(flags: &[u8], a: usize, kind: u8) -> usize
+    requires { ⌜ a ≤ length (now flags) ⌝ }
+    ensures { λ r. ⌜ NextOf (now (flags .entry)) a kind r ⌝ }
+{
+    let mut c = a;
+    while c < flags.len() {
+        if flags[c] == kind {
+            return c;
+        }
+        c += 1;
+    }
+    c
+}
+
+// Whether none of 32 cells from a on is marked. By no way out, so that they are looked at together.
+fn quiet(marks: &[u8], a: usize) -> bool
+    requires { ⌜ a + 32 ≤ length (now marks) ⌝ }
+    ensures { λ r. ⌜ r ≡ all 32 (λ k. eqb (getD (now (marks .entry)) (a + k) 0) 0) ⌝ }
+{
+    let mut none = true;
+    let mut k = 0;
+    while k < 32 {
+        none = none & (marks[a + k] == 0);
+        k += 1;
+    }
+    none
+}
+
+// Past cells from a on that have no mark, 32 at a time.
+fn past_quiet(marks: &[u8], a: usize) -> usize
+    requires { ⌜ a ≤ length (now marks) ⌝ }
+    ensures { λ r. ⌜ Unmarked (now (marks .entry)) a r ⌝ }
+{
+    let mut c = a;
+    while marks.len() - c >= 32 {
+        if !quiet(marks, c) {
+            return c;
+        }
+        c += 32;
+    }
+    c
+}
+
+// The next cell with a mark, from a on; the number of cells if there is none.
+pub fn next_marked(marks: &[u8], a: usize) -> usize
+    requires { ⌜ a ≤ length (now marks) ⌝ }
+    ensures { λ r. ⌜ NextMarked (now (marks .entry)) a r ⌝ }
+{
+    let mut c = past_quiet(marks, a);
+    while c < marks.len() {
+        if marks[c] != 0 {
+            return c;
+        }
+        c += 1;
+    }
+    c
+}
