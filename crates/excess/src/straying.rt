@@ -4,7 +4,7 @@ use crate::leaning::evens;
 use grid::Sides;
 use grid::neighbours::low_of;
 use grid::neighbours::offsets;
-use lattice::excess::total;
+use surface::excess::total;
 ghost use mathlib.Core.Path.{_≡_};
 ghost use Prim.Native.Nat.{_<_};
 ghost use lib.IntN.{_+ℤ_};
