@@ -1,4 +1,4 @@
-// Layer 1, lattice arithmetic: the formulas of one cell. Knows no grid.
+// Layer 1, lattice arithmetic: the table of directions, density and momentum, and the rules and fill of one cell. Knows no grid.
 pub mod directions;
 pub mod fill;
 pub mod limits;
