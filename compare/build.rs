@@ -1,18 +1,19 @@
-// Links the compiled library that compare/run names, if it names one.
+// Links what compare/run has compiled: the library, and gridstep as a function.
 
 use std::env;
 
-/// The object or archive of crates/host.
-const OBJECT: &str = "SKWARZYNA_OBJECT";
+/// The object or archive of crates/host, and the object that compare/callable makes.
+const OBJECTS: [&str; 2] = ["SKWARZYNA_OBJECT", "GRIDSTEP_OBJECT"];
 
 fn main() {
-    println!("cargo::rustc-check-cfg=cfg(linked)");
     println!("cargo::rerun-if-changed=build.rs");
-    println!("cargo::rerun-if-env-changed={OBJECT}");
-    // Without it the programs can still be compared.
-    if let Ok(object) = env::var(OBJECT) {
+    for name in OBJECTS {
+        println!("cargo::rerun-if-env-changed={name}");
+        let Ok(object) = env::var(name) else {
+            println!("cargo::error={name} names nothing to link: compare/run names it and builds this");
+            return;
+        };
         println!("cargo::rerun-if-changed={object}");
         println!("cargo::rustc-link-arg={object}");
-        println!("cargo::rustc-cfg=linked");
     }
 }

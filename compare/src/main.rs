@@ -1,6 +1,5 @@
 // The comparison: the proved programs and the proved library beside the independent program, by seed. Status 1 if anything differs.
 
-#[cfg(linked)]
 mod library;
 mod programs;
 mod report;
@@ -40,14 +39,6 @@ impl Part {
     }
 }
 
-#[cfg(linked)]
-fn library(wish: &Wish, total: &mut Total) {
-    library::compare(wish, total);
-}
-
-#[cfg(not(linked))]
-fn library(_: &Wish, _: &mut Total) {}
-
 fn wish(mut words: impl Iterator<Item = String>) -> Option<(Wish, Vec<Part>)> {
     let mut wish = Wish { from: 0, first: false };
     let mut parts = Vec::new();
@@ -68,19 +59,15 @@ fn wish(mut words: impl Iterator<Item = String>) -> Option<(Wish, Vec<Part>)> {
 fn compare(wish: &Wish, parts: &[Part]) -> Result<Total, String> {
     let starter = Starter::find()?;
     for part in parts {
-        match part {
-            Part::Program(program, _) => starter.has(program)?,
-            Part::Library if !cfg!(linked) => {
-                return Err("no library is linked: compare/run links it".to_string())
-            }
-            Part::Library => {}
+        if let Part::Program(program, _) = part {
+            starter.has(program)?;
         }
     }
     let mut total = Total::default();
     for part in parts {
         match part {
             Part::Program(_, compare) => compare(&starter, wish, &mut total),
-            Part::Library => library(wish, &mut total),
+            Part::Library => library::compare(wish, &mut total),
         }
     }
     Ok(total)

@@ -1,5 +1,6 @@
 // Starts a proved program on the bytes of its standard input, under the kit's emulator where it needs one.
 
+mod called;
 pub mod gridread;
 pub mod gridrun;
 pub mod gridstep;

@@ -1,7 +1,9 @@
-// gridstep: records by seed, and every prefix and changed byte of the small ones. Its whole output is compared.
+// gridstep: records by seed, and every prefix and changed byte of the small ones. Its whole output is compared. The program that rt built is started
+// for each record; for all single-byte changes, some 175,000, the program is called as a function.
 
 use oracle::text::{gridstep, GRIDSTEP_BYTES};
 
+use super::called;
 use super::Starter;
 use crate::report::{apart, Met, Outcome, Total, Wanted, Wish};
 use crate::small::SMALL;
@@ -21,10 +23,10 @@ fn met(wanted: &str) -> Met {
     Met::new(words.next().unwrap_or_default(), words.next().unwrap_or_default())
 }
 
-fn outcome(starter: &Starter, source: Source) -> Outcome {
+fn outcome(run: impl Fn(&[u8]) -> Result<Vec<u8>, String>, source: Source) -> Outcome {
     let bytes = source.bytes();
     let wanted = gridstep(&bytes);
-    let differs = match starter.output("gridstep", &[], &bytes) {
+    let differs = match run(&bytes) {
         Ok(given) => apart(wanted.as_bytes(), &given),
         Err(error) => Some(error),
     };
@@ -33,7 +35,8 @@ fn outcome(starter: &Starter, source: Source) -> Outcome {
 
 pub fn compare(starter: &Starter, wish: &Wish, total: &mut Total) {
     let mut part = |title: &str, sources: Vec<Source>, wanted: &Wanted| {
-        total.compare(title, wish, sources.len(), wanted, |number| vec![outcome(starter, sources[number])]);
+        let started = |bytes: &[u8]| starter.output("gridstep", &[], bytes);
+        total.compare(title, wish, sources.len(), wanted, |number| vec![outcome(started, sources[number])]);
     };
 
     let seeds = wish.from..wish.from + SEEDS;
@@ -54,15 +57,29 @@ pub fn compare(starter: &Starter, wish: &Wish, total: &mut Total) {
     let wanted: &Wanted = &[("step", &["0"]), ("record", &["10"])];
     part("gridstep on every prefix of three small records", cut.collect(), wanted);
 
-    let changed = lengths.iter().flat_map(|&(small, length)| {
-        let record = small.record();
-        (0..length).flat_map(move |at| {
-            let byte = record[at];
-            (0..8).map(move |bit| Source::Changed(small, at, byte ^ 1 << bit))
-        })
-    });
-    let title =
-        "gridstep on three small records with every single byte changed to 8 others, each of its bits turned";
-    let wanted: &Wanted = &[("step", &["0", "7"]), ("record", &["1", "3", "4", "6", "11"])];
-    part(title, changed.collect(), wanted);
+    let turned = changes(|byte| (0..8).map(|bit| byte ^ 1 << bit).collect());
+    let title = "gridstep on three small records with each bit of every byte turned";
+    part(title, turned, CHANGED);
+
+    every_change(wish, total);
+}
+
+/// What a single changed byte of the small records can bring about.
+const CHANGED: &Wanted = &[("step", &["0", "7"]), ("record", &["1", "3", "4", "6", "11"])];
+
+/// The small records with each byte made each of its others.
+fn changes(others: impl Fn(u8) -> Vec<u8>) -> Vec<Source> {
+    let mut sources = Vec::new();
+    for small in SMALL {
+        for (at, &byte) in small.record().iter().enumerate() {
+            sources.extend(others(byte).into_iter().map(|other| Source::Changed(small, at, other)));
+        }
+    }
+    sources
+}
+
+fn every_change(wish: &Wish, total: &mut Total) {
+    let sources = changes(|byte| (0..=u8::MAX).filter(|&other| other != byte).collect());
+    let title = "gridstep, called as a function, on three small records with every single byte changed to all 255 others";
+    total.compare(title, wish, sources.len(), CHANGED, |number| vec![outcome(called::gridstep, sources[number])]);
 }

@@ -2,6 +2,7 @@
 use crate::leaning::used_weights;
 use grid::Sides;
 use grid::cells::own;
+use grid::kinds::next_of;
 use grid::neighbours::low_of;
 use grid::neighbours::offsets;
 use lattice::moments::density;
@@ -128,6 +129,6 @@ pub fn gather(flags: &[u8], fill: &[u32], parts: &[i32], masses: &mut [i32], mar
             let t = gifts(flags, fill, parts, masses, marks, &off, low, c);
             masses[c] = (wide(masses[c]) + t) as i32;
         }
-        c += 1;
+        c = next_of(flags, c + 1, 1);
     }
 }

@@ -2,23 +2,26 @@
 use crate::streaming::chosen;
 use collision::collide::collided;
 use collision::gravity::pulled;
+use grid::cells::own;
 use grid::cells::paste;
 use lattice::Settings;
 use lattice::moments::flow_of;
 use lattice::moments::steady;
 use lattice::rules::all_inside;
+use lattice::rules::all_zero;
 ghost use mathlib.Core.Path.{_≡_};
 ghost use mathlib.Core.Bool.{true};
 ghost use mathlib.Core.List.{List};
 ghost use Prim.Native.Nat.{ℕ, _+_, _*_, _≤_};
-ghost use lib.IntN.{ℤ};
-ghost use lib.ListN.{length, getD};
+ghost use lib.IntN.{ℤ, pos};
+ghost use lib.ListN.{length, getD, replicate};
 ghost use Rattle.whole.specs.Fold.{tab};
 ghost use Rattle.lattice.specs.Lattice.{d3q19};
 ghost use Rattle.lattice.specs.Body.{partsOf, Bounded, goodBody};
 ghost use Rattle.grid.specs.State.{liquid};
 ghost use Rattle.grid.specs.Step.{streamed};
 ghost use Rattle.grid.specs.Outcome.{settingsGood};
+ghost use Rattle.grid.specs.Pasted.{pasted};
 ghost use Rattle.grid.specs.Sight.{flowing, noSettings, sight};
 ghost use Rattle.flow.specs.PutAt.{PutAt, Putting};
 
@@ -66,6 +69,17 @@ fn put_moved(f: [i32; 19], parts2: &mut [i32], c: usize, g: Settings) -> Put
     }
 }
 
+// Zeros for cell c, which is dry. A cell that was dry a step or two ago has them already, and looking costs half of what writing does: where most
+// cells are dry a step then takes half the time.
+fn dry_out(parts2: &mut [i32], c: usize)
+    requires { ⌜ 19 * c + 19 ≤ length (now parts2) ⌝ }
+    ensures { λ r. ⌜ now (parts2 .exit) ≡ pasted (now (parts2 .entry)) (19 * c) (replicate 19 (pos 0)) ⌝ }
+{
+    if !all_zero(own(parts2, c)) {
+        paste(parts2, 19 * c, [0i32; 19]);
+    }
+}
+
 // Stages 1 to 4 of cell c: zeros where it is not liquid.
 pub(crate) fn put_parts(
     flags: &[u8],
@@ -84,7 +98,7 @@ pub(crate) fn put_parts(
     if wet(flags[c]) {
         return put_moved(chosen(flags, parts, mark, off, from, low, c), parts2, c, g);
     }
-    paste(parts2, 19 * c, [0i32; 19]);
+    dry_out(parts2, c);
     Put {
         ok: true,
         fair: true,

@@ -2,6 +2,7 @@
 -- Use: the invariant `Blocks f out c` of such a pass, kept by `blocks-more`, and `blocks-all` at its end. Assumes nothing.
 use mathlib.Core.Path.{_≡_, refl, sym, ap, _∙_, subst}
 use mathlib.Core.List.{List, _++_, append-assoc}
+use mathlib.Core.Logic.{⊎-elim}
 use Prim.Native.Nat.{ℕ, zero, suc, _+_, _*_, _/_, _%_, _-_, _≤_, _<_}
 use native.Mathlib.Decide.{ℕ-discrete}
 use native.Mathlib.Nat.{not-suc-le-zero, div-add-mod, mod-lt, div-lt-iff-lt-mul, le-trans}
@@ -54,6 +55,19 @@ module _ (out : List ℤ) (at : ℕ) (v : List ℤ) (fits : at + 19 ≤ length o
       ∙ getD-append-add v (drop (at + 19) out) i (pos 0)
       ∙ getD-drop (at + 19) out i (pos 0)
       ∙ ap (λ (a : ℕ). getD out a (pos 0)) (omega arith)
+
+  -- what stands there already changes nothing
+  pub pasted-same : ((k : ℕ) → k < 19 → getD out (at + k) (pos 0) ≡ getD v k (pos 0)) → pasted out at v ≡ out
+  pasted-same same = ext-getD (pos 0) (pasted out at v) out length-pasted (λ j h. ⊎-elim (λ l. behind j l) (λ l. pasted-before j l) (≤-or at j))
+    where
+      behind : (j : ℕ) → at ≤ j → getD (pasted out at v) j (pos 0) ≡ getD out j (pos 0)
+      behind j l = ⊎-elim (λ m. pasted-after j m) (λ m. inside j l m) (≤-or (at + 19) j)
+        where
+          inside : (j : ℕ) → at ≤ j → j < at + 19 → getD (pasted out at v) j (pos 0) ≡ getD out j (pos 0)
+          inside j l m =
+              let k : ℕ = j - at in
+              let e : j ≡ at + k = omega arith in
+              subst (λ (i : ℕ). getD (pasted out at v) i (pos 0) ≡ getD out i (pos 0)) (sym e) (pasted-inside k (omega arith) ∙ sym (same k (omega arith)))
 
 -- ---- a pass that pastes the parts f c of cell c, for c = 0, 1, ..
 module _ (f : ℕ → ℕ → ℤ) where

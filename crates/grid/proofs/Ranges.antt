@@ -1,9 +1,11 @@
 -- A loop that goes over the places a to b − 1 of a list and stores f c at each, or leaves what is already f c: the list in the end is f there, and
 -- what it was elsewhere. Assumes nothing.
-use mathlib.Core.Path.{_≡_, refl, sym, ap, _∙_}
+use mathlib.Core.Path.{_≡_, refl, sym, ap, _∙_, subst}
 use mathlib.Core.Bool.{Bool, true, false, _&&_, cond}
 use mathlib.Core.List.{List}
-use Prim.Native.Nat.{ℕ, _+_, _≤_, _<_}
+use Prim.Native.Nat.{ℕ, zero, suc, _+_, _-_, _≤_, _<_}
+use native.Mathlib.Nat.{add-zero, add-suc}
+use native.Mathlib.Numerals.{add-one}
 use native.Mathlib.Omega.{arith}
 use native.Mathlib.Decide.{ℕ-discrete, decLt}
 use lib.Dec.{leb, ltb}
@@ -24,6 +26,14 @@ ltb-same a b c d f g = by (decLt a b)
       where
         not-less : (m n : ℕ) → (m < n → ⊥) → n ≤ m
         not-less m n k = omega arith
+
+-- a loop that skips places: what each of them keeps is kept over all
+pub over-gap : (P : ℕ → Type 0) (a b : ℕ) → a ≤ b → ((j : ℕ) → a ≤ j → j < b → P j → P (j + 1)) → P a → P b
+over-gap P a b h keep p = subst P (omega arith) (go (b - a) (omega arith))
+  where
+    go : (n : ℕ) → a + n ≤ b → P (a + n)
+    go zero k = subst P (sym (add-zero a)) p
+    go (suc n) k = subst P (sym (add-suc a n) ∙ refl) (subst P (add-one (a + n)) (keep (a + n) (omega arith) (omega arith) (go n (omega arith))))
 
 module _ {ℓ} {A : Type ℓ} (d : A) (f : ℕ → A) (old : List A) (a b : ℕ) where
   abbrev pub ranged : ℕ → A

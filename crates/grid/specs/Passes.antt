@@ -70,6 +70,13 @@ pub record FirstInRow (s : Sides) (flags : List ℕ) (c x : ℕ) : Type 0 where
   pub before : (k : ℕ) → k < x → not (flagGood (gridOf s) (λ c. getD flags c 3) (c + k)) ≡ false
   pub here : x < s .nx → not (flagGood (gridOf s) (λ c. getD flags c 3) (c + x)) ≡ true
 
+-- r is the lowest place from a on where the byte k stands, the number of bytes if it stands nowhere there
+pub record NextOf (bytes : List ℕ) (a k r : ℕ) : Type 0 where
+  pub least : a ≤ r
+  pub most : r ≤ length bytes
+  pub before : (j : ℕ) → a ≤ j → j < r → getD bytes j 0 ≡ k → ⊥
+  pub here : r < length bytes → getD bytes r 0 ≡ k
+
 -- ---- flags that passed test 4
 
 -- the flag of a cell; what is no cell counts as wall

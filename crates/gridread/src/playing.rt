@@ -5,9 +5,9 @@ use crate::telling::tell;
 use console::answers::answered;
 use console::answers::refused;
 use grid::Sides;
+use reading::reader;
 use record::Site;
 use record::flags;
-use record::reader;
 
 // The arguments from 1 on are requests.
 fn tell_all(s: Sides, t: Site, flags: &[u8], fills: &[u32], count: usize) {

@@ -2,6 +2,7 @@
 use crate::asking::Request;
 use crate::fraction::halves;
 use crate::fraction::shares;
+use columns::column::column_depth;
 use console::line;
 use grid::Sides;
 use record::Site;
@@ -9,7 +10,6 @@ use tunnel::Depth;
 use tunnel::Placed;
 use tunnel::Point;
 use tunnel::cell::cell_point;
-use tunnel::column::column_depth;
 use tunnel::placing::place;
 
 fn tell_place(s: Sides, t: Site, p: Point) {

@@ -6,11 +6,11 @@ use grid::Answer;
 use grid::Sides;
 use lattice::Settings;
 use libc::STDOUT_FILENO;
+use reading::reader;
 use record::Site;
 use record::flags;
-use record::reader;
-use record::writer;
 use run::running;
+use writing::writer;
 
 // As many bytes as both have.
 fn copy(from: &[u8], to: &mut [u8]) {

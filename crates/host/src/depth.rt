@@ -1,7 +1,7 @@
 // Depth of a column.
+use columns::column::column_depth;
 use grid::Sides;
 use tunnel::Depth;
-use tunnel::column::column_depth;
 ghost use mathlib.Core.Path.{_≡_};
 ghost use Rattle.tunnel.specs.Depth.{depthOf};
 ghost use Rattle.host.specs.Kinds.{depthNumber, depthPlace, depthKind, depthValue};

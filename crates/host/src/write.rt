@@ -4,7 +4,7 @@ use crate::answers::place_of;
 use grid::Sides;
 use lattice::Settings;
 use record::Site;
-use record::writer;
+use writing::writer;
 ghost use Rattle.grid.specs.State.{lent};
 ghost use Rattle.host.specs.Promise.{sidesOf, settingsOf, siteOf, WriteTold};
 

@@ -4,10 +4,7 @@ pub mod Assembled
 pub mod Answers
 pub mod Shaped
 pub mod FlagPart
-pub mod Fairness
 pub mod ByFlag
-pub mod Taking
-pub mod ReadBy
 pub mod Spanned
 pub mod WrittenBy
 pub mod SameBytes

@@ -1,21 +1,9 @@
-// Layer 2, the grid record: its reader and its writer. Knows the promises of grid.
-mod cells;
-mod content;
-mod count;
-mod fair;
+// Layer 2, the grid record: its numbers, counts, sections and flags, for reader and writer. Knows the promises of grid.
+pub mod count;
 pub mod flags;
-mod front;
-mod given;
-mod load;
-pub mod loading;
-mod number;
-mod put;
-pub mod reader;
-mod section;
-mod shape;
-mod take;
-mod weigh;
-pub mod writer;
+pub mod given;
+pub mod number;
+pub mod section;
 
 use grid::Answer;
 use grid::Sides;

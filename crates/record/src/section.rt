@@ -21,7 +21,7 @@ pub fn passed(a: Answer) -> bool
 }
 
 // A section of n numbers, from its count on.
-pub fn section(rec: &[u8], number: usize, from: usize, n: usize, size: usize) -> Answer
+pub(crate) fn section(rec: &[u8], number: usize, from: usize, n: usize, size: usize) -> Answer
     requires { ⌜ from ≤ 4294967296 ⌝ }
     requires { ⌜ n ≤ 4294967296 ⌝ }
     requires { ⌜ size ≤ 8 ⌝ }

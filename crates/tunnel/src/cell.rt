@@ -13,7 +13,7 @@ ghost use Rattle.tunnel.specs.Asks.{Inside};
 ghost use Rattle.tunnel.specs.Point.{refused, centreOf, pointOf, PointIs};
 
 // The number of cell (x, y, z).
-pub(crate) fn number(s: Sides, x: usize, y: usize, z: usize) -> usize
+pub fn number(s: Sides, x: usize, y: usize, z: usize) -> usize
     requires { ⌜ Inside s x y z ⌝ }
     ensures { λ r. ⌜ r ≡ cellAt (s .nx) (s .ny) x y z ⌝ }
 {

@@ -11,7 +11,7 @@ pub(crate) fn centre(x: usize) -> f32
 }
 
 // n/65,536: a fill, or a sum of fills, in cells.
-pub(crate) fn share(n: u32) -> f32
+pub fn share(n: u32) -> f32
     requires { ⌜ n < 16777216 ⌝ }
     ensures { λ r. ⌜ Exactly r n 65536 ⌝ }
 {

@@ -1,9 +1,7 @@
-// Layer 3, tunnel readings: placing, cell point and depth. Knows the promises of grid and lattice.
+// Layer 3, tunnel readings: placing and cell point. Knows the promises of grid and lattice.
 pub mod cell;
-pub mod column;
-mod exact;
+pub mod exact;
 pub mod placing;
-mod sum;
 
 // A survey point or the grid's origin, in whole millimetres.
 pub struct Point {

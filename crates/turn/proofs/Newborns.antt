@@ -9,7 +9,7 @@ use lib.Arith.{lt-of-le-ne}
 use lib.Dec.{eqb}
 use lib.IntN.{ℤ, pos}
 use lib.ListN.{length, getD}
-use borrow.Author.Tests.{eqb-true}
+use borrow.Author.Tests.{eqb-true, ne-eqb}
 use Rattle.whole.specs.Bools.{and-left, cond-yes, cond-no}
 use Rattle.whole.specs.Fold.{tab, all}
 use Rattle.whole.specs.Tab.{length-tab, tab-cong}
@@ -19,7 +19,9 @@ use Rattle.grid.specs.Step.{born}
 use Rattle.grid.specs.Good.{bodyGood}
 use Rattle.grid.specs.Pasted.{pasted}
 use Rattle.grid.proofs.Lists.{getD-there}
+use Rattle.grid.proofs.Ranges.{over-gap}
 use Rattle.grid.proofs.Blocks.{Blocks, blocks-zero, blocks-more, blocks-all, length-pasted, pasted-after}
+use Rattle.turn.proofs.Weighed.{all-more}
 use Rattle.turn.specs.Born.{Placed, Visited, Peopled, newlyBorn, laterPart, laterFair}
 
 -- ---- which cells
@@ -33,6 +35,14 @@ newborn-reads flags flags2 c h e =
 pub newborn-empty : (flags flags2 : List ℕ) (c : ℕ) → newlyBorn flags flags2 c ≡ true → getD flags c 3 < 3
 unfolding newlyBorn
 newborn-empty flags flags2 c e = omega (arith, eqb-true (getD flags c 3) 0 (and-left (eqb (getD flags c 3) 0) (eqb (getD flags2 c 3) 1) e))
+
+-- what is not interface now was not born
+pub unborn : (flags flags2 : List ℕ) (c : ℕ) → c < length flags → length flags2 ≡ length flags → (getD flags2 c 0 ≡ 1 → ⊥) → newlyBorn flags flags2 c ≡ false
+unborn flags flags2 c h e n = sym (newborn-reads flags flags2 c h e) ∙ never (eqb (getD flags c 0) 0) (eqb (getD flags2 c 0) 1) (ne-eqb (getD flags2 c 0) 1 n)
+  where
+    never : (a b : Bool) → b ≡ false → (a && b) ≡ false
+    never true b k = k
+    never false b k = refl
 
 -- ---- one visit
 module _ {S : Scene} {w : ℕ → Bool} {c : ℕ} {before after : List ℤ} {fair : Bool} where
@@ -49,6 +59,10 @@ visited-no {S} {w} {c} before e = record {
 }
 
 -- ---- all visits
+and-yes : (b : Bool) → (b && true) ≡ b
+and-yes true = refl
+and-yes false = refl
+
 module _ (S : Scene) (w : ℕ → Bool) (before : List ℤ) where
   -- the first c cells are visited, the others are as they were
   pub record Reached (after : List ℤ) (c : ℕ) : Type 0 where
@@ -96,6 +110,15 @@ module _ (S : Scene) (w : ℕ → Bool) (before : List ℤ) where
   pub visited-fair : {c : ℕ} {after later : List ℤ} {fair : Bool} → Visited S w c after later fair → fair ≡ laterFair S w c
   unfolding laterFair
   visited-fair v = v .fair-is
+
+  -- cells that are not born are as good as visited
+  pub reached-past : (after : List ℤ) (n a b : ℕ) (fair : Bool) → length before ≡ 19 * n → a ≤ b → b ≤ n → ((j : ℕ) → a ≤ j → j < b → w j ≡ false)
+      → Reached after a × (fair ≡ all a (laterFair S w)) → Reached after b × (fair ≡ all b (laterFair S w))
+  reached-past after n a b fair e h k none =
+      over-gap (λ j. Reached after j × (fair ≡ all j (laterFair S w))) a b h
+      (λ j l m r.
+      let v : Visited S w j after after true = visited-no after (none j l m) in
+      (reached-more after after j (omega arith) (r .0) v, sym (and-yes fair) ∙ ap₂ _&&_ (r .1) (visited-fair v) ∙ all-more j (laterFair S w)))
 
   pub peopled : (after : List ℤ) (n : ℕ) (fair : Bool) → length before ≡ 19 * n → Reached after n → fair ≡ all n (laterFair S w) → Peopled S w n before after fair
   peopled after n fair e r f = record { parts = blocks-all (laterPart S w before) after n (r .long ∙ e) (r .done); fair-is = f }

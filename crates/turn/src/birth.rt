@@ -5,6 +5,7 @@ use flow::streaming::streamed;
 use grid::Sides;
 use grid::cells::paste;
 use grid::kinds::is_liquid;
+use grid::kinds::next_of;
 use grid::neighbours::low_of;
 use grid::neighbours::offsets;
 use lattice::Flow;
@@ -202,7 +203,7 @@ pub(crate) fn newborn(
     let mut c = 0;
     while c < flags.len() {
         fair = fair & visit(flags, parts, flags2, parts2, &off, low, c, g);
-        c += 1;
+        c = next_of(flags2, c + 1, 1);
     }
     fair
 }

@@ -11,7 +11,7 @@ use lib.ListN.{length, getD}
 use mir.Syntax.{w64}
 use mir.Val.{toZ, ofZ}
 use Rattle.whole.specs.Machine.{Val, does-fit, reads-as, v+, v64, v32}
-use Rattle.grid.proofs.Ranges.{Ranged, ranged-first, ranged-more, ranged-keep, ranged-all}
+use Rattle.grid.proofs.Ranges.{Ranged, over-gap, ranged-first, ranged-more, ranged-keep, ranged-all}
 use Rattle.excess.specs.Gifts.{gatheredAt, receivedAt, Giving}
 use Rattle.excess.proofs.Takes.{taking, took, kept, marked-still, giving-still, received-still, received-in, in-range, giving-as}
 use Rattle.excess.proofs.Readings.{told, told64, held-in}
@@ -106,27 +106,34 @@ mul-t25 c =
 slice-set-from-masses : tie.Need-slice-set-from-masses Inv-loop μ-loop
 slice-set-from-masses c = there (c .before .before .before .before .before .before .before)
 
-add-c : tie.Need-add-c Inv-loop μ-loop
-add-c c = search needs
+add-next-of : tie.Need-add-next-of Inv-loop μ-loop
+add-next-of c = search needs
+
+next-of-requires : tie.Need-next-of-requires Inv-loop μ-loop
+next-of-requires c κs = search needs
 
 loop-less : tie.Need-loop-less Inv-loop μ-loop
-loop-less c = search needs
+loop-less c = omega (arith, c .next-of .ensures .least, c .next-of .ensures .most, c .before .before .before .loop-test .taken)
 
 loop-again : tie.Need-loop-again Inv-loop μ-loop
 loop-again c =
-    let l = c .before .before .before in
+    let b = c .before in
+    let l = b .before .before .before in
     let a = l .before .before .before .before .before .before .args in
-    let h = c .before .before .loop-test .taken in
+    let h = b .before .before .loop-test .taken in
     let n : length (a .flags .now) ≤ length (a .masses .now) = omega (arith, l .before .before .before .before .before .before .pre .giving .masses-there) in
-    ⊎-elim
+    -- the cells up to the next interface cell keep their masses
+    over-gap (λ j. Ranged (pos 0) (taking (giving (l .before))) (a .masses .now) 0 (length (a .flags .now)) (b .if1 .masses) j) (l .loop .c + 1) (c .next-of .result) (c .next-of .ensures .least)
+    (λ j k m r. ranged-keep (pos 0) (taking (giving (l .before))) (a .masses .now) 0 (length (a .flags .now)) (b .if1 .masses) j r (omega (arith, c .next-of .ensures .most)) (kept (giving (l .before)) j (c .next-of .ensures .before j k m)))
+    (⊎-elim
     (λ w.
-    let d : tie.After-wide Inv-loop μ-loop = record { before = record { before = record { before = record { before = record { before = record { before = c .before; if1 = w .0 }; gifts-arg = w .1 }; off = w .2 }; gifts = w .3 }; wide-arg = w .4 }; wide = w .5 } in
+    let d : tie.After-wide Inv-loop μ-loop = record { before = record { before = record { before = record { before = record { before = record { before = b .before; if1 = w .0 }; gifts-arg = w .1 }; off = w .2 }; gifts = w .3 }; wide-arg = w .4 }; wide = w .5 } in
     subst (λ (m : List ℤ). Ranged (pos 0) (taking (giving (l .before))) (a .masses .now) 0 (length (a .flags .now)) m (l .loop .c + 1)) (sym (w .6))
     (ranged-more (pos 0) (taking (giving (l .before))) (a .masses .now) 0 (length (a .flags .now)) (l .loop .masses) (l .loop .c) _ (l .loop .inv) h n
     (reads-as (v32 (v64 (both d))) tt ∙ took (giving (l .before)) (l .loop .c) (w .0 .taken))))
     (λ w. subst (λ (m : List ℤ). Ranged (pos 0) (taking (giving (l .before))) (a .masses .now) 0 (length (a .flags .now)) m (l .loop .c + 1)) (sym (w .1))
     (ranged-keep (pos 0) (taking (giving (l .before))) (a .masses .now) 0 (length (a .flags .now)) (l .loop .masses) (l .loop .c) (l .loop .inv) h (kept (giving (l .before)) (l .loop .c) (w .0 .left))))
-    (c .if1 .came)
+    (b .if1 .came))
 
 same-length : tie.Need-same-length Inv-loop μ-loop
 same-length c = c .before .loop .inv .size
@@ -160,7 +167,8 @@ gather-spec =
     cast-masses
     mul-t25
     slice-set-from-masses
-    add-c
+    add-next-of
+    next-of-requires
     loop-less
     loop-again
     same-length

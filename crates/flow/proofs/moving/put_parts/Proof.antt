@@ -50,11 +50,8 @@ returns c =
     let t = c .before .before .before .before in
     c .before .put-moved .ensures _ _ _ _ (kind t) (c .before .before .before .chosen .ensures)
 
-mul-paste : tie.Need-mul-paste
-mul-paste c = search needs
-
-paste-requires : tie.Need-paste-requires
-paste-requires c κs = search needs
+dry-out-requires : tie.Need-dry-out-requires
+dry-out-requires c κs = room (c .before .before .before .before .before)
 
 same-length-2 : tie.Need-same-length-2
 same-length-2 c = search needs
@@ -63,7 +60,7 @@ returns-2 : tie.Need-returns-2
 returns-2 c =
     let e = c .before .before .before in
     let s = e .before .before .before .before in
-    put-dry _ _ _ _ _ _ (sym (ap liquid (flag s)) ∙ sym (e .before .wet .ensures) ∙ e .if1 .left) _ _ (room s) (c .before .paste .ensures)
+    put-dry _ _ _ _ _ _ (sym (ap liquid (flag s)) ∙ sym (e .before .wet .ensures) ∙ e .if1 .left) _ _ (room s) (c .before .dry-out .ensures)
 
 pub put-parts-spec : {M : Type 1} → statement M
 put-parts-spec =
@@ -75,7 +72,6 @@ put-parts-spec =
     put-moved-requires
     same-length
     returns
-    mul-paste
-    paste-requires
+    dry-out-requires
     same-length-2
     returns-2)

@@ -3,14 +3,14 @@ use borrow.Author.Needs.{needs}
 use mathlib.Core.Path.{_≡_, _∙_, ap, ap₂, subst}
 use mathlib.Core.Bool.{Bool, _&&_}
 use mathlib.Core.List.{List}
-use Prim.Native.Nat.{ℕ, _-_, _≤_, _<_}
+use Prim.Native.Nat.{ℕ, _+_, _-_, _≤_, _<_}
 use native.Mathlib.Omega.{arith}
 use lib.ListN.{length}
 use Rattle.whole.specs.Fold.{all}
 use Rattle.grid.specs.Passes.{lowOf}
 use Rattle.turn.specs.Born.{flowSight, newlyBorn, laterFair, Peopled}
 use Rattle.turn.proofs.Weighed.{all-none, all-more}
-use Rattle.turn.proofs.Newborns.{Reached, reached-zero, reached-more, visited-fair, peopled}
+use Rattle.turn.proofs.Newborns.{Reached, reached-zero, reached-more, reached-past, unborn, visited-fair, peopled}
 use Rattle.turn.proofs.birth.newborn.Statement.{statement}
 use Rattle.turn.proofs.birth.newborn.Tie as tie
 
@@ -41,24 +41,38 @@ visit-requires c κs =
     let l = c .before .before .before .loop in
     (rw (c .before .before .before .before .before .offsets .ensures, c .before .before .before .before .low-of .ensures) (s .pre .1), c .before .before .loop-test .taken, l .inv .1 .long ∙ s .pre .2)
 
-add-c : tie.Need-add-c Inv-loop μ-loop
-add-c c = search needs
+add-next-of : tie.Need-add-next-of Inv-loop μ-loop
+add-next-of c = search needs
+
+next-of-requires : tie.Need-next-of-requires Inv-loop μ-loop
+next-of-requires c κs =
+    let s = c .before .before .before .before .before .before .before .before .before .before in
+    omega (arith, s .pre .1 .count, c .before .before .before .before .loop-test .taken)
 
 loop-less : tie.Need-loop-less Inv-loop μ-loop
-loop-less c = search needs
+loop-less c =
+    let s = c .before .before .before .before .before .before .before .before .before .before .before in
+    omega (arith, c .next-of .ensures .least, c .next-of .ensures .most, s .pre .1 .count, c .before .before .before .before .before .loop-test .taken)
 
 loop-again : tie.Need-loop-again Inv-loop μ-loop
 loop-again c =
-    let s = c .before .before .before .before .before .before .before .before .before .before in
+    let b = c .before in
+    let s = b .before .before .before .before .before .before .before .before .before .before in
     let a = s .args in
-    let l = c .before .before .before .before .before .loop in
-    let S = flowSight (a .flags .now) (a .parts .now) (c .before .before .before .before .before .before .before .offsets .result) (c .before .before .before .before .before .before .low-of .result) (a .g) in
+    let l = b .before .before .before .before .before .loop in
+    let S = flowSight (a .flags .now) (a .parts .now) (b .before .before .before .before .before .before .before .offsets .result) (b .before .before .before .before .before .before .low-of .result) (a .g) in
     let w = newlyBorn (a .flags .now) (a .flags2 .now) in
-    let h : l .c < length (a .flags .now) = c .before .before .before .before .loop-test .taken in (
-      omega arith,
-      reached-more S w (a .parts2 .now) (l .parts2) (c .before .visit .last .1 .1 .1 .0) (l .c) (omega (arith, s .pre .2)) (l .inv .1) (c .before .visit .ensures),
-      ap₂ (λ (x y : Bool). x && y) (l .inv .2) (visited-fair S w (a .parts2 .now) (c .before .visit .ensures)) ∙ all-more (l .c) (laterFair S w),
-    )
+    let h : l .c < length (a .flags .now) = b .before .before .before .before .loop-test .taken in
+    let n = c .next-of .ensures in
+    let m : c .next-of .result ≤ length (a .flags .now) = omega (arith, n .most, s .pre .1 .count) in
+    -- up to the next interface cell nothing is born
+    let r =
+    reached-past S w (a .parts2 .now) (b .before .visit .last .1 .1 .1 .0) (length (a .flags .now)) (l .c + 1) (c .next-of .result) _ (s .pre .2) (n .least) m
+    (λ j k i. unborn (a .flags .now) (a .flags2 .now) j (omega arith) (s .pre .1 .count) (n .before j k i)) (
+      reached-more S w (a .parts2 .now) (l .parts2) (b .before .visit .last .1 .1 .1 .0) (l .c) (omega (arith, s .pre .2)) (l .inv .1) (b .before .visit .ensures),
+      ap₂ (λ (x y : Bool). x && y) (l .inv .2) (visited-fair S w (a .parts2 .now) (b .before .visit .ensures)) ∙ all-more (l .c) (laterFair S w),
+    ) in
+    (m, r .0, r .1)
 
 same-length : tie.Need-same-length Inv-loop μ-loop
 same-length c = c .before .loop .inv .1 .long
@@ -88,7 +102,8 @@ newborn-spec =
     low-of-requires
     loop-holds
     visit-requires
-    add-c
+    add-next-of
+    next-of-requires
     loop-less
     loop-again
     same-length

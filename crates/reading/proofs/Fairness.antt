@@ -1,0 +1,159 @@
+-- Test 6 of a record read: a cell's rules come to what its own numbers say, and the search over the cells with the carry behind it is test 6's place.
+-- Assumes nothing.
+use mathlib.Core.Path.{_≡_, refl, sym, ap, ap₂, _∙_, subst}
+use mathlib.Core.Bool.{Bool, true, false, not, cond, _&&_, false≢true}
+use mathlib.Core.List.{List}
+use mathlib.Core.Logic.{_⊎_, inl, inr}
+use Prim.Native.Nat.{ℕ, zero, suc, _+_, _*_, _≤_, _<_}
+use native.Mathlib.Nat.{add-suc, suc-add, zero-add, lt-irrefl, eq-or-lt-of-le, le-of-suc-le-suc}
+use native.Mathlib.Omega.{arith}
+use lib.Dec.{eqb}
+use lib.IntN.{ℤ, pos, negsuc}
+use lib.ListN.{length, getD}
+use borrow.Author.Tests.{eq-eqb, ne-eqb}
+use Rattle.whole.specs.Fold.{tab, all, first, firstFrom}
+use Rattle.whole.specs.Search.{first-cong, first-none, first-all, first-is}
+use Rattle.whole.specs.Tab.{getD-tab}
+use Rattle.lattice.specs.Lattice.{Lattice, d3q19, density}
+use Rattle.lattice.specs.Cell.{massGood, carryGood, fillOf}
+use Rattle.lattice.specs.Body.{partsOf, goodBody}
+use Rattle.grid.specs.State.{State, byFlag, liquid}
+use Rattle.grid.specs.Step.{fillFor}
+use Rattle.grid.specs.Good.{eqZ, bodyGood, dryGood, interfaceGood, fluidGood, fillGood, cellGood, badRule}
+use Rattle.grid.specs.Passes.{flagOf}
+use Rattle.grid.proofs.Lists.{getD-there}
+use Rattle.grid.proofs.Same.{body-same}
+use Rattle.record.specs.Bytes.{i32At}
+use Rattle.record.specs.Layout.{interfaces, liquids, massesFrom, partsFrom}
+use Rattle.record.specs.Reading.{cellsIn, flagsIn, flagIn, interfacesIn, massAt, partAt, massIn, partIn, stateIn}
+use Rattle.record.specs.Passes.{heldMass, heldPart, fairBy, fairAt}
+
+-- ---- one cell
+pub body-is : (f : ℕ → ℤ) → goodBody d3q19 f ≡ bodyGood d3q19 f
+unfolding goodBody bodyGood
+body-is f = refl
+
+-- parts read into an array
+pub body-tab : (f : ℕ → ℤ) → goodBody d3q19 (partsOf (tab 19 f)) ≡ goodBody d3q19 f
+unfolding d3q19
+body-tab f =
+    body-is (partsOf (tab 19 f)) ∙ body-same d3q19 (partsOf (tab 19 f)) f (λ k h. getD-tab 19 f (pos 0) k (omega arith)) ∙ sym (body-is f)
+
+abbrev Dry : ℕ → Type 0
+Dry f = _≡_ {A = ℕ} (cond (liquid f) 1 0) 0
+
+-- each way through the test
+pub fair-dry : (f : ℕ) (m : ℤ) (g : ℕ → ℤ) → Dry f → fairBy f m g ≡ true
+unfolding fairBy
+fair-dry zero m g e = refl
+fair-dry (suc zero) m g e = absurd (let z : _≡_ {A = ℕ} 1 0 = e in omega arith)
+fair-dry (suc (suc zero)) m g e = absurd (let z : _≡_ {A = ℕ} 1 0 = e in omega arith)
+fair-dry (suc (suc (suc f))) m g e = refl
+
+pub fair-not : (f : ℕ) (m : ℤ) (g : ℕ → ℤ) → (Dry f → ⊥) → goodBody d3q19 g ≡ false → fairBy f m g ≡ false
+unfolding fairBy
+fair-not zero m g h e = absurd (h refl)
+fair-not (suc zero) m g h e = rw e
+fair-not (suc (suc zero)) m g h e = e
+fair-not (suc (suc (suc f))) m g h e = absurd (h refl)
+
+pub fair-fluid : (f : ℕ) (m : ℤ) (g : ℕ → ℤ) → (f ≡ 1 → ⊥) → goodBody d3q19 g ≡ true → fairBy f m g ≡ true
+unfolding fairBy
+fair-fluid zero m g h e = refl
+fair-fluid (suc zero) m g h e = absurd (h refl)
+fair-fluid (suc (suc zero)) m g h e = e
+fair-fluid (suc (suc (suc f))) m g h e = refl
+
+pub fair-interface : (f : ℕ) (m : ℤ) (g : ℕ → ℤ) → f ≡ 1 → goodBody d3q19 g ≡ true → fairBy f m g ≡ massGood m
+unfolding fairBy
+fair-interface f m g h e = rw (h, e)
+
+-- a cell's numbers as a loop over the flags finds them
+pub fair-at : (rec flags : List ℕ) (masses parts m p c : ℕ) → c < length flags → m ≡ masses + 4 * interfaces c (flagOf flags) → p ≡ parts + 76 * liquids c (flagOf flags)
+    → fairBy (getD flags c 0) (i32At rec m) (λ k. i32At rec (p + 4 * k)) ≡ fairAt rec flags masses parts c
+unfolding fairAt fairBy d3q19
+fair-at rec flags masses parts m p c h e d =
+    let g : ℕ → ℤ = λ k. i32At rec (p + 4 * k) in
+    let one : getD flags c 0 ≡ flagOf flags c = getD-there flags c 0 3 h in
+    let same : goodBody d3q19 g ≡ goodBody d3q19 (heldPart rec flags parts c) =
+    body-is g
+    ∙ body-same d3q19 g (heldPart rec flags parts c) (λ k l. ap (i32At rec) (let q : p + 4 * k ≡ parts + 4 * (19 * liquids c (flagOf flags) + k) = omega arith in q))
+    ∙ sym (body-is (heldPart rec flags parts c)) in
+    ap₂ (λ (f i : ℕ). fairBy f (i32At rec i) g) one e
+    ∙ ap (λ (t : Bool). byFlag (flagOf flags c) true (t && massGood (heldMass rec flags masses c)) t true) same
+
+-- wall and empty cells keep their rules, fluid mass and every fill are worked out: what is left are the numbers that the record holds
+eqZ-self : (z : ℤ) → eqZ z z ≡ true
+eqZ-self (pos n) = eq-eqb n n refl
+eqZ-self (negsuc n) = eq-eqb n n refl
+
+and-yes : (a b : Bool) → b ≡ true → (a && b) ≡ a
+and-yes true b e = e
+and-yes false b e = refl
+
+cell-by : (f : ℕ) (m : ℤ) (g : ℕ → ℤ) → let part : ℕ → ℤ = λ k. byFlag f (pos 0) (g k) (g k) (pos 0) in
+    let mass : ℤ = byFlag f (pos 0) m (density d3q19 part) (pos 0) in
+    let dry : Bool = eqZ mass (pos 0) && all 19 (λ k. eqZ (part k) (pos 0)) in
+    (byFlag f dry (bodyGood d3q19 part && massGood mass) (bodyGood d3q19 part && eqZ mass (density d3q19 part)) dry && eqb (fillFor f mass (density d3q19 part)) (fillFor f mass (density d3q19 part))) ≡ fairBy f m g
+unfolding fairBy fillFor all
+cell-by zero m g = refl
+cell-by (suc zero) m g =
+    let ρ = density d3q19 g in
+    and-yes (bodyGood d3q19 g && massGood m) (eqb (fillOf m ρ) (fillOf m ρ)) (eq-eqb (fillOf m ρ) (fillOf m ρ) refl)
+    ∙ ap (λ (t : Bool). t && massGood m) (sym (body-is g))
+cell-by (suc (suc zero)) m g =
+    let ρ = density d3q19 g in
+    and-yes (bodyGood d3q19 g && eqZ ρ ρ) (eqb 65536 65536) refl ∙ and-yes (bodyGood d3q19 g) (eqZ ρ ρ) (eqZ-self ρ) ∙ sym (body-is g)
+cell-by (suc (suc (suc f))) m g = refl
+
+pub cell-fair : (r : List ℕ) (masses parts c : ℕ) → masses ≡ massesFrom (cellsIn r) + 4 → parts ≡ partsFrom (cellsIn r) (interfacesIn r) + 4
+    → cellGood d3q19 (stateIn r) c ≡ fairAt r (flagsIn r) masses parts c
+unfolding cellGood dryGood interfaceGood fluidGood fillGood stateIn massIn partIn massAt partAt flagIn fairAt d3q19
+cell-fair r masses parts c e d =
+    cell-by (flagIn r c) (massAt r c) (partAt r c)
+    ∙ ap₂ (λ (i j : ℕ). fairBy (flagIn r c) (i32At r (i + 4 * interfaces c (flagIn r))) (λ k. i32At r (j + 4 * (19 * liquids c (flagIn r) + k)))) (sym e) (sym d)
+
+-- ---- the search
+from-longer : (n i : ℕ) (f : ℕ → Bool) → firstFrom n i f < i + n → firstFrom (suc n) i f ≡ firstFrom n i f
+unfolding firstFrom
+from-longer zero i f h = absurd (omega arith)
+from-longer (suc n) i f h = go (f i) refl (λ k. from-longer n (suc i) f k)
+  where
+    go : (t : Bool) → f i ≡ t → (firstFrom n (suc i) f < suc i + n → firstFrom (suc n) (suc i) f ≡ firstFrom n (suc i) f)
+        → firstFrom (suc (suc n)) i f ≡ firstFrom (suc n) i f
+    go true e r = rw (e, firstFrom) refl
+    go false e r =
+        let k : firstFrom n (suc i) f < suc i + n = subst (λ (m : ℕ). firstFrom n (suc i) f < m) (add-suc i n ∙ sym (suc-add i n)) (rw (e, firstFrom) at h) in
+        rw (e, firstFrom) (r k)
+
+-- test 6 as the code goes: the cells first, and the carry where no cell is bad
+module _ (n : ℕ) (S : State) (f : ℕ → Bool) (is : (c : ℕ) → c < n → f c ≡ not (cellGood d3q19 S c)) where
+  abbrev bad : ℕ → Bool
+  bad c = cond (eqb c n) (not (carryGood (S .carry))) (not (cellGood d3q19 S c))
+
+  at-cell : (c : ℕ) → c < n → bad c ≡ f c
+  at-cell c h = ap (λ (t : Bool). cond t (not (carryGood (S .carry))) (not (cellGood d3q19 S c))) (ne-eqb c n (λ e. lt-irrefl n (subst (λ (m : ℕ). m < n) e h))) ∙ sym (is c h)
+
+  at-carry : bad n ≡ not (carryGood (S .carry))
+  at-carry = ap (λ (t : Bool). cond t (not (carryGood (S .carry))) (not (cellGood d3q19 S n))) (eq-eqb n n refl)
+
+  pub bad-cell : first n f < n → badRule d3q19 n S ≡ first n f
+  unfolding badRule
+  bad-cell h =
+      let e : first n bad ≡ first n f = first-cong n 0 bad f (λ a k. ap bad (zero-add a) ∙ at-cell a k ∙ sym (ap f (zero-add a))) in
+      from-longer n 0 bad (subst (λ (m : ℕ). m < 0 + n) (sym e) (omega arith)) ∙ e
+
+  none : n ≤ first n f → (c : ℕ) → c < n → bad c ≡ false
+  none h c k = at-cell c k ∙ first-none n f h c k
+
+  pub bad-carry : n ≤ first n f → carryGood (S .carry) ≡ false → badRule d3q19 n S ≡ n
+  unfolding badRule
+  bad-carry h e = first-is (suc n) bad n (omega arith) (none h) (at-carry ∙ ap not e)
+
+  pub none-bad : n ≤ first n f → carryGood (S .carry) ≡ true → badRule d3q19 n S ≡ suc n
+  unfolding badRule
+  none-bad h e = first-all (suc n) bad (λ c k. go c (eq-or-lt-of-le (le-of-suc-le-suc k)))
+    where
+      go : (c : ℕ) → (c ≡ n) ⊎ (c < n) → bad c ≡ false
+      go c (inl p) = ap bad p ∙ at-carry ∙ ap not e
+      go c (inr k) = none h c k

@@ -1,0 +1,3 @@
+pub mod Fairness
+pub mod Taking
+pub mod ReadBy

@@ -1,0 +1,9 @@
+// Layer 2, the reader of grid records. Knows the promises of record.
+mod content;
+mod fair;
+mod load;
+pub mod loading;
+pub mod reader;
+mod shape;
+mod take;
+mod weigh;

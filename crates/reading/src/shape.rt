@@ -1,0 +1,56 @@
+// The reader's sections in their order, with tests 1, 2 and 4 on the way.
+use grid::Answer;
+use grid::Sides;
+use grid::extent::cells;
+use grid::layer::first_bad_flag;
+use record::count::interface_cells;
+use record::count::liquid_cells;
+use record::given::opening;
+use record::given::sides_in;
+use record::section::cell_sections;
+use record::section::front_sections;
+use record::section::passed;
+ghost use mathlib.Core.Path.{_≡_};
+ghost use mathlib.Core.Bool.{true};
+ghost use Prim.Native.Nat.{_+_, _*_, _≤_};
+ghost use lib.Dec.{leb};
+ghost use lib.ListN.{length};
+ghost use Rattle.grid.specs.declared.Answer.the-variants.{Done};
+ghost use Rattle.grid.specs.Grid.{sidesGood, gridOf};
+ghost use Rattle.grid.specs.Good.{badFlag};
+ghost use Rattle.grid.specs.Outcome.{orRefuse, ifNone};
+ghost use Rattle.record.specs.Layout.{massesFrom, partsFrom, lengthOf};
+ghost use Rattle.record.specs.Reading.{sidesIn, cellsIn, flagIn, interfacesIn, liquidsIn, whole, shapeAnswer};
+
+// Test 4 of the flags, the sections behind them, and that nothing follows.
+fn behind(rec: &[u8], s: Sides) -> Answer
+    requires { ⌜ s ≡ sidesIn (now rec) ⌝ }
+    requires { ⌜ sidesGood s ≡ true ⌝ }
+    requires { ⌜ 84 + cellsIn (now rec) ≤ length (now rec) ⌝ }
+    ensures { λ r. ⌜ r ≡ ifNone (cellsIn (now (rec .entry))) 4 (badFlag (gridOf (sidesIn (now (rec .entry)))) (flagIn (now (rec .entry)))) (whole (now (rec .entry)) 6 (massesFrom (cellsIn (now (rec .entry)))) (interfacesIn (now (rec .entry))) 4 (whole (now (rec .entry)) 7 (partsFrom (cellsIn (now (rec .entry))) (interfacesIn (now (rec .entry)))) (19 * liquidsIn (now (rec .entry))) 4 (orRefuse (leb (length (now (rec .entry))) (lengthOf (cellsIn (now (rec .entry))) (interfacesIn (now (rec .entry))) (liquidsIn (now (rec .entry))))) 10 (lengthOf (cellsIn (now (rec .entry))) (interfacesIn (now (rec .entry))) (liquidsIn (now (rec .entry)))) Done))) ⌝ }
+{
+    let n = cells(s);
+    let end = 84 + n;
+    let flags = &rec[84..end];
+    let bad = first_bad_flag(flags, s);
+    if bad < n {
+        return Answer::Refused(4, bad);
+    }
+    cell_sections(rec, n, interface_cells(flags), liquid_cells(flags))
+}
+
+// All sections and the tests on the way, beside slices of these lengths.
+pub fn shape(rec: &[u8], parts: usize, masses: usize, fills: usize, carry: usize) -> Answer
+    ensures { λ r. ⌜ r ≡ shapeAnswer (now (rec .entry)) parts masses fills carry Done ⌝ }
+{
+    let first = opening(rec, parts, masses, fills, carry);
+    if !passed(first) {
+        return first;
+    }
+    let s = sides_in(rec);
+    let front = front_sections(rec, cells(s));
+    if !passed(front) {
+        return front;
+    }
+    behind(rec, s)
+}
