@@ -1,5 +1,7 @@
-// gridstep: records by seed, and every prefix and changed byte of the small ones. Its whole output is compared. The program that rt built is started
-// for each record; for all single-byte changes, some 175,000, the program is called as a function.
+// gridstep: records by seed, and every prefix and changed byte of the small ones. Its whole output is compared. The program that rt built is started,
+// some thousands of times; and the program is called as a function for many more records and for all single-byte changes, some 176,000.
+
+use std::ops::Range;
 
 use oracle::text::{gridstep, GRIDSTEP_BYTES};
 
@@ -9,8 +11,9 @@ use crate::report::{apart, Met, Outcome, Total, Wanted, Wish};
 use crate::small::SMALL;
 use crate::source::Source;
 
-/// Good records, and as many damaged ones.
+/// Good records, and as many damaged ones: by starts of the program, and by calls.
 const SEEDS: u64 = 1200;
+const CALLED: u64 = 10_000;
 
 /// All that gridstep can answer: to a step, and to a record.
 const ANSWERS: &Wanted =
@@ -39,9 +42,7 @@ pub fn compare(starter: &Starter, wish: &Wish, total: &mut Total) {
         total.compare(title, wish, sources.len(), wanted, |number| vec![outcome(started, sources[number])]);
     };
 
-    let seeds = wish.from..wish.from + SEEDS;
-    let mut sources: Vec<Source> =
-        seeds.flat_map(|seed| [Source::Good(seed), Source::Damaged(seed)]).collect();
+    let mut sources = by_seed(wish.from..wish.from + SEEDS);
     // About the most bytes that it takes, and the most cells: 861 and 864.
     sources.extend((0..3).map(|more| Source::Followed(SMALL[0], GRIDSTEP_BYTES - 1 + more)));
     sources.push(Source::Followed(SMALL[0], 3 * GRIDSTEP_BYTES));
@@ -61,7 +62,13 @@ pub fn compare(starter: &Starter, wish: &Wish, total: &mut Total) {
     let title = "gridstep on three small records with each bit of every byte turned";
     part(title, turned, CHANGED);
 
-    every_change(wish, total);
+    called_by_seed(wish, total);
+    called_on_changes(wish, total);
+}
+
+/// A good and a damaged record of each seed.
+fn by_seed(seeds: Range<u64>) -> Vec<Source> {
+    seeds.flat_map(|seed| [Source::Good(seed), Source::Damaged(seed)]).collect()
 }
 
 /// What a single changed byte of the small records can bring about.
@@ -78,8 +85,21 @@ fn changes(others: impl Fn(u8) -> Vec<u8>) -> Vec<Source> {
     sources
 }
 
-fn every_change(wish: &Wish, total: &mut Total) {
+fn call(title: &str, wish: &Wish, total: &mut Total, sources: &[Source], wanted: &Wanted) {
+    let title = format!("gridstep, called as a function, on {title}");
+    total.compare(&title, wish, sources.len(), wanted, |number| {
+        vec![outcome(called::gridstep, sources[number])]
+    });
+}
+
+fn called_by_seed(wish: &Wish, total: &mut Total) {
+    let from = wish.from + SEEDS;
+    let title = format!("{CALLED} good and {CALLED} damaged records more, seeds from {from}");
+    call(&title, wish, total, &by_seed(from..from + CALLED), ANSWERS);
+}
+
+fn called_on_changes(wish: &Wish, total: &mut Total) {
     let sources = changes(|byte| (0..=u8::MAX).filter(|&other| other != byte).collect());
-    let title = "gridstep, called as a function, on three small records with every single byte changed to all 255 others";
-    total.compare(title, wish, sources.len(), CHANGED, |number| vec![outcome(called::gridstep, sources[number])]);
+    let title = "three small records with every single byte changed to all 255 others";
+    call(title, wish, total, &sources, CHANGED);
 }
