@@ -1,9 +1,9 @@
 // Stage 6: how the surface of a converted cell leans, and what its neighbours weigh by that. k is c - low.
 use lattice::Flow;
 use lattice::directions::dots;
-use lattice::excess::even;
-use lattice::excess::total;
-use lattice::excess::weight;
+use surface::excess::even;
+use surface::excess::total;
+use surface::excess::weight;
 ghost use mathlib.Core.Path.{_≡_};
 ghost use Prim.Native.Nat.{_<_};
 ghost use lib.IntN.{pos, _-ℤ_};

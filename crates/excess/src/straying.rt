@@ -5,7 +5,7 @@ use grid::Sides;
 use grid::neighbours::low_of;
 use grid::neighbours::offsets;
 use grid::seeking::next_marked;
-use lattice::excess::total;
+use surface::excess::total;
 ghost use mathlib.Core.Path.{_≡_};
 ghost use Prim.Native.Nat.{_<_};
 ghost use lib.IntN.{_+ℤ_};

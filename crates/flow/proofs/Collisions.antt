@@ -16,12 +16,12 @@ use Rattle.whole.specs.Tab.{length-tab, getD-tab, tab-cong}
 use Rattle.lattice.specs.Lattice.{V3, dot, d3q19, density, momentum}
 use Rattle.lattice.specs.Cell.{dense, slow, pull, quad, relaxed, relaxationGood, gravityGood}
 use Rattle.lattice.specs.Body.{partsOf, Bounded, vec, steadyFlow, goodBody, relaxedDir, collidedPart}
-use Rattle.lattice.specs.Post.{Pulled}
 use Rattle.lattice.specs.declared.Flow.{Flow}
 use Rattle.lattice.specs.declared.Settings.{Settings}
 use Rattle.lattice.proofs.Momentum.{x-in, y-in, z-in, density-in}
 use Rattle.lattice.proofs.Ranges.{weak-x, weak-y, weak-z}
 use Rattle.lattice.proofs.Tame.{pull-in}
+use Rattle.collision.specs.Post.{Pulled}
 use Rattle.grid.specs.State.{Scene, byFlag, liquid, stateOf}
 use Rattle.grid.specs.Step.{oldDensity, oldMomentum, rebuilt, rebuild, arrives, streamed, newDensity, newMomentum, tooFast, collidedDir, collided}
 use Rattle.grid.specs.Good.{bodyGood}

@@ -1,4 +1,4 @@
-// Layer 2, stages 1 to 4 of a step: streaming, exchange, gravity with its test, collision. Knows the promises of grid.
+// Layer 2, stages 1 to 4 of a step: streaming, exchange, gravity with its test, collision. Knows the promises of grid, collision and surface.
 pub mod marks;
 pub mod moving;
 pub mod passing;

@@ -1,10 +1,10 @@
 // Stages 1 to 4 of one cell, written where they belong.
 use crate::streaming::chosen;
+use collision::collide::collided;
+use collision::gravity::pulled;
 use grid::cells::own;
 use grid::cells::paste;
 use lattice::Settings;
-use lattice::collide::collided;
-use lattice::gravity::pulled;
 use lattice::moments::flow_of;
 use lattice::moments::steady;
 use lattice::rules::all_inside;

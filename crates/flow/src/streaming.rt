@@ -4,7 +4,7 @@ use lattice::Flow;
 use lattice::directions::dots;
 use lattice::directions::weight_of;
 use lattice::moments::flow_of;
-use lattice::stream::rebuilt;
+use surface::stream::rebuilt;
 use whole::wide;
 ghost use mathlib.Core.Path.{_≡_};
 ghost use mathlib.Core.Bool.{true};

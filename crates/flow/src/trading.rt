@@ -34,7 +34,7 @@ fn traded(flags: &[u8], parts: &[i32], fill: &[u32], c: usize, b: usize, i: usiz
         return d;
     }
     if f == 1 {
-        return lattice::exchange::exchange(both(fill[c], fill[b]), d);
+        return surface::exchange::exchange(both(fill[c], fill[b]), d);
     }
     0
 }
@@ -88,7 +88,7 @@ pub(crate) fn new_mark(f: u8, m: i32, rho: i32) -> u8
     ensures { λ r. ⌜ r ≡ markFor f m rho ⌝ }
 {
     if f == 1 {
-        return lattice::convert::mark_of(wide(m), wide(rho));
+        return surface::convert::mark_of(wide(m), wide(rho));
     }
     0
 }

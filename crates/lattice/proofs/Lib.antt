@@ -3,14 +3,11 @@ pub mod Shares
 pub mod ExchangeBack
 pub mod Balanced
 pub mod Bodies
-pub mod Collision
 pub mod Equal
 pub mod Fills
 pub mod Momentum
 pub mod Pairs
 pub mod Ranges
 pub mod Reading
-pub mod Reciprocal
 pub mod Table
 pub mod Tame
-pub mod Weights

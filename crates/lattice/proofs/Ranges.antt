@@ -1,4 +1,4 @@
--- Ranges: a number within ±n by two tests, and gravity out of range by one component alone. Assumes nothing.
+-- Ranges: a number within ±n by two tests, relaxation in range, and gravity out of range by one component alone. Assumes nothing.
 use mathlib.Core.Path.{_≡_, refl, sym, _∙_, ap}
 use mathlib.Core.Logic.{⊎-elim}
 use mathlib.Core.Bool.{Bool, true, false, not, _&&_}
@@ -12,10 +12,12 @@ use mir.Syntax.{w64}
 use mir.Val.{SFits, toZ, ofZ}
 use mir.Facts.{toZ-ofZ}
 use borrow.Author.Tests.{leb-true, leb-false, lt-leb, not-true, not-false}
-use Rattle.whole.specs.Order.{≤-or}
+use Rattle.whole.specs.Bools.{and-left, and-right}
+use Rattle.whole.specs.Bounds.{abs-below}
+use Rattle.whole.specs.Order.{leZ-true, ≤-or}
 use Rattle.whole.specs.Machine.{Within}
 use Rattle.whole.specs.Ring.{square-pos}
-use Rattle.lattice.specs.Cell.{gravityGood}
+use Rattle.lattice.specs.Cell.{relaxationGood, gravityGood}
 
 and-one : (t : Bool) → (t && true) ≡ t
 and-one true = refl
@@ -25,13 +27,27 @@ pub between : (n : ℕ) (z : ℤ) → (leZ z (pos (suc n)) && leZ (negsuc n) z) 
 between n (pos k) = and-one (leb k (suc n))
 between n (negsuc k) = sym (leb·suc-suc k n)
 
+-- relaxation in range
+pub relaxation-in : (p : ℤ) → relaxationGood p ≡ true → Within p 2037
+relaxation-in p e =
+    record { abs = abs-below {k = 1} {z = p} (leZ-true (and-left (leZ (pos 1) p) (leZ p (pos 2037)) e)) (leZ-true (and-right (leZ (pos 1) p) (leZ p (pos 2037)) e)) }
+
 -- 1049² is above 1,099,511, and no square takes away from a sum
 sum-of-squares : (x y z : ℤ) → x *ℤ x +ℤ y *ℤ y +ℤ z *ℤ z ≡ pos (natAbs x * natAbs x + natAbs y * natAbs y + natAbs z * natAbs z)
 sum-of-squares x y z = rw (square-pos x, square-pos y, square-pos z)
 
-pub strong : (x y z : ℤ) → 1099511 < natAbs x * natAbs x + natAbs y * natAbs y + natAbs z * natAbs z → gravityGood x y z ≡ false
+strong : (x y z : ℤ) → 1099511 < natAbs x * natAbs x + natAbs y * natAbs y + natAbs z * natAbs z → gravityGood x y z ≡ false
 unfolding gravityGood
 strong x y z h = ap (λ (s : ℤ). leZ s (pos 1099511)) (sum-of-squares x y z) ∙ lt-leb _ _ h
+
+pub strong-x : (x y z : ℤ) → 1099511 < natAbs x * natAbs x → gravityGood x y z ≡ false
+strong-x x y z h = strong x y z (omega arith)
+
+pub strong-y : (x y z : ℤ) → 1099511 < natAbs y * natAbs y → gravityGood x y z ≡ false
+strong-y x y z h = strong x y z (omega arith)
+
+pub strong-z : (x y z : ℤ) → 1099511 < natAbs z * natAbs z → gravityGood x y z ≡ false
+strong-z x y z h = strong x y z (omega arith)
 
 -- what the answer of `small` tells of its argument, as the machine holds it
 pub large : (z : ℤ) (r : Bool) → SFits w64 z → r ≡ leb (natAbs (toZ w64 (ofZ w64 z))) 1048 → not r ≡ true → 1099511 < natAbs z * natAbs z

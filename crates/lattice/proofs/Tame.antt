@@ -1,5 +1,5 @@
 -- Bounds of a flow: what a passed test of stage 3 tells of its fields, and what the table's entries make of e·j. Assumes nothing.
-use mathlib.Core.Path.{_≡_, sym, subst}
+use mathlib.Core.Path.{_≡_, subst}
 use mathlib.Core.Bool.{true}
 use mathlib.Core.List.{[], _∷_}
 use Prim.Native.Nat.{ℕ, _*_, _≤_}
@@ -12,12 +12,9 @@ use Rattle.whole.specs.Ring.{ring-by, quotes}
 use Rattle.whole.specs.Order.{leZ-true, slow-x}
 use Rattle.whole.specs.Machine.{Within, within-by}
 use Rattle.lattice.specs.declared.Flow.{Flow}
-use Rattle.lattice.specs.declared.Settings.{Settings}
 use Rattle.lattice.specs.Lattice.{dot}
-use Rattle.lattice.specs.Cell.{dense, slow, pull, gravityGood}
+use Rattle.lattice.specs.Cell.{dense, slow, pull}
 use Rattle.lattice.specs.Body.{vec, Tame, steadyFlow}
-use Rattle.lattice.specs.Post.{Pulled}
-use Rattle.lattice.proofs.Ranges.{weak-x, weak-y, weak-z}
 use Rattle.lattice.proofs.Reading.{reading}
 
 pub dense-low : (ρ : ℤ) → dense ρ ≡ true → pos 294912 ≤ℤ ρ
@@ -63,17 +60,3 @@ wider h = record { abs = omega (arith, h .abs) }
 -- and as `dots` asks it
 pub widest : {a : ℤ} → Within a 393216 → Within a 1000000000
 widest h = record { abs = omega (arith, h .abs) }
-
--- the flow after gravity, as `steady` asks it
-module _ (v : Flow) (g : Settings) (r : Flow) (is : Pulled v g r) (h : Within (v .rho) 1700000000) (e : gravityGood (g .gx) (g .gy) (g .gz) ≡ true) where
-  pulled-by : {a c d : ℤ} → a ≡ c +ℤ d → Within c 340000000 → Within d 1700000 → Within a 400000000
-  pulled-by {a} {c} {d} q m n = subst (λ (z : ℤ). Within z 400000000) (sym q) (within-by (search reading depth 20) tt)
-
-  pub pulled-x : Within (v .x) 340000000 → Within (r .x) 400000000
-  pulled-x m = pulled-by (is .x) m (pull-in h (weak-x (g .gx) (g .gy) (g .gz) e))
-
-  pub pulled-y : Within (v .y) 340000000 → Within (r .y) 400000000
-  pulled-y m = pulled-by (is .y) m (pull-in h (weak-y (g .gx) (g .gy) (g .gz) e))
-
-  pub pulled-z : Within (v .z) 340000000 → Within (r .z) 400000000
-  pulled-z m = pulled-by (is .z) m (pull-in h (weak-z (g .gx) (g .gy) (g .gz) e))

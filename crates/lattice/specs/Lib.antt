@@ -1,4 +1,3 @@
 pub mod Lattice
 pub mod Cell
 pub mod Body
-pub mod Post

@@ -1,16 +1,9 @@
-// Layer 1, lattice arithmetic: the formulas of one cell. Knows no grid.
-pub mod collide;
-pub mod convert;
+// Layer 1, lattice arithmetic: the table of directions, density and momentum, and the rules and fill of one cell. Knows no grid.
 pub mod directions;
-pub mod excess;
-pub mod exchange;
 pub mod fill;
-pub mod gravity;
 pub mod limits;
 pub mod moments;
-pub mod quotient;
 pub mod rules;
-pub mod stream;
 
 // The relaxation and the gravity of a step, as document 01's settings have them.
 pub struct Settings {

@@ -18,7 +18,7 @@ use Rattle.lattice.specs.Cell.{dense, slow, massGood, relaxationGood}
 use Rattle.lattice.specs.Body.{Tame, steadyFlow}
 use Rattle.lattice.specs.declared.Flow.{Flow}
 use Rattle.lattice.specs.declared.Settings.{Settings}
-use Rattle.lattice.proofs.Collision.{relaxation-in}
+use Rattle.lattice.proofs.Ranges.{relaxation-in}
 use Rattle.lattice.proofs.Tame.{steady-tame}
 use Rattle.grid.specs.declared.Sides.{Sides}
 use Rattle.grid.specs.Grid.{cellsOf}

@@ -17,7 +17,7 @@ use Rattle.lattice.specs.Cell.{dense, slow, quad, relaxed}
 use Rattle.lattice.specs.Body.{Tame, steadyFlow}
 use Rattle.lattice.specs.declared.Flow.{Flow}
 use Rattle.lattice.specs.declared.Settings.{Settings}
-use Rattle.lattice.proofs.Collision.{relaxation-in}
+use Rattle.lattice.proofs.Ranges.{relaxation-in}
 use Rattle.lattice.proofs.Paired.{paired19}
 use Rattle.lattice.proofs.Reading.{quot-abs}
 use Rattle.lattice.proofs.Tame.{steady-tame}

@@ -1,4 +1,6 @@
 // Stage 5: the parts of new interface cells, from means over the neighbours that were liquid.
+use collision::equilibrium::equilibrium;
+use collision::gravity::pulled;
 use flow::streaming::streamed;
 use grid::Sides;
 use grid::cells::paste;
@@ -8,8 +10,6 @@ use grid::neighbours::offsets;
 use grid::seeking::next_of;
 use lattice::Flow;
 use lattice::Settings;
-use lattice::convert::equilibrium;
-use lattice::gravity::pulled;
 use lattice::moments::flow_of;
 use lattice::rules::fair_parts;
 use whole::wide;

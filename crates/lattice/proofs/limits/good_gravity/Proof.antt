@@ -2,13 +2,11 @@
 -- Assumes nothing.
 use borrow.Author.Needs.{needs}
 use mathlib.Core.Path.{sym}
-use Prim.Native.Nat.{_*_, _<_}
-use native.Mathlib.Omega.{arith}
-use lib.IntN.{natAbs}
-use Rattle.whole.specs.Machine.{machine, w64-in, Within, does-fit}
+use Rattle.whole.specs.Machine.{Within, does-fit}
 use Rattle.whole.specs.Tests.{flags, flag-as}
 use Rattle.lattice.specs.Cell.{gravityGood}
-use Rattle.lattice.proofs.Ranges.{strong, large, little}
+use Rattle.lattice.proofs.Ranges.{strong-x, strong-y, strong-z, large, little}
+use Rattle.lattice.proofs.Reading.{reading}
 use Rattle.lattice.proofs.limits.good_gravity.Statement.{statement}
 use Rattle.lattice.proofs.limits.good_gravity.Tie as tie
 
@@ -18,8 +16,7 @@ small-requires c κs = search needs
 returns : tie.Need-returns
 returns c =
     let s = c .before .before in
-    let h : 1099511 < natAbs (s .args .gx) * natAbs (s .args .gx) = large _ _ (s .fits .gx) (c .before .small .ensures) (c .if1 .taken) in
-    sym (strong (s .args .gx) (s .args .gy) (s .args .gz) (omega arith))
+    sym (strong-x (s .args .gx) (s .args .gy) (s .args .gz) (large _ _ (s .fits .gx) (c .before .small .ensures) (c .if1 .taken)))
 
 small-requires-2 : tie.Need-small-requires-2
 small-requires-2 c κs = search needs
@@ -27,8 +24,7 @@ small-requires-2 c κs = search needs
 returns-2 : tie.Need-returns-2
 returns-2 c =
     let s = c .before .before .before .before in
-    let h : 1099511 < natAbs (s .args .gy) * natAbs (s .args .gy) = large _ _ (s .fits .gy) (c .before .small2 .ensures) (c .if2 .taken) in
-    sym (strong (s .args .gx) (s .args .gy) (s .args .gz) (omega arith))
+    sym (strong-y (s .args .gx) (s .args .gy) (s .args .gz) (large _ _ (s .fits .gy) (c .before .small2 .ensures) (c .if2 .taken)))
 
 small-requires-3 : tie.Need-small-requires-3
 small-requires-3 c κs = search needs
@@ -36,8 +32,7 @@ small-requires-3 c κs = search needs
 returns-3 : tie.Need-returns-3
 returns-3 c =
     let s = c .before .before .before .before .before .before in
-    let h : 1099511 < natAbs (s .args .gz) * natAbs (s .args .gz) = large _ _ (s .fits .gz) (c .before .small3 .ensures) (c .if3 .taken) in
-    sym (strong (s .args .gx) (s .args .gy) (s .args .gz) (omega arith))
+    sym (strong-z (s .args .gx) (s .args .gy) (s .args .gz) (large _ _ (s .fits .gz) (c .before .small3 .ensures) (c .if3 .taken)))
 
 -- after the three tests each component is within ±1048
 start : tie.Else3 → tie.Start
@@ -58,27 +53,27 @@ module _ (c : tie.Else3) where
 
 mul-result : tie.Need-mul-result
 unfolding start
-mul-result c = let x = x-in c in does-fit (search (machine, w64-in) depth 20) tt
+mul-result c = let x = x-in c in does-fit (search reading depth 20) tt
 
 mul-result-2 : tie.Need-mul-result-2
 unfolding start
-mul-result-2 c = let y = y-in c in does-fit (search (machine, w64-in) depth 20) tt
+mul-result-2 c = let y = y-in c in does-fit (search reading depth 20) tt
 
 add-result : tie.Need-add-result
 unfolding start
-add-result c = let x = x-in c in let y = y-in c in does-fit (search (machine, w64-in) depth 20) tt
+add-result c = let x = x-in c in let y = y-in c in does-fit (search reading depth 20) tt
 
 mul-result-3 : tie.Need-mul-result-3
 unfolding start
-mul-result-3 c = let z = z-in c in does-fit (search (machine, w64-in) depth 20) tt
+mul-result-3 c = let z = z-in c in does-fit (search reading depth 20) tt
 
 add-result-2 : tie.Need-add-result-2
 unfolding start
-add-result-2 c = let x = x-in c in let y = y-in c in let z = z-in c in does-fit (search (machine, w64-in) depth 30 fits 5000) tt
+add-result-2 c = let x = x-in c in let y = y-in c in let z = z-in c in does-fit (search reading depth 20) tt
 
 returns-4 : tie.Need-returns-4
 unfolding start gravityGood
-returns-4 c = let x = x-in c in let y = y-in c in let z = z-in c in flag-as (search (machine, flags, w64-in) depth 30 fits 5000) tt
+returns-4 c = let x = x-in c in let y = y-in c in let z = z-in c in flag-as (search (reading, flags) depth 20) tt
 
 pub good-gravity-spec : {M : Type 1} → statement M
 good-gravity-spec =

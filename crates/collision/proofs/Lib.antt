@@ -1,0 +1,2 @@
+pub mod Collision
+pub mod Reciprocal
