@@ -6,7 +6,7 @@ use lib.IntN.{ℤ, pos, negsuc}
 use lib.ListN.{getD}
 use Rattle.lattice.specs.Cell.{fillOf, exchange, over, under, share, gravityGood}
 use Rattle.grid.specs.State.{Lent}
-use Rattle.grid.specs.Good.{eqZ}
+use Rattle.lattice.specs.Body.{eqZ}
 use Rattle.grid.specs.Outcome.{numberOf, placeOf, stepAnswer, stepSecond, stepMarks}
 use Rattle.tunnel.specs.declared.Placed.{Placed}
 use Rattle.tunnel.specs.Place.{refusalNumber, axisOf}

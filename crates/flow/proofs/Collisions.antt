@@ -15,7 +15,7 @@ use Rattle.whole.specs.Sums.{sum-cong}
 use Rattle.whole.specs.Tab.{length-tab, getD-tab, tab-cong}
 use Rattle.lattice.specs.Lattice.{V3, dot, d3q19, density, momentum}
 use Rattle.lattice.specs.Cell.{dense, slow, pull, quad, relaxed, relaxationGood, gravityGood}
-use Rattle.lattice.specs.Body.{partsOf, Bounded, vec, steadyFlow, goodBody, relaxedDir, collidedPart}
+use Rattle.lattice.specs.Body.{partsOf, Bounded, vec, steadyFlow, bodyGood, relaxedDir, collidedPart}
 use Rattle.lattice.specs.declared.Flow.{Flow}
 use Rattle.lattice.specs.declared.Settings.{Settings}
 use Rattle.lattice.proofs.Momentum.{x-in, y-in, z-in, density-in}
@@ -24,7 +24,6 @@ use Rattle.lattice.proofs.Tame.{pull-in}
 use Rattle.collision.specs.Post.{Pulled}
 use Rattle.grid.specs.State.{Scene, byFlag, liquid, stateOf}
 use Rattle.grid.specs.Step.{oldDensity, oldMomentum, rebuilt, rebuild, arrives, streamed, newDensity, newMomentum, tooFast, collidedDir, collided}
-use Rattle.grid.specs.Good.{bodyGood}
 use Rattle.grid.specs.Between.{movedPart}
 use Rattle.grid.specs.Outcome.{settingsGood}
 use Rattle.grid.specs.Sight.{flowing, noSettings, sight}
@@ -124,12 +123,12 @@ module _ (flags : List ℕ) (parts : List ℤ) (off : List ℕ) (low : ℕ) (g :
         unfolding movedPart sight stateOf
         moved = made ∙ tab-cong 19 _ _ (pos 0) (λ k h. collided-is k (omega arith) ∙ sym (kind (pos 0) (collided S c k)))
 
-        fair-is : goodBody d3q19 (partsOf x) ≡ bodyGood d3q19 (collided S c)
-        unfolding goodBody bodyGood d3q19
+        fair-is : bodyGood d3q19 (partsOf x) ≡ bodyGood d3q19 (collided S c)
+        unfolding bodyGood d3q19
         fair-is = body-same d3q19 (partsOf x) (collided S c) new-part
 
         pub put-accepted : (before after : List ℤ) (b : Put) → 19 * c + 19 ≤ length before → after ≡ pasted before (19 * c) x
-            → b .ok ≡ true → steadyFlow w ≡ true → b .rho ≡ w .rho → b .fair ≡ goodBody d3q19 (partsOf x) → PutAt S c before after b
+            → b .ok ≡ true → steadyFlow w ≡ true → b .rho ≡ w .rho → b .fair ≡ bodyGood d3q19 (partsOf x) → PutAt S c before after b
         unfolding sight stateOf
         put-accepted before after b room put y e r o = record {
           kept = ap length put ∙ length-pasted before (19 * c) x room (ap length made ∙ length-tab 19 _);

@@ -26,7 +26,7 @@ use Rattle.grid.specs.declared.Sides.{Sides}
 use Rattle.grid.specs.Grid.{cellsOf}
 use Rattle.grid.specs.State.{Scene, byFlag, liquid, stateOf}
 use Rattle.grid.specs.Step.{newDensity, tradedMass, tooFast, collided}
-use Rattle.grid.specs.Good.{bodyGood}
+use Rattle.lattice.specs.Body.{bodyGood}
 use Rattle.grid.specs.Outcome.{sceneOf}
 use Rattle.grid.specs.Between.{Poised, uncarried, movedPart, movedMass, firstMark}
 use Rattle.grid.specs.Halfway.{Moved}

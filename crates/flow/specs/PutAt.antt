@@ -10,7 +10,7 @@ use Rattle.lattice.specs.Lattice.{d3q19}
 use Rattle.lattice.specs.declared.Settings.{Settings}
 use Rattle.grid.specs.State.{Scene, byFlag, liquid}
 use Rattle.grid.specs.Step.{flagAt, newDensity, tooFast, collided}
-use Rattle.grid.specs.Good.{bodyGood}
+use Rattle.lattice.specs.Body.{bodyGood}
 use Rattle.grid.specs.Between.{movedPart}
 use Rattle.grid.specs.Outcome.{settingsGood}
 use Rattle.grid.specs.Sight.{Bodied, Around}

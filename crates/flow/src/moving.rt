@@ -17,7 +17,7 @@ ghost use lib.IntN.{ℤ, pos};
 ghost use lib.ListN.{length, getD, replicate};
 ghost use Rattle.whole.specs.Fold.{tab};
 ghost use Rattle.lattice.specs.Lattice.{d3q19};
-ghost use Rattle.lattice.specs.Body.{partsOf, Bounded, goodBody};
+ghost use Rattle.lattice.specs.Body.{partsOf, Bounded, bodyGood};
 ghost use Rattle.grid.specs.State.{liquid};
 ghost use Rattle.grid.specs.Step.{streamed};
 ghost use Rattle.grid.specs.Outcome.{settingsGood};
@@ -42,7 +42,7 @@ fn wet(f: u8) -> bool
 // cells, and the parts stay in registers.
 fn fair(f: [i32; 19]) -> bool
     requires { ⌜ Bounded f 1073741824 33554432 ⌝ }
-    ensures { λ r. ⌜ r ≡ goodBody d3q19 (partsOf f) ⌝ }
+    ensures { λ r. ⌜ r ≡ bodyGood d3q19 (partsOf f) ⌝ }
 {
     all_inside(f) & steady(flow_of(f))
 }

@@ -16,7 +16,9 @@ use Rattle.grid.specs.declared.Answer.{Answer}
 use Rattle.grid.specs.declared.Answer.the-variants.{Done, Refused}
 use Rattle.grid.specs.Grid.{Grid}
 use Rattle.grid.specs.State.{State, byFlag}
-use Rattle.grid.specs.Good.{eqZ, flagGood, badFlag, openFluid, badFluid, dryGood, bodyGood, interfaceGood, fluidGood, fillGood, cellGood, badRule}
+use Rattle.grid.specs.Good.{flagGood, badFlag, openFluid, badFluid, dryGood, interfaceGood, fluidGood, fillGood, cellGood, badRule}
+use Rattle.lattice.specs.Body.{bodyGood, eqZ}
+use Rattle.lattice.proofs.Equal.{eqZ-true}
 use Rattle.grid.specs.Outcome.{accepted, orRefuse, ifNone, goodAnswer}
 use Rattle.grid.specs.Demands.{Walled, Closed}
 use Rattle.grid.proofs.Total.{Massed}
@@ -40,13 +42,6 @@ none-found limit number place rest e =
 
 pub skip : (limit number place : ℕ) (rest : Answer) → limit ≤ place → ifNone limit number place rest ≡ rest
 skip limit number place rest h = ap (λ (b : Bool). orRefuse b number place rest) (le-leb limit place h)
-
--- ---- equal numbers
-pub eqZ-true : (a b : ℤ) → eqZ a b ≡ true → a ≡ b
-eqZ-true (pos a) (pos b) e = ap pos (eqb-true a b e)
-eqZ-true (pos a) (negsuc b) e = absurd (false≢true e)
-eqZ-true (negsuc a) (pos b) e = absurd (false≢true e)
-eqZ-true (negsuc a) (negsuc b) e = ap negsuc (eqb-true a b e)
 
 module _ (L : Lattice) (G : Grid) (s : State) where
   -- what tests 4 to 6 leave

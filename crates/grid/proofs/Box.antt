@@ -16,7 +16,7 @@ use Rattle.lattice.specs.Lattice.{Lattice, Row, d3q19, d2q9, rows9}
 use Rattle.lattice.proofs.Paired.{Paired, Turned, paired19, paired9}
 use Rattle.grid.specs.declared.Sides.{Sides}
 use Rattle.grid.specs.Grid.{Grid, atEnd, cellAt, toward, box, flume, gridOf}
-use Rattle.grid.specs.Good.{eqZ}
+use Rattle.lattice.specs.Body.{eqZ}
 use Rattle.grid.proofs.Laid.{Laid}
 
 -- ---- cell numbers

@@ -17,7 +17,8 @@ use Rattle.lattice.specs.Lattice.{Lattice, density}
 use Rattle.lattice.specs.Cell.{massGood, carryGood, dense}
 use Rattle.grid.specs.State.{State, Scene, byFlag, liquid}
 use Rattle.grid.specs.Step.{tradedMass, newDensity, collided, filled, emptied, besideFilled, besideEmptied, newFlag, flagAfter, baseMass, born, newPart, received, newMass, newCarry, fillFor, newFill, next}
-use Rattle.grid.specs.Good.{eqZ, dryGood, bodyGood, interfaceGood, fluidGood, fillGood, cellGood, badRule}
+use Rattle.grid.specs.Good.{dryGood, interfaceGood, fluidGood, fillGood, cellGood, badRule}
+use Rattle.lattice.specs.Body.{bodyGood, eqZ}
 use Rattle.grid.proofs.Accurate.{stays}
 use Rattle.grid.proofs.Moved.{density-collided}
 use Rattle.grid.proofs.Same.{density-same, all-same}

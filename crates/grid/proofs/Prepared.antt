@@ -21,11 +21,13 @@ use Rattle.grid.specs.declared.Answer.the-variants.{Done}
 use Rattle.grid.specs.Grid.{cellsOf, sidesGood, gridOf, box}
 use Rattle.grid.specs.State.{Lent, State, Scene, byFlag, liquid, stateOf}
 use Rattle.grid.specs.Step.{oldDensity, oldMomentum, fillFor}
-use Rattle.grid.specs.Good.{eqZ, dryGood, bodyGood, interfaceGood, fluidGood, fillGood, cellGood, badRule}
+use Rattle.grid.specs.Good.{dryGood, interfaceGood, fluidGood, fillGood, cellGood, badRule}
+use Rattle.lattice.specs.Body.{bodyGood, eqZ}
 use Rattle.grid.specs.Outcome.{lengthsGood, settingsGood, goodAnswer, sceneOf}
 use Rattle.grid.specs.Between.{Sized, Ready}
 use Rattle.grid.specs.Sight.{Body}
-use Rattle.grid.proofs.Accepted.{Sound, sound, none-found, cell-good, eqZ-true}
+use Rattle.grid.proofs.Accepted.{Sound, sound, none-found, cell-good}
+use Rattle.lattice.proofs.Equal.{eqZ-true}
 
 pub sized : (n : ℕ) (a : Lent) → lengthsGood n a ≡ true → Sized n a
 unfolding lengthsGood

@@ -19,12 +19,12 @@ use Rattle.whole.specs.Tab.{getD-tab}
 use Rattle.whole.specs.Search.{first-is, first-all}
 use Rattle.lattice.specs.Lattice.{d3q19, density}
 use Rattle.lattice.specs.Cell.{carryGood, massGood, fillOf}
-use Rattle.lattice.specs.Body.{partsOf, goodBody, goodFluid, goodInterface}
+use Rattle.lattice.specs.Body.{partsOf, bodyGood, goodFluid, goodInterface, eqZ}
 use Rattle.grid.specs.State.{State, stateOf, liquid, byFlag}
 use Rattle.grid.specs.Step.{fillFor}
-use Rattle.grid.specs.Good.{eqZ, bodyGood, dryGood, interfaceGood, fluidGood, fillGood, cellGood, badRule}
+use Rattle.grid.specs.Good.{dryGood, interfaceGood, fluidGood, fillGood, cellGood, badRule}
 use Rattle.grid.specs.Passes.{carryless}
-use Rattle.grid.proofs.Accepted.{eqZ-true}
+use Rattle.lattice.proofs.Equal.{eqZ-true}
 use Rattle.grid.proofs.Lists.{getD-there}
 use Rattle.grid.proofs.Same.{body-same, density-same, zeros-same}
 
@@ -127,7 +127,7 @@ module _ (flags : List ℕ) (parts masses : List ℤ) (fills : List ℕ) (c : �
   pub wet-cell : liquid (getD flags c 0) ≡ true
       → cond (eqb (getD flags c 0) 2) (goodFluid d3q19 (partsOf v) (getD masses c (pos 0)) (getD fills c 0)) (goodInterface d3q19 (partsOf v) (getD masses c (pos 0)) (getD fills c 0))
       ≡ cellGood d3q19 T c
-  unfolding cellGood interfaceGood fluidGood fillGood stateOf goodFluid goodInterface goodBody bodyGood
+  unfolding cellGood interfaceGood fluidGood fillGood stateOf goodFluid goodInterface bodyGood
   wet-cell l =
       wet-cases (getD flags c 0) (bodyGood d3q19 read) (dryGood d3q19 T c) (getD masses c (pos 0)) (density d3q19 read) (getD fills c 0) l
       ∙ rw (sym (body-same d3q19 (T .part c) read part-is), sym (density-same d3q19 (T .part c) read part-is), sym flag-is) refl

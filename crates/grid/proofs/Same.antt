@@ -16,7 +16,8 @@ use Rattle.lattice.specs.Lattice.{V3, dot, Lattice, density, momentum}
 use Rattle.lattice.specs.Cell.{dense, slow, partGood, massGood, carryGood}
 use Rattle.grid.specs.State.{State, byFlag}
 use Rattle.grid.specs.Step.{fillFor}
-use Rattle.grid.specs.Good.{eqZ, dryGood, bodyGood, interfaceGood, fluidGood, fillGood, cellGood, badRule}
+use Rattle.grid.specs.Good.{dryGood, interfaceGood, fluidGood, fillGood, cellGood, badRule}
+use Rattle.lattice.specs.Body.{bodyGood, eqZ}
 use Rattle.grid.specs.Demands.{Same}
 
 pub all-same : (n : ℕ) (f g : ℕ → Bool) → ((a : ℕ) → a < n → f a ≡ g a) → all n f ≡ all n g

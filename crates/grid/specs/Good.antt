@@ -5,18 +5,12 @@ use lib.IntN.{ℤ, pos, negsuc}
 use lib.Dec.{ltb, eqb}
 use Rattle.whole.specs.Fold.{all, first}
 use Rattle.lattice.specs.Lattice.{dot, Lattice, density, momentum}
-use Rattle.lattice.specs.Cell.{dense, slow, partGood, massGood, carryGood}
+use Rattle.lattice.specs.Cell.{massGood, carryGood}
+use Rattle.lattice.specs.Body.{eqZ, bodyGood}
 use Rattle.grid.specs.Grid.{Grid}
 use Rattle.grid.specs.State.{State, byFlag}
 use Rattle.grid.specs.Step.{fillFor}
 use Rattle.whole.specs.Fold.{anyDir}
-
--- equal whole numbers
-abbrev pub eqZ : ℤ → ℤ → Bool
-eqZ (pos a) (pos b) = eqb a b
-eqZ (pos a) (negsuc b) = false
-eqZ (negsuc a) (pos b) = false
-eqZ (negsuc a) (negsuc b) = eqb a b
 
 -- ---- 4: flag above 3, or outer cell not wall
 
@@ -39,11 +33,6 @@ badFluid q G flag = first (G .cells) (openFluid q G flag)
 -- wall and empty cells have mass and parts all 0
 unfoldable pub dryGood : Lattice → State → ℕ → Bool
 dryGood L s c = eqZ (s .mass c) (pos 0) && all (suc (L .q)) (λ k. eqZ (s .part c k) (pos 0))
-
--- each liquid cell has parts, ρ and 9·|j|² in their ranges
-unfoldable pub bodyGood : Lattice → (ℕ → ℤ) → Bool
-bodyGood L f =
-    all (suc (L .q)) (λ k. partGood (f k)) && dense (density L f) && slow (density L f) (dot (momentum L f) (momentum L f))
 
 -- interface mass in its range, fluid mass = ρ
 unfoldable pub interfaceGood : Lattice → State → ℕ → Bool

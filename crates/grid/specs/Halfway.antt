@@ -14,7 +14,7 @@ use Rattle.grid.specs.declared.Answer.{Answer}
 use Rattle.grid.specs.Grid.{cellsOf}
 use Rattle.grid.specs.State.{Lent, Scene, liquid}
 use Rattle.grid.specs.Step.{flagAt, tooFast, collided, newFlag, newPart, newMass, newCarry}
-use Rattle.grid.specs.Good.{bodyGood}
+use Rattle.lattice.specs.Body.{bodyGood}
 use Rattle.grid.specs.Outcome.{accepted, moveAnswer, sceneOf, nextOf}
 use Rattle.grid.specs.Between.{Ready, movedPart, movedMass, firstMark}
 

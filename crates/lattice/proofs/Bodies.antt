@@ -15,7 +15,7 @@ use Rattle.whole.specs.Machine.{Within}
 use Rattle.lattice.specs.declared.Flow.{Flow}
 use Rattle.lattice.specs.Lattice.{V3, dot, density, momentum, d3q19}
 use Rattle.lattice.specs.Cell.{partGood, dense, slow}
-use Rattle.lattice.specs.Body.{partsOf, Bounded, vec, steadyFlow, goodBody, goodFluid, goodInterface}
+use Rattle.lattice.specs.Body.{partsOf, Bounded, vec, steadyFlow, bodyGood, goodFluid, goodInterface}
 use Rattle.lattice.proofs.Momentum.{x-in, y-in, z-in, density-in}
 
 -- parts that pass the test are bounded
@@ -50,14 +50,14 @@ and-assoc false b c = refl
 
 -- parts in range and a steady flow are the rule of a liquid cell's body
 pub body-is : (f : List ℤ) (v : Flow) → v .rho ≡ density d3q19 (partsOf f) → vec v ≡ momentum d3q19 (partsOf f)
-    → (all 19 (λ k. partGood (partsOf f k)) && steadyFlow v) ≡ goodBody d3q19 (partsOf f)
-unfolding steadyFlow goodBody d3q19
+    → (all 19 (λ k. partGood (partsOf f k)) && steadyFlow v) ≡ bodyGood d3q19 (partsOf f)
+unfolding steadyFlow bodyGood d3q19
 body-is f v r e =
     ap₂ (λ (ρ : ℤ) (j : V3). all 19 (λ k. partGood (partsOf f k)) && (dense ρ && slow ρ (dot j j))) r e
     ∙ and-assoc (all 19 (λ k. partGood (partsOf f k))) (dense (density d3q19 (partsOf f))) (slow (density d3q19 (partsOf f)) (dot (momentum d3q19 (partsOf f)) (momentum d3q19 (partsOf f))))
 
 -- a cell whose body breaks a rule is bad as fluid and as interface
-pub broken : (t : Bool) (f : ℕ → ℤ) (m : ℤ) (fill : ℕ) → goodBody d3q19 f ≡ false → cond t (goodFluid d3q19 f m fill) (goodInterface d3q19 f m fill) ≡ false
+pub broken : (t : Bool) (f : ℕ → ℤ) (m : ℤ) (fill : ℕ) → bodyGood d3q19 f ≡ false → cond t (goodFluid d3q19 f m fill) (goodInterface d3q19 f m fill) ≡ false
 unfolding goodFluid goodInterface
 broken true f m fill e = rw e
 broken false f m fill e = rw e
@@ -66,6 +66,6 @@ broken false f m fill e = rw e
 pub dense-positive : {ρ : ℤ} → pos 294912 ≤ℤ ρ → pos 0 <ℤ ρ
 dense-positive h = <ℤ-≤ℤ-trans (record { lt = tt }) h
 
-pub no-parts : (f : List ℤ) → all 19 (λ k. partGood (partsOf f k)) ≡ false → goodBody d3q19 (partsOf f) ≡ false
-unfolding goodBody d3q19
+pub no-parts : (f : List ℤ) → all 19 (λ k. partGood (partsOf f k)) ≡ false → bodyGood d3q19 (partsOf f) ≡ false
+unfolding bodyGood d3q19
 no-parts f e = rw e

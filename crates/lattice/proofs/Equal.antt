@@ -1,9 +1,9 @@
 -- Equal whole numbers: the test `eqZ`, and the machine's test of the bits. Assumes nothing.
 use mathlib.Core.Path.{_≡_, refl, sym, _∙_, ap}
-use mathlib.Core.Bool.{true, false}
+use mathlib.Core.Bool.{true, false, false≢true}
 use lib.Dec.{eqb}
 use lib.IntN.{ℤ, pos, negsuc, ℤ-discrete}
-use borrow.Author.Tests.{eq-eqb, ne-eqb}
+use borrow.Author.Tests.{eq-eqb, ne-eqb, eqb-true}
 use mir.Syntax.{Width}
 use mir.Val.{SFits, toZ, ofZ}
 use mir.Facts.{toZ-ofZ}
@@ -18,6 +18,12 @@ eqZ-apart (pos a) (pos b) h = ne-eqb a b (λ e. h (ap pos e))
 eqZ-apart (pos a) (negsuc b) h = refl
 eqZ-apart (negsuc a) (pos b) h = refl
 eqZ-apart (negsuc a) (negsuc b) h = ne-eqb a b (λ e. h (ap negsuc e))
+
+pub eqZ-true : (a b : ℤ) → eqZ a b ≡ true → a ≡ b
+eqZ-true (pos a) (pos b) e = ap pos (eqb-true a b e)
+eqZ-true (pos a) (negsuc b) e = absurd (false≢true e)
+eqZ-true (negsuc a) (pos b) e = absurd (false≢true e)
+eqZ-true (negsuc a) (negsuc b) e = ap negsuc (eqb-true a b e)
 
 -- numbers that fit are equal where their bits are
 pub bits-eqZ : (w : Width) (a b : ℤ) → SFits w a → SFits w b → eqb (ofZ w a) (ofZ w b) ≡ eqZ a b

@@ -43,8 +43,8 @@ unfoldable pub steadyFlow : Flow → Bool
 steadyFlow v = dense (v .rho) && slow (v .rho) (dot (vec v) (vec v))
 
 -- each liquid cell has parts, ρ and 9·|j|² in their ranges
-unfoldable pub goodBody : Lattice → (ℕ → ℤ) → Bool
-goodBody L f = all (suc (L .q)) (λ k. partGood (f k)) && dense (density L f) && slow (density L f) (dot (momentum L f) (momentum L f))
+unfoldable pub bodyGood : Lattice → (ℕ → ℤ) → Bool
+bodyGood L f = all (suc (L .q)) (λ k. partGood (f k)) && dense (density L f) && slow (density L f) (dot (momentum L f) (momentum L f))
 
 -- equal whole numbers
 abbrev pub eqZ : ℤ → ℤ → Bool
@@ -55,10 +55,10 @@ eqZ (negsuc a) (negsuc b) = eqb a b
 
 -- a fluid cell with mass m and this fill keeps its rules; an interface cell does
 unfoldable pub goodFluid : Lattice → (ℕ → ℤ) → ℤ → ℕ → Bool
-goodFluid L f m fill = goodBody L f && eqZ m (density L f) && eqb fill 65536
+goodFluid L f m fill = bodyGood L f && eqZ m (density L f) && eqb fill 65536
 
 unfoldable pub goodInterface : Lattice → (ℕ → ℤ) → ℤ → ℕ → Bool
-goodInterface L f m fill = goodBody L f && massGood m && eqb fill (fillOf m (density L f))
+goodInterface L f m fill = bodyGood L f && massGood m && eqb fill (fillOf m (density L f))
 
 -- ---- the nineteen parts at once, of a cell with density ρ and momentum j
 
@@ -80,5 +80,5 @@ stillPart L ρ j (suc a) = stillDir L ρ j (suc a)
 
 -- names every definition of this file: whoever unfolds this computes with all of them
 unfoldable pub open-body : Unit {0}
-unfolding steadyFlow goodBody goodFluid goodInterface relaxedDir collidedPart stillDir stillPart
+unfolding steadyFlow bodyGood goodFluid goodInterface relaxedDir collidedPart stillDir stillPart
 open-body = tt

@@ -11,7 +11,7 @@ ghost use lib.Dec.{eqb};
 ghost use Rattle.whole.specs.Fold.{all};
 ghost use Rattle.lattice.specs.Lattice.{d3q19};
 ghost use Rattle.lattice.specs.Cell.{partGood};
-ghost use Rattle.lattice.specs.Body.{partsOf, Bounded, eqZ, goodBody, goodFluid, goodInterface};
+ghost use Rattle.lattice.specs.Body.{partsOf, Bounded, eqZ, bodyGood, goodFluid, goodInterface};
 
 fn inside(v: i32) -> bool
     ensures { λ r. ⌜ r ≡ partGood v ⌝ }
@@ -46,7 +46,7 @@ pub fn all_zero(f: [i32; 19]) -> bool
 // Parts, density and speed in their ranges, of parts as a step leaves them.
 pub fn fair_parts(f: [i32; 19]) -> bool
     requires { ⌜ Bounded f 1073741824 33554432 ⌝ }
-    ensures { λ r. ⌜ r ≡ goodBody d3q19 (partsOf f) ⌝ }
+    ensures { λ r. ⌜ r ≡ bodyGood d3q19 (partsOf f) ⌝ }
 {
     all_inside(f) & steady(flow_of(f))
 }

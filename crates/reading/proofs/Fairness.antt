@@ -11,15 +11,17 @@ use lib.Dec.{eqb}
 use lib.IntN.{ℤ, pos, negsuc}
 use lib.ListN.{length, getD}
 use borrow.Author.Tests.{eq-eqb, ne-eqb}
+use Rattle.whole.specs.Bools.{and-yes}
 use Rattle.whole.specs.Fold.{tab, all, first, firstFrom}
 use Rattle.whole.specs.Search.{first-cong, first-none, first-all, first-is}
 use Rattle.whole.specs.Tab.{getD-tab}
 use Rattle.lattice.specs.Lattice.{Lattice, d3q19, density}
 use Rattle.lattice.specs.Cell.{massGood, carryGood, fillOf}
-use Rattle.lattice.specs.Body.{partsOf, goodBody}
+use Rattle.lattice.specs.Body.{partsOf, bodyGood, eqZ}
+use Rattle.lattice.proofs.Equal.{eqZ-same}
 use Rattle.grid.specs.State.{State, byFlag, liquid}
 use Rattle.grid.specs.Step.{fillFor}
-use Rattle.grid.specs.Good.{eqZ, bodyGood, dryGood, interfaceGood, fluidGood, fillGood, cellGood, badRule}
+use Rattle.grid.specs.Good.{dryGood, interfaceGood, fluidGood, fillGood, cellGood, badRule}
 use Rattle.grid.specs.Passes.{flagOf}
 use Rattle.grid.proofs.Lists.{getD-there}
 use Rattle.grid.proofs.Same.{body-same}
@@ -29,15 +31,11 @@ use Rattle.record.specs.Reading.{cellsIn, flagsIn, flagIn, interfacesIn, massAt
 use Rattle.record.specs.Passes.{heldMass, heldPart, fairBy, fairAt}
 
 -- ---- one cell
-pub body-is : (f : ℕ → ℤ) → goodBody d3q19 f ≡ bodyGood d3q19 f
-unfolding goodBody bodyGood
-body-is f = refl
-
 -- parts read into an array
-pub body-tab : (f : ℕ → ℤ) → goodBody d3q19 (partsOf (tab 19 f)) ≡ goodBody d3q19 f
+pub body-tab : (f : ℕ → ℤ) → bodyGood d3q19 (partsOf (tab 19 f)) ≡ bodyGood d3q19 f
 unfolding d3q19
 body-tab f =
-    body-is (partsOf (tab 19 f)) ∙ body-same d3q19 (partsOf (tab 19 f)) f (λ k h. getD-tab 19 f (pos 0) k (omega arith)) ∙ sym (body-is f)
+    body-same d3q19 (partsOf (tab 19 f)) f (λ k h. getD-tab 19 f (pos 0) k (omega arith))
 
 abbrev Dry : ℕ → Type 0
 Dry f = _≡_ {A = ℕ} (cond (liquid f) 1 0) 0
@@ -50,21 +48,21 @@ fair-dry (suc zero) m g e = absurd (let z : _≡_ {A = ℕ} 1 0 = e in omega ari
 fair-dry (suc (suc zero)) m g e = absurd (let z : _≡_ {A = ℕ} 1 0 = e in omega arith)
 fair-dry (suc (suc (suc f))) m g e = refl
 
-pub fair-not : (f : ℕ) (m : ℤ) (g : ℕ → ℤ) → (Dry f → ⊥) → goodBody d3q19 g ≡ false → fairBy f m g ≡ false
+pub fair-not : (f : ℕ) (m : ℤ) (g : ℕ → ℤ) → (Dry f → ⊥) → bodyGood d3q19 g ≡ false → fairBy f m g ≡ false
 unfolding fairBy
 fair-not zero m g h e = absurd (h refl)
 fair-not (suc zero) m g h e = rw e
 fair-not (suc (suc zero)) m g h e = e
 fair-not (suc (suc (suc f))) m g h e = absurd (h refl)
 
-pub fair-fluid : (f : ℕ) (m : ℤ) (g : ℕ → ℤ) → (f ≡ 1 → ⊥) → goodBody d3q19 g ≡ true → fairBy f m g ≡ true
+pub fair-fluid : (f : ℕ) (m : ℤ) (g : ℕ → ℤ) → (f ≡ 1 → ⊥) → bodyGood d3q19 g ≡ true → fairBy f m g ≡ true
 unfolding fairBy
 fair-fluid zero m g h e = refl
 fair-fluid (suc zero) m g h e = absurd (h refl)
 fair-fluid (suc (suc zero)) m g h e = e
 fair-fluid (suc (suc (suc f))) m g h e = refl
 
-pub fair-interface : (f : ℕ) (m : ℤ) (g : ℕ → ℤ) → f ≡ 1 → goodBody d3q19 g ≡ true → fairBy f m g ≡ massGood m
+pub fair-interface : (f : ℕ) (m : ℤ) (g : ℕ → ℤ) → f ≡ 1 → bodyGood d3q19 g ≡ true → fairBy f m g ≡ massGood m
 unfolding fairBy
 fair-interface f m g h e = rw (h, e)
 
@@ -75,22 +73,12 @@ unfolding fairAt fairBy d3q19
 fair-at rec flags masses parts m p c h e d =
     let g : ℕ → ℤ = λ k. i32At rec (p + 4 * k) in
     let one : getD flags c 0 ≡ flagOf flags c = getD-there flags c 0 3 h in
-    let same : goodBody d3q19 g ≡ goodBody d3q19 (heldPart rec flags parts c) =
-    body-is g
-    ∙ body-same d3q19 g (heldPart rec flags parts c) (λ k l. ap (i32At rec) (let q : p + 4 * k ≡ parts + 4 * (19 * liquids c (flagOf flags) + k) = omega arith in q))
-    ∙ sym (body-is (heldPart rec flags parts c)) in
+    let same : bodyGood d3q19 g ≡ bodyGood d3q19 (heldPart rec flags parts c) =
+    body-same d3q19 g (heldPart rec flags parts c) (λ k l. ap (i32At rec) (let q : p + 4 * k ≡ parts + 4 * (19 * liquids c (flagOf flags) + k) = omega arith in q)) in
     ap₂ (λ (f i : ℕ). fairBy f (i32At rec i) g) one e
     ∙ ap (λ (t : Bool). byFlag (flagOf flags c) true (t && massGood (heldMass rec flags masses c)) t true) same
 
 -- wall and empty cells keep their rules, fluid mass and every fill are worked out: what is left are the numbers that the record holds
-eqZ-self : (z : ℤ) → eqZ z z ≡ true
-eqZ-self (pos n) = eq-eqb n n refl
-eqZ-self (negsuc n) = eq-eqb n n refl
-
-and-yes : (a b : Bool) → b ≡ true → (a && b) ≡ a
-and-yes true b e = e
-and-yes false b e = refl
-
 cell-by : (f : ℕ) (m : ℤ) (g : ℕ → ℤ) → let part : ℕ → ℤ = λ k. byFlag f (pos 0) (g k) (g k) (pos 0) in
     let mass : ℤ = byFlag f (pos 0) m (density d3q19 part) (pos 0) in
     let dry : Bool = eqZ mass (pos 0) && all 19 (λ k. eqZ (part k) (pos 0)) in
@@ -100,10 +88,9 @@ cell-by zero m g = refl
 cell-by (suc zero) m g =
     let ρ = density d3q19 g in
     and-yes (bodyGood d3q19 g && massGood m) (eqb (fillOf m ρ) (fillOf m ρ)) (eq-eqb (fillOf m ρ) (fillOf m ρ) refl)
-    ∙ ap (λ (t : Bool). t && massGood m) (sym (body-is g))
 cell-by (suc (suc zero)) m g =
     let ρ = density d3q19 g in
-    and-yes (bodyGood d3q19 g && eqZ ρ ρ) (eqb 65536 65536) refl ∙ and-yes (bodyGood d3q19 g) (eqZ ρ ρ) (eqZ-self ρ) ∙ sym (body-is g)
+    and-yes (bodyGood d3q19 g && eqZ ρ ρ) (eqb 65536 65536) refl ∙ and-yes (bodyGood d3q19 g) (eqZ ρ ρ) (eqZ-same ρ)
 cell-by (suc (suc (suc f))) m g = refl
 
 pub cell-fair : (r : List ℕ) (masses parts c : ℕ) → masses ≡ massesFrom (cellsIn r) + 4 → parts ≡ partsFrom (cellsIn r) (interfacesIn r) + 4

@@ -14,7 +14,7 @@ ghost use lib.Dec.{eqb};
 ghost use lib.ListN.{length};
 ghost use Rattle.whole.specs.Fold.{first};
 ghost use Rattle.lattice.specs.Lattice.{d3q19};
-ghost use Rattle.lattice.specs.Body.{partsOf, goodBody};
+ghost use Rattle.lattice.specs.Body.{partsOf, bodyGood};
 ghost use Rattle.grid.specs.State.{liquid};
 ghost use Rattle.grid.specs.Passes.{flagOf};
 ghost use Rattle.record.specs.Bytes.{i32At};
@@ -23,7 +23,7 @@ ghost use Rattle.record.specs.Passes.{fairBy, fairAt};
 
 // Parts, density and speed in their ranges, of any parts.
 fn good_body(f: [i32; 19]) -> bool
-    ensures { λ r. ⌜ r ≡ goodBody d3q19 (partsOf f) ⌝ }
+    ensures { λ r. ⌜ r ≡ bodyGood d3q19 (partsOf f) ⌝ }
 {
     if !all_inside(f) {
         return false;

@@ -29,14 +29,16 @@ use Rattle.lattice.proofs.Ranges.{between}
 use Rattle.grid.specs.declared.Sides.{Sides}
 use Rattle.grid.specs.declared.Answer.the-variants.{Done}
 use Rattle.grid.specs.Grid.{cellsOf, sidesGood, gridOf, box}
-use Rattle.grid.specs.Good.{eqZ, dryGood, interfaceGood, fluidGood, fillGood, cellGood, badFlag, badFluid, badRule}
+use Rattle.grid.specs.Good.{dryGood, interfaceGood, fluidGood, fillGood, cellGood, badFlag, badFluid, badRule}
+use Rattle.lattice.specs.Body.{eqZ}
 use Rattle.grid.specs.Demands.{Same}
 use Rattle.grid.specs.Outcome.{accepted, ifNone, goodAnswer, settingsGood}
 use Rattle.grid.specs.Sight.{Body}
 use Rattle.grid.specs.Step.{fillFor}
 use Rattle.grid.specs.State.{Lent, State, stateOf, lentOf, byFlag, liquid}
 use Rattle.grid.specs.Passes.{flagOf}
-use Rattle.grid.proofs.Accepted.{done-accepted, skip, none-found, cell-good, sound, eqZ-true}
+use Rattle.grid.proofs.Accepted.{done-accepted, skip, none-found, cell-good, sound}
+use Rattle.lattice.proofs.Equal.{eqZ-true}
 use Rattle.grid.proofs.Blocks.{blocks-all}
 use Rattle.grid.proofs.Prepared.{cell-body, cell-mass, cell-fill}
 use Rattle.grid.proofs.Same.{density-same, bad-rule-same}

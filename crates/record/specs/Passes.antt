@@ -10,7 +10,7 @@ use Rattle.whole.specs.Fold.{tab}
 use Rattle.whole.specs.Machine.{Within}
 use Rattle.lattice.specs.Lattice.{d3q19, density}
 use Rattle.lattice.specs.Cell.{massGood}
-use Rattle.lattice.specs.Body.{goodBody}
+use Rattle.lattice.specs.Body.{bodyGood}
 use Rattle.grid.specs.Grid.{sidesGood, gridOf}
 use Rattle.grid.specs.State.{byFlag, liquid, lentOf}
 use Rattle.grid.specs.Step.{fillFor}
@@ -70,7 +70,7 @@ pub record Taken (r : List ℕ) (parts masses : List ℤ) (fills : List ℕ) (ca
 
 -- test 6 of one cell, of which only the record's own numbers can break a rule
 unfoldable pub fairBy : ℕ → ℤ → (ℕ → ℤ) → Bool
-fairBy flag m f = byFlag flag true (goodBody d3q19 f && massGood m) (goodBody d3q19 f) true
+fairBy flag m f = byFlag flag true (bodyGood d3q19 f && massGood m) (bodyGood d3q19 f) true
 
 unfoldable pub fairAt : List ℕ → List ℕ → ℕ → ℕ → ℕ → Bool
 fairAt rec flags masses parts c = fairBy (flagOf flags c) (heldMass rec flags masses c) (heldPart rec flags parts c)

@@ -17,7 +17,8 @@ use Rattle.grid.specs.declared.Answer.the-variants.{Done, Refused}
 use Rattle.grid.specs.Grid.{cellsOf, gridOf, box}
 use Rattle.grid.specs.State.{Lent, Scene, liquid, stateOf, lentOf}
 use Rattle.grid.specs.Step.{flagAt, flagAfter, newDensity, tooFast, collided, filled, emptied, besideFilled, besideEmptied, newFlag, newPart, newMass, newFill, next}
-use Rattle.grid.specs.Good.{bodyGood, badRule}
+use Rattle.grid.specs.Good.{badRule}
+use Rattle.lattice.specs.Body.{bodyGood}
 use Rattle.grid.specs.Outcome.{accepted, ifNone, goodAnswer, moveAnswer, sceneOf, nextOf}
 use Rattle.grid.specs.Between.{Sized, Ready, Poised, uncarried, movedPart, movedMass, firstMark}
 use Rattle.grid.specs.Halfway.{Alike, Moved, Turning, Turned, Stepping, Advanced}

@@ -10,12 +10,11 @@ use Rattle.whole.specs.Bools.{cond-yes, cond-no}
 use Rattle.whole.specs.Fold.{tab}
 use Rattle.whole.specs.Tab.{tab-cong}
 use Rattle.lattice.specs.Lattice.{V3, d3q19, density, momentum}
-use Rattle.lattice.specs.Body.{partsOf, Bounded, vec, stillDir, stillPart, goodBody}
+use Rattle.lattice.specs.Body.{partsOf, Bounded, vec, stillDir, stillPart, bodyGood}
 use Rattle.lattice.specs.declared.Flow.{Flow}
 use Rattle.lattice.specs.declared.Settings.{Settings}
 use Rattle.grid.specs.State.{liquid, stateOf}
 use Rattle.grid.specs.Step.{oldDensity, oldMomentum, rebuilt, rebuild, arrives, streamed, newDensity, newMomentum, bornDir, born}
-use Rattle.grid.specs.Good.{bodyGood}
 use Rattle.grid.specs.Sight.{Bodied, Around, flowing, noSettings, sight}
 use Rattle.grid.proofs.Same.{density-same, momentum-same, body-same}
 use Rattle.flow.proofs.Spans.{streamed-in}
@@ -91,6 +90,6 @@ module _ (flags : List ℕ) (parts : List ℤ) (off : List ℕ) (low : ℕ) (g :
       pub born-list : l ≡ tab 19 (born (flowSight flags parts off low g) c)
       born-list = e ∙ tab-cong 19 (stillPart d3q19 (v .rho) (vec v)) (born (flowSight flags parts off low g) c) (pos 0) (λ k h. born-part k)
 
-      pub born-fair : goodBody d3q19 (partsOf l) ≡ bodyGood d3q19 (born (flowSight flags parts off low g) c)
-      unfolding goodBody bodyGood d3q19
+      pub born-fair : bodyGood d3q19 (partsOf l) ≡ bodyGood d3q19 (born (flowSight flags parts off low g) c)
+      unfolding bodyGood d3q19
       born-fair = body-same d3q19 (partsOf l) (born (flowSight flags parts off low g) c) (λ k h. part-is l (born (flowSight flags parts off low g) c) born-list k (omega arith))

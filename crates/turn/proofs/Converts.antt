@@ -20,7 +20,8 @@ use Rattle.grid.specs.declared.Answer.the-variants.{Done}
 use Rattle.grid.specs.Grid.{cellsOf, gridOf, box}
 use Rattle.grid.specs.State.{Lent, State, Scene, byFlag, liquid, stateOf}
 use Rattle.grid.specs.Step.{flagAt, tooFast, tradedMass, newDensity, filled, emptied, besideFilled, newFlag, newPart, newMass, newCarry}
-use Rattle.grid.specs.Good.{badFlag, bodyGood}
+use Rattle.grid.specs.Good.{badFlag}
+use Rattle.lattice.specs.Body.{bodyGood}
 use Rattle.grid.specs.Outcome.{sceneOf, goodAnswer}
 use Rattle.grid.specs.Between.{Ready, Poised, carried, movedPart, movedMass, firstMark, settledMark, bornPart, gatheredMass}
 use Rattle.grid.specs.Halfway.{Moved, Turning, Turned}

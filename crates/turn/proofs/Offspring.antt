@@ -18,14 +18,13 @@ use Rattle.whole.specs.Sums.{sum-cong}
 use Rattle.whole.specs.Tab.{getD-tab, length-tab, tab-cong}
 use Rattle.lattice.specs.Lattice.{V3, dot, d3q19}
 use Rattle.lattice.specs.Cell.{cut, floor, dense, slow, over, relaxationGood, gravityGood}
-use Rattle.lattice.specs.Body.{stillDir, stillPart}
+use Rattle.lattice.specs.Body.{stillDir, stillPart, bodyGood}
 use Rattle.lattice.specs.declared.Settings.{Settings}
 use Rattle.lattice.proofs.Paired.{paired19}
 use Rattle.grid.specs.declared.Sides.{Sides}
 use Rattle.grid.specs.Grid.{cellsOf}
 use Rattle.grid.specs.State.{Scene, byFlag, liquid, stateOf}
 use Rattle.grid.specs.Step.{flagAt, newDensity, newMomentum, tooFast, filled, besideFilled, emptied, besideEmptied, flagAfter, newFlag, tradedMass, liquidNear, nearSum, bornDensity, bornMomentum, bornDir, born, newPart, collided}
-use Rattle.grid.specs.Good.{bodyGood}
 use Rattle.grid.specs.Outcome.{settingsGood, sceneOf}
 use Rattle.grid.specs.Between.{Poised, carried, movedPart, bornPart}
 use Rattle.grid.specs.Passes.{Inner, lowOf, offsetOf}

@@ -11,12 +11,11 @@ use Rattle.whole.specs.Fold.{tab, all}
 use Rattle.whole.specs.Machine.{Within}
 use Rattle.lattice.specs.Lattice.{dot, d3q19}
 use Rattle.lattice.specs.Cell.{dense, slow, gravityGood}
-use Rattle.lattice.specs.Body.{vec}
+use Rattle.lattice.specs.Body.{vec, bodyGood}
 use Rattle.lattice.specs.declared.Flow.{Flow}
 use Rattle.lattice.specs.declared.Settings.{Settings}
 use Rattle.grid.specs.State.{Scene, liquid}
 use Rattle.grid.specs.Step.{flagAt, newDensity, newMomentum, liquidNear, bornDensity, bornMomentum, born}
-use Rattle.grid.specs.Good.{bodyGood}
 use Rattle.grid.specs.Pasted.{pasted}
 use Rattle.grid.specs.Sight.{Bodied, Around, flowing, sight}
 use Rattle.turn.specs.declared.birth.Sum.{Sum}

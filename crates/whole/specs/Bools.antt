@@ -19,6 +19,10 @@ pub and-true : (a b : Bool) → a ≡ true → b ≡ true → (a && b) ≡ true
 and-true true b e k = k
 and-true false b e k = e
 
+pub and-yes : (a b : Bool) → b ≡ true → (a && b) ≡ a
+and-yes true b e = e
+and-yes false b e = refl
+
 pub and-false : (a b : Bool) → (a && b) ≡ false → (a ≡ false) ⊎ (b ≡ false)
 and-false true b e = inr e
 and-false false b e = inl refl

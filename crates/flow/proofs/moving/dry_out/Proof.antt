@@ -10,7 +10,7 @@ use Rattle.whole.specs.Search.{all-at}
 use Rattle.whole.specs.Tab.{getD-tab}
 use Rattle.lattice.specs.Body.{partsOf, eqZ}
 use Rattle.grid.specs.Pasted.{pasted}
-use Rattle.grid.proofs.Accepted.{eqZ-true}
+use Rattle.lattice.proofs.Equal.{eqZ-true}
 use Rattle.grid.proofs.Blocks.{pasted-same}
 use borrow.Author.Tests.{not-false}
 use borrow.Author.Needs.{needs}

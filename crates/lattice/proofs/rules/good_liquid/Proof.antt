@@ -11,7 +11,7 @@ use Rattle.whole.specs.Fold.{all}
 use Rattle.whole.specs.Machine.{same, machine, within-by, reads-as}
 use Rattle.lattice.specs.Lattice.{d3q19}
 use Rattle.lattice.specs.Cell.{partGood, massGood, fillOf}
-use Rattle.lattice.specs.Body.{partsOf, Tame, steadyFlow, goodBody, goodFluid, goodInterface, eqZ}
+use Rattle.lattice.specs.Body.{partsOf, Tame, steadyFlow, bodyGood, goodFluid, goodInterface, eqZ}
 use Rattle.lattice.proofs.Bodies.{inside-bounded, flow-x, flow-y, flow-z, body-is, no-parts, broken, dense-positive}
 use Rattle.lattice.proofs.Equal.{bits-eqZ}
 use Rattle.lattice.proofs.Reading.{reading, whole32}
@@ -57,7 +57,7 @@ steady-is c = sym (c .before .steady .ensures) ∙ not-false _ (c .if2 .left)
 tame : (c : tie.Else2) → Tame (c .before .before .flow-of .result)
 tame c = steady-tame (c .before .before .flow-of .result) (steady-is c)
 
-body-good : (c : tie.Else2) → goodBody d3q19 (partsOf (c .before .before .before .before .before .args .f)) ≡ true
+body-good : (c : tie.Else2) → bodyGood d3q19 (partsOf (c .before .before .before .before .before .args .f)) ≡ true
 body-good c =
     let e = c .before .before .flow-of .ensures in
     sym (body-is (c .before .before .before .before .before .args .f) (c .before .before .flow-of .result) (e .0) (e .1)) ∙ ap₂ _&&_ (parts-in (c .before .before .before)) (steady-is c)

@@ -14,7 +14,7 @@ use mir.Syntax.{w32, w64}
 use mir.ValLaws.{toZ-ofZ}
 use Rattle.lattice.specs.Lattice.{d3q19}
 use Rattle.lattice.specs.Cell.{massGood}
-use Rattle.lattice.specs.Body.{partsOf, goodBody}
+use Rattle.lattice.specs.Body.{partsOf, bodyGood}
 use Rattle.record.specs.Bytes.{i32At}
 use Rattle.reading.proofs.Fairness.{body-tab, fair-dry, fair-not, fair-fluid, fair-interface}
 use Rattle.reading.proofs.fair.fair_cell.Statement.{statement}
@@ -48,10 +48,10 @@ good-body-requires c κs = search needs
 
 -- src/fair.rt:44:9
 -- the parts, tested in the array that they were read into
-body : (c : tie.After-good-body) → c .good-body .result ≡ goodBody d3q19 (λ k. i32At (now (c .before .before .before .before .before .args .rec)) (c .before .before .before .before .before .args .p + 4 * k))
+body : (c : tie.After-good-body) → c .good-body .result ≡ bodyGood d3q19 (λ k. i32At (now (c .before .before .before .before .before .args .rec)) (c .before .before .before .before .before .args .p + 4 * k))
 body c =
     let a = c .before .before .before .before .before .args in
-    c .good-body .ensures ∙ ap (λ (l : List ℤ). goodBody d3q19 (partsOf l)) (c .before .parts-at .ensures) ∙ body-tab (λ k. i32At (now (a .rec)) (a .p + 4 * k))
+    c .good-body .ensures ∙ ap (λ (l : List ℤ). bodyGood d3q19 (partsOf l)) (c .before .parts-at .ensures) ∙ body-tab (λ k. i32At (now (a .rec)) (a .p + 4 * k))
 
 returns-2 : tie.Need-returns-2
 returns-2 c =
