@@ -21,7 +21,7 @@ use Rattle.grid.specs.Pasted.{pasted}
 use Rattle.grid.proofs.Lists.{getD-there}
 use Rattle.grid.proofs.Ranges.{over-gap}
 use Rattle.grid.proofs.Blocks.{Blocks, blocks-zero, blocks-more, blocks-all, length-pasted, pasted-after}
-use Rattle.turn.proofs.Weighed.{all-more}
+use Rattle.turn.proofs.Weighed.{all-past}
 use Rattle.turn.specs.Born.{Placed, Visited, Peopled, newlyBorn, laterPart, laterFair}
 
 -- ---- which cells
@@ -59,10 +59,6 @@ visited-no {S} {w} {c} before e = record {
 }
 
 -- ---- all visits
-and-yes : (b : Bool) → (b && true) ≡ b
-and-yes true = refl
-and-yes false = refl
-
 module _ (S : Scene) (w : ℕ → Bool) (before : List ℤ) where
   -- the first c cells are visited, the others are as they were
   pub record Reached (after : List ℤ) (c : ℕ) : Type 0 where
@@ -118,7 +114,7 @@ module _ (S : Scene) (w : ℕ → Bool) (before : List ℤ) where
       over-gap (λ j. Reached after j × (fair ≡ all j (laterFair S w))) a b h
       (λ j l m r.
       let v : Visited S w j after after true = visited-no after (none j l m) in
-      (reached-more after after j (omega arith) (r .0) v, sym (and-yes fair) ∙ ap₂ _&&_ (r .1) (visited-fair v) ∙ all-more j (laterFair S w)))
+      (reached-more after after j (omega arith) (r .0) v, all-past j (laterFair S w) (r .1) (visited-fair v)))
 
   pub peopled : (after : List ℤ) (n : ℕ) (fair : Bool) → length before ≡ 19 * n → Reached after n → fair ≡ all n (laterFair S w) → Peopled S w n before after fair
   peopled after n fair e r f = record { parts = blocks-all (laterPart S w before) after n (r .long ∙ e) (r .done); fair-is = f }
