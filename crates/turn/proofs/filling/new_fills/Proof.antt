@@ -1,13 +1,13 @@
 -- `turn::filling::new_fills`: from one interface cell to the next; the cells passed have their fills, the others what their flag says. Assumes nothing.
 use borrow.Author.Needs.{needs}
 use mathlib.Core.Path.{_≡_, sym, _∙_, ap, subst₂}
-use mathlib.Core.Bool.{Bool}
+use mathlib.Core.Bool.{Bool, _&&_}
 use mathlib.Core.List.{List}
 use mathlib.Core.Logic.{⊎-elim}
 use Prim.Native.Nat.{ℕ, _+_, _-_, _<_}
 use native.Mathlib.Omega.{arith}
 use lib.IntN.{ℤ, pos}
-use lib.ListN.{length, getD}
+use lib.ListN.{length, getD, set}
 use mir.Syntax.{w64}
 use mir.Val.{toZ, ofZ}
 use Rattle.whole.specs.Tab.{length-tab}
@@ -95,8 +95,10 @@ loop-again c =
     (⊎-elim
     (λ w.
     let m = mass-of (record { before = record { before = record { before = b .before; if1 = w .0 }; wide-arg = w .1 }; wide = w .2 }) in
-    subst₂ (λ (x : List ℕ) (y : Bool). P x y (l .c + 1)) (sym (w .5)) (sym (w .6))
-    (passed-interface (a .flags .now) (a .parts .now) (a .mass .now) _ is (l .fill) (l .fair) (l .c) _ _ h
+    let fill : b .if1 .fill ≡ set (l .fill) (l .c) (w .3 .result) = w .5 in
+    let fair : b .if1 .fair ≡ (l .fair && w .4 .result) = w .6 in
+    subst₂ (λ (x : List ℕ) (y : Bool). P x y (l .c + 1)) (sym fill) (sym fair)
+    (passed-interface (a .flags .now) (a .parts .now) (a .mass .now) _ is (l .fill) (l .fair) (l .c) (w .3 .result) (w .4 .result) h
     (w .3 .ensures ∙ ap (λ (z : ℤ). fillOf z (density d3q19 (partOf (a .parts .now) (l .c)))) m ∙ fill-here (a .flags .now) (a .parts .now) (a .mass .now) (l .c) h (w .0 .taken))
     (w .4 .ensures ∙ ap massGood m ∙ fair-here (a .flags .now) (a .parts .now) (a .mass .now) (l .c) h (w .0 .taken))
     (l .inv)))
