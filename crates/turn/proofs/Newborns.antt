@@ -10,7 +10,7 @@ use lib.Dec.{eqb}
 use lib.IntN.{ℤ, pos}
 use lib.ListN.{length, getD}
 use borrow.Author.Tests.{eqb-true, ne-eqb}
-use Rattle.whole.specs.Bools.{and-left, and-yes, cond-yes, cond-no}
+use Rattle.whole.specs.Bools.{and-left, cond-yes, cond-no}
 use Rattle.whole.specs.Fold.{tab, all}
 use Rattle.whole.specs.Tab.{length-tab, tab-cong}
 use Rattle.lattice.specs.Lattice.{d3q19}
@@ -21,7 +21,7 @@ use Rattle.grid.specs.Pasted.{pasted}
 use Rattle.grid.proofs.Lists.{getD-there}
 use Rattle.grid.proofs.Ranges.{over-gap}
 use Rattle.grid.proofs.Blocks.{Blocks, blocks-zero, blocks-more, blocks-all, length-pasted, pasted-after}
-use Rattle.turn.proofs.Weighed.{all-more}
+use Rattle.turn.proofs.Weighed.{all-past}
 use Rattle.turn.specs.Born.{Placed, Visited, Peopled, newlyBorn, laterPart, laterFair}
 
 -- ---- which cells
@@ -114,7 +114,7 @@ module _ (S : Scene) (w : ℕ → Bool) (before : List ℤ) where
       over-gap (λ j. Reached after j × (fair ≡ all j (laterFair S w))) a b h
       (λ j l m r.
       let v : Visited S w j after after true = visited-no after (none j l m) in
-      (reached-more after after j (omega arith) (r .0) v, sym (and-yes fair true refl) ∙ ap₂ _&&_ (r .1) (visited-fair v) ∙ all-more j (laterFair S w)))
+      (reached-more after after j (omega arith) (r .0) v, all-past j (laterFair S w) (r .1) (visited-fair v)))
 
   pub peopled : (after : List ℤ) (n : ℕ) (fair : Bool) → length before ≡ 19 * n → Reached after n → fair ≡ all n (laterFair S w) → Peopled S w n before after fair
   peopled after n fair e r f = record { parts = blocks-all (laterPart S w before) after n (r .long ∙ e) (r .done); fair-is = f }

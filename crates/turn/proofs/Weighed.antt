@@ -1,43 +1,72 @@
 -- The fill by cases of the flag, and a test of all cells that goes cell by cell. Assumes nothing.
-use mathlib.Core.Path.{_≡_, refl, sym, ap, ap₂}
+use mathlib.Core.Path.{_≡_, refl, sym, ap, ap₂, _∙_}
 use mathlib.Core.List.{List}
-use mathlib.Core.Bool.{Bool, true, _&&_}
-use Prim.Native.Nat.{ℕ, zero, suc, _+_}
+use mathlib.Core.Bool.{Bool, true, false, not, _&&_, _||_}
+use Prim.Native.Nat.{ℕ, zero, suc, _+_, _<_}
 use native.Mathlib.Numerals.{add-one}
 use lib.IntN.{ℤ, pos}
-use lib.ListN.{getD}
+use lib.ListN.{length, getD}
+use borrow.Author.Tests.{ne-eqb}
+use Rattle.whole.specs.Bools.{and-yes}
 use Rattle.whole.specs.Fold.{all}
-use Rattle.lattice.specs.Cell.{fillOf}
+use Rattle.lattice.specs.Cell.{fillOf, massGood}
 use Rattle.lattice.specs.Lattice.{d3q19, density}
 use Rattle.grid.specs.Step.{fillFor}
-use Rattle.turn.specs.Filled.{partOf, fillAt, fairMass, fairAt}
+use Rattle.grid.proofs.Lists.{getD-there}
+use Rattle.turn.specs.Filled.{partOf, fillAt, plainFill, plainAt, fairMass, fairAt}
 
-module _ (f : ℕ) (m ρ : ℤ) where
-  pub fill-interface : f ≡ 1 → fillOf m ρ ≡ fillFor f m ρ
-  unfolding fillFor
-  fill-interface e = rw e refl
+-- ---- by the flag
+pub plain-fluid : (f : ℕ) → f ≡ 2 → 65536 ≡ plainFill f
+unfolding plainFill
+plain-fluid f e = rw e refl
 
-  pub fill-fluid : f ≡ 2 → 65536 ≡ fillFor f m ρ
-  unfolding fillFor
-  fill-fluid e = rw e refl
+pub plain-dry : (f : ℕ) → (f ≡ 2 → ⊥) → 0 ≡ plainFill f
+unfolding plainFill
+plain-dry zero h = refl
+plain-dry (suc zero) h = refl
+plain-dry (suc (suc zero)) h = absurd (h refl)
+plain-dry (suc (suc (suc n))) h = refl
 
-pub fill-neither : (f : ℕ) (m ρ : ℤ) → (f ≡ 1 → ⊥) → (f ≡ 2 → ⊥) → 0 ≡ fillFor f m ρ
+fill-plain : (f : ℕ) (m ρ : ℤ) → (f ≡ 1 → ⊥) → plainFill f ≡ fillFor f m ρ
+unfolding plainFill fillFor
+fill-plain zero m ρ h = refl
+fill-plain (suc zero) m ρ h = absurd (h refl)
+fill-plain (suc (suc zero)) m ρ h = refl
+fill-plain (suc (suc (suc n))) m ρ h = refl
+
+fill-interface : (f : ℕ) (m ρ : ℤ) → f ≡ 1 → fillOf m ρ ≡ fillFor f m ρ
 unfolding fillFor
-fill-neither zero m ρ g h = refl
-fill-neither (suc zero) m ρ g h = absurd (g refl)
-fill-neither (suc (suc zero)) m ρ g h = absurd (h refl)
-fill-neither (suc (suc (suc n))) m ρ g h = refl
+fill-interface f m ρ e = rw e refl
 
--- of the flag and the mass as the code reads them
-module _ (flags : List ℕ) (parts masses : List ℤ) (c : ℕ) {f : ℕ} (e : f ≡ getD flags c 3) where
-  pub fill-at : fillFor f (getD masses c (pos 0)) (density d3q19 (partOf parts c)) ≡ fillAt flags parts masses c
+fair-plain : (f : ℕ) (m : ℤ) → (f ≡ 1 → ⊥) → true ≡ fairMass f m
+unfolding fairMass
+fair-plain f m h = sym (ap (λ (b : Bool). not b || massGood m) (ne-eqb f 1 h))
+
+fair-interface : (f : ℕ) (m : ℤ) → f ≡ 1 → massGood m ≡ fairMass f m
+unfolding fairMass
+fair-interface f m e = rw e refl
+
+-- ---- of the flag as the code reads it
+module _ (flags : List ℕ) (parts masses : List ℤ) (c : ℕ) (h : c < length flags) where
+  pub fill-elsewhere : (getD flags c 0 ≡ 1 → ⊥) → plainAt flags c ≡ fillAt flags parts masses c
+  unfolding plainAt fillAt
+  fill-elsewhere n =
+      ap plainFill (getD-there flags c 0 3 h)
+      ∙ fill-plain (getD flags c 3) (getD masses c (pos 0)) (density d3q19 (partOf parts c)) (λ e. n (getD-there flags c 0 3 h ∙ e))
+
+  pub fill-here : getD flags c 0 ≡ 1 → fillOf (getD masses c (pos 0)) (density d3q19 (partOf parts c)) ≡ fillAt flags parts masses c
   unfolding fillAt
-  fill-at = ap (λ (g : ℕ). fillFor g (getD masses c (pos 0)) (density d3q19 (partOf parts c))) e
+  fill-here e = fill-interface (getD flags c 3) (getD masses c (pos 0)) (density d3q19 (partOf parts c)) (getD-there flags c 3 0 h ∙ e)
 
-pub fair-at : (flags : List ℕ) (masses : List ℤ) (c : ℕ) {f : ℕ} {m : ℤ} → f ≡ getD flags c 3 → m ≡ getD masses c (pos 0) → fairMass f m ≡ fairAt flags masses c
-unfolding fairAt
-fair-at flags masses c e d = ap₂ fairMass e d
+  pub fair-elsewhere : (getD flags c 0 ≡ 1 → ⊥) → true ≡ fairAt flags masses c
+  unfolding fairAt
+  fair-elsewhere n = fair-plain (getD flags c 3) (getD masses c (pos 0)) (λ e. n (getD-there flags c 0 3 h ∙ e))
 
+  pub fair-here : getD flags c 0 ≡ 1 → massGood (getD masses c (pos 0)) ≡ fairAt flags masses c
+  unfolding fairAt
+  fair-here e = fair-interface (getD flags c 3) (getD masses c (pos 0)) (getD-there flags c 3 0 h ∙ e)
+
+-- ---- a test of all cells
 pub all-none : (f : ℕ → Bool) → true ≡ all 0 f
 unfolding all
 all-none f = refl
@@ -45,3 +74,7 @@ all-none f = refl
 pub all-more : (c : ℕ) (f : ℕ → Bool) → (all c f && f c) ≡ all (c + 1) f
 unfolding all
 all-more c f = sym (ap (λ (n : ℕ). all n f) (add-one c))
+
+-- a cell that passes need not be looked at
+pub all-past : {b : Bool} (c : ℕ) (f : ℕ → Bool) → b ≡ all c f → true ≡ f c → b ≡ all (c + 1) f
+all-past {b} c f e t = sym (and-yes b true refl) ∙ ap₂ _&&_ e t ∙ all-more c f

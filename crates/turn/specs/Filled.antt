@@ -11,6 +11,7 @@ use Rattle.whole.specs.Fold.{tab, all}
 use Rattle.whole.specs.Machine.{Within}
 use Rattle.lattice.specs.Lattice.{d3q19, density}
 use Rattle.lattice.specs.Cell.{massGood}
+use Rattle.grid.specs.State.{byFlag}
 use Rattle.grid.specs.Step.{fillFor}
 
 -- part k of cell c
@@ -34,6 +35,13 @@ pub record Fillable (flags : List ℕ) (parts masses : List ℤ) : Type 0 where
 unfoldable pub fillAt : List ℕ → List ℤ → List ℤ → ℕ → ℕ
 fillAt flags parts masses c = fillFor (getD flags c 3) (getD masses c (pos 0)) (density d3q19 (partOf parts c))
 
+-- the fill by the flag alone: right wherever the cell is not interface
+unfoldable pub plainFill : ℕ → ℕ
+plainFill f = byFlag f 0 0 65536 0
+
+unfoldable pub plainAt : List ℕ → ℕ → ℕ
+plainAt flags c = plainFill (getD flags c 0)
+
 -- a mass that a cell of flag f may have: an interface cell's is in its range
 unfoldable pub fairMass : ℕ → ℤ → Bool
 fairMass f m = not (eqb f 1) || massGood m
@@ -48,5 +56,5 @@ pub record Refilled (flags : List ℕ) (parts masses : List ℤ) (fills : List �
 
 -- names every definition of this file: whoever unfolds this computes with all of them
 unfoldable pub open-filled : Unit {0}
-unfolding fillAt fairMass fairAt
+unfolding fillAt plainFill plainAt fairMass fairAt
 open-filled = tt

@@ -1,35 +1,46 @@
 // Stage 7: the fills, worked out afresh, and whether interface masses are still in their range.
 use grid::cells::own;
+use grid::seeking::next_of;
 use lattice::fill::part_fill;
 use lattice::limits::fair_mass;
 use lattice::moments::density;
 use whole::wide;
 ghost use mathlib.Core.Path.{_≡_};
-ghost use Prim.Native.Nat.{_+_, _*_, _<_, _≤_};
-ghost use lib.IntN.{pos};
-ghost use lib.ListN.{length, getD};
+ghost use Prim.Native.Nat.{_+_, _*_, _≤_};
+ghost use lib.ListN.{length};
+ghost use Rattle.whole.specs.Fold.{tab};
 ghost use Rattle.lattice.specs.Lattice.{d3q19, density};
-ghost use Rattle.grid.specs.Step.{fillFor};
-ghost use Rattle.turn.specs.Filled.{partOf, Weighty, Fillable, fairMass, Refilled};
+ghost use Rattle.lattice.specs.Cell.{fillOf};
+ghost use Rattle.turn.specs.Filled.{partOf, Weighty, Fillable, plainFill, plainAt, Refilled};
 
-// The fill of cell c, whose flag is f.
-fn fill_of(f: u8, parts: &[i32], mass: &[i32], c: usize) -> u32
-    requires { ⌜ (19 * c + 19 ≤ length (now parts)) × (c < length (now mass)) × (f ≡ 1 → Weighty (partOf (now parts) c)) ⌝ }
-    ensures { λ r. ⌜ r ≡ fillFor f (getD (now (mass .entry)) c (pos 0)) (density d3q19 (partOf (now (parts .entry)) c)) ⌝ }
+// What a cell's fill is by its flag alone: a fluid cell is full, any other is taken as dry.
+fn plain_fill(f: u8) -> u32
+    ensures { λ r. ⌜ r ≡ plainFill f ⌝ }
 {
-    if f == 1 {
-        return part_fill(wide(mass[c]), wide(density(own(parts, c))));
-    }
     if f == 2 {
         return 65536;
     }
     0
 }
 
-fn fair_for(f: u8, m: i32) -> bool
-    ensures { λ r. ⌜ r ≡ fairMass f m ⌝ }
+// Every fill but those of interface cells; with nothing else in it this loop runs many cells at a time.
+fn plain_fills(flags: &[u8], fill: &mut [u32])
+    requires { ⌜ length (now fill) ≡ length (now flags) ⌝ }
+    ensures { λ r. ⌜ now (fill .exit) ≡ tab (length (now (flags .entry))) (plainAt (now (flags .entry))) ⌝ }
 {
-    (f != 1) | fair_mass(wide(m))
+    let mut c = 0;
+    while c < flags.len() {
+        fill[c] = plain_fill(flags[c]);
+        c += 1;
+    }
+}
+
+// The fill of interface cell c, whose mass is m.
+fn interface_fill(parts: &[i32], m: i64, c: usize) -> u32
+    requires { ⌜ (19 * c + 19 ≤ length (now parts)) × Weighty (partOf (now parts) c) ⌝ }
+    ensures { λ r. ⌜ r ≡ fillOf m (density d3q19 (partOf (now (parts .entry)) c)) ⌝ }
+{
+    part_fill(m, wide(density(own(parts, c))))
 }
 
 // The fill of every cell; whether every interface cell's mass is in its range.
@@ -37,13 +48,16 @@ pub fn new_fills(flags: &[u8], parts: &[i32], mass: &[i32], fill: &mut [u32]) ->
     requires { ⌜ Fillable (now flags) (now parts) (now mass) × (length (now fill) ≡ length (now flags)) ⌝ }
     ensures { λ r. ⌜ Refilled (now (flags .entry)) (now (parts .entry)) (now (mass .entry)) (now (fill .exit)) r ⌝ }
 {
+    plain_fills(flags, fill);
     let mut fair = true;
     let mut c = 0;
     while c < flags.len() {
-        let f = flags[c];
-        fill[c] = fill_of(f, parts, mass, c);
-        fair = fair & fair_for(f, mass[c]);
-        c += 1;
+        if flags[c] == 1 {
+            let m = wide(mass[c]);
+            fill[c] = interface_fill(parts, m, c);
+            fair = fair & fair_mass(m);
+        }
+        c = next_of(flags, c + 1, 1);
     }
     fair
 }
