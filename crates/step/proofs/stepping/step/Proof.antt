@@ -1,6 +1,6 @@
 -- `step::stepping::step`: the outcome's definition, whatever is lent. Assumes nothing.
 use borrow.Author.Needs.{needs}
-use mathlib.Core.Path.{_≡_, sym, _∙_}
+use mathlib.Core.Path.{refl, _≡_, sym, _∙_}
 use Rattle.grid.specs.declared.Answer.the-variants.{Done}
 use Rattle.grid.specs.Grid.{cellsOf}
 use Rattle.grid.specs.State.{Lent}
@@ -39,22 +39,22 @@ enum-known-a : tie.Need-enum-known-a
 enum-known-a c = search needs
 
 same-length : tie.Need-same-length
-same-length c = search needs
+same-length c = refl
 
 same-length-2 : tie.Need-same-length-2
-same-length-2 c = search needs
+same-length-2 c = refl
 
 same-length-3 : tie.Need-same-length-3
-same-length-3 c = search needs
+same-length-3 c = refl
 
 same-length-4 : tie.Need-same-length-4
-same-length-4 c = search needs
+same-length-4 c = refl
 
 same-length-5 : tie.Need-same-length-5
-same-length-5 c = search needs
+same-length-5 c = refl
 
 same-length-6 : tie.Need-same-length-6
-same-length-6 c = search needs
+same-length-6 c = refl
 
 returns : tie.Need-returns
 returns c = let t = c .before .before .before .before .before .before .before .before .before .before .before .before .before .before .before in refused (t .args .s) (t .args .g) (first t) (second t) (t .args .marks .now) (sym (c .before .a .given .1) ∙ c .before .before .before .entered .ensures)
