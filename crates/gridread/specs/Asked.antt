@@ -1,5 +1,6 @@
 -- What words and numbers ask for. Assumes nothing.
 use Prim.Native.Nat.{ℕ}
+use mathlib.Core.Bool.{Bool, true, false}
 use Rattle.console.specs.declared.decimal.Spelled.{Spelled}
 use Rattle.console.specs.declared.decimal.Spelled.the-variants as spelled
 use Rattle.console.specs.declared.signed.Signed.{Signed}
@@ -21,6 +22,13 @@ widthOf (Place p) = 3
 widthOf (CellPoint c) = 1
 widthOf (Depth x y) = 2
 widthOf Unreadable = 0
+
+-- any but what is no request
+abbrev pub canBeRead : Request → Bool
+canBeRead (Place p) = true
+canBeRead (CellPoint c) = true
+canBeRead (Depth x y) = true
+canBeRead Unreadable = false
 
 -- a request can be read if each of its numbers can
 abbrev pub placeAsked : Signed → Signed → Signed → Request

@@ -7,7 +7,7 @@ use console::signed::Signed;
 use tunnel::Point;
 ghost use mathlib.Core.Path.{_≡_};
 ghost use Prim.Native.Nat.{_+_, _<_};
-ghost use Rattle.gridread.specs.Asked.{numbersAfter, widthOf, placeAsked, pointAsked, depthAsked};
+ghost use Rattle.gridread.specs.Asked.{numbersAfter, widthOf, canBeRead, placeAsked, pointAsked, depthAsked};
 
 // What is asked of a grid.
 pub enum Request {
@@ -49,10 +49,14 @@ pub fn width(r: Request) -> usize
     }
 }
 
-pub fn readable(r: Request) -> bool {
+pub fn readable(r: Request) -> bool
+    ensures { λ b. ⌜ b ≡ canBeRead r ⌝ }
+{
     match r {
+        Request::Place(_) => true,
+        Request::CellPoint(_) => true,
+        Request::Depth(_, _) => true,
         Request::Unreadable => false,
-        _ => true,
     }
 }
 
