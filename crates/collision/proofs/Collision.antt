@@ -1,6 +1,6 @@
 -- Collision by pairs: what the eighteen share is in range, opposite directions differ in the sign of e·j alone, and the code's forms are the
 -- definition's. Assumes nothing.
-use mathlib.Core.Path.{_≡_, sym, ap, ap₂, subst}
+use mathlib.Core.Path.{_≡_, sym, ap, subst}
 use mathlib.Core.Bool.{true}
 use mathlib.Core.List.{List, [], _∷_}
 use Prim.Native.Nat.{ℕ}
@@ -14,12 +14,12 @@ use Rattle.whole.specs.Order.{*ℤ-mono}
 use Rattle.whole.specs.Machine.{Within, within-by}
 use Rattle.lattice.specs.declared.Flow.{Flow}
 use Rattle.lattice.specs.Lattice.{dot, d3q19}
-use Rattle.lattice.specs.Cell.{quad, relaxed, still, relaxationGood}
-use Rattle.lattice.specs.Body.{partsOf, vec, Tame, relaxedDir, stillDir}
+use Rattle.lattice.specs.Cell.{quad, relaxed, relaxationGood}
+use Rattle.lattice.specs.Body.{partsOf, vec, Tame, relaxedDir}
 use Rattle.lattice.proofs.Ranges.{relaxation-in}
 use Rattle.lattice.proofs.Reading.{reading}
 use Rattle.collision.specs.declared.collide.Common.{Common}
-use Rattle.collision.specs.Post.{CommonIs, Ready, grown, stilled}
+use Rattle.collision.specs.Post.{CommonIs, Ready, grown}
 
 pub ready : (v : Flow) (p : ℤ) (k : Common) → Tame v → relaxationGood p ≡ true → CommonIs v p k → Ready k
 ready v p k t e is =
@@ -34,7 +34,6 @@ ready v p k t e is =
       deep = rw (is .seventy, abs-mul (negsuc 71) (v .rho)) (omega (arith, abs-above (t .low)));
       low = subst (λ (z : ℤ). pos 21743271936 ≤ℤ z) (sym (is .den)) (*ℤ-mono 73728 (t .low));
       den = subst (λ (z : ℤ). Within z 86973087744) (sym (is .den)) (within-by (search reading depth 20) tt);
-      inv = is .inv;
       p = subst (λ (z : ℤ). Within z 2037) (sym (is .p)) (relaxation-in p e);
     }
 
@@ -62,22 +61,3 @@ module _ (v : Flow) (p : ℤ) (k : Common) (is : CommonIs v p k) (f d : List ℤ
   formed-is =
       rw (is .base, is .six, is .seventy, is .den, is .p, e)
       (ap (λ (n : ℤ). partsOf f i +ℤ quotZ n (pos 73728 *ℤ v .rho)) (numerator p (pos (d3q19 .weight i)) (v .rho) (dot (vec v) (vec v)) (partsOf f i) (dot (d3q19 .e i) (vec v))))
-
--- ---- stage 5's form, with e·j read from the array d
-abbrev pub begun : List ℤ → Common → ℕ → ℤ
-begun d k i = stilled (pos (d3q19 .weight i)) (getD d i (pos 0)) k
-
-module _ (v : Flow) (p : ℤ) (k : Common) (is : CommonIs v p k) (d : List ℤ) (i : ℕ) (e : getD d i (pos 0) ≡ dot (d3q19 .e i) (vec v)) where
-  dividend : (w r q x : ℤ)
-      → w *ℤ (pos 2 *ℤ (r *ℤ r) -ℤ pos 3 *ℤ q -ℤ negsuc 5 *ℤ r *ℤ x +ℤ pos 9 *ℤ x *ℤ x)
-      ≡ w *ℤ (pos 2 *ℤ (r *ℤ r) +ℤ pos 6 *ℤ (r *ℤ x) +ℤ pos 9 *ℤ (x *ℤ x) -ℤ pos 3 *ℤ q)
-  dividend w r q x = ring-by (w ∷ r ∷ q ∷ x ∷ []) (search quotes depth 20) (search quotes depth 20) tt
-
-  divisor-is : (r : ℤ) → pos 0 -ℤ negsuc 71 *ℤ r ≡ pos 72 *ℤ r
-  divisor-is r = ring-by (r ∷ []) (search quotes depth 20) (search quotes depth 20) tt
-
-  pub begun-is : begun d k i ≡ stillDir d3q19 (v .rho) (vec v) i
-  unfolding stillDir still quad
-  begun-is =
-      rw (is .base, is .six, is .seventy, e)
-      (ap₂ quotZ (dividend (pos (d3q19 .weight i)) (v .rho) (dot (vec v) (vec v)) (dot (d3q19 .e i) (vec v))) (divisor-is (v .rho)))

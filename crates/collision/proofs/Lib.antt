@@ -1,2 +1,9 @@
+pub mod Bracket
 pub mod Collision
-pub mod Reciprocal
+pub mod Each
+pub mod Ends
+pub mod Landed
+pub mod Loss
+pub mod Rates
+pub mod Stillness
+pub mod Turns

@@ -1,6 +1,6 @@
 -- What the code promises of a value with several fields, part by part. Assumes nothing.
 use mathlib.Core.Path.{_≡_}
-use Prim.Native.Nat.{_/_, _≤_}
+use Prim.Native.Nat.{_≤_}
 use lib.IntN.{ℤ, pos, negsuc, natAbs, _+ℤ_, _-ℤ_, _*ℤ_}
 use lib.Signed.{_≤ℤ_, quotZ}
 use Rattle.whole.specs.Machine.{Within}
@@ -25,7 +25,6 @@ pub record CommonIs (v : Flow) (relaxation : ℤ) (k : Common) : Type 0 where
   pub six : k .six ≡ negsuc 5 *ℤ v .rho
   pub seventy : k .seventy ≡ negsuc 71 *ℤ v .rho
   pub den : k .den ≡ pos 73728 *ℤ v .rho
-  pub inv : k .inv ≡ 576460752303423488 / natAbs (k .den)
   pub p : k .p ≡ relaxation
 
 -- its bounds, for a tame flow: every product of a collision fits
@@ -36,16 +35,11 @@ pub record Ready (k : Common) : Type 0 where
   pub deep : 21233664 ≤ natAbs (k .seventy)
   pub low : pos 21743271936 ≤ℤ k .den
   pub den : Within (k .den) 86973087744
-  pub inv : k .inv ≡ 576460752303423488 / natAbs (k .den)
   pub p : Within (k .p) 2037
 
 -- a part, grown by the cut quotient
 abbrev pub grown : ℤ → ℤ → ℤ → Common → ℤ
 grown f w q k = f +ℤ quotZ (k .p *ℤ (w *ℤ q +ℤ k .seventy *ℤ f)) (k .den)
-
--- stage 5: the part of a cell that begins
-abbrev pub stilled : ℤ → ℤ → Common → ℤ
-stilled w d k = quotZ (w *ℤ (k .base -ℤ k .six *ℤ d +ℤ pos 9 *ℤ d *ℤ d)) (pos 0 -ℤ k .seventy)
 
 -- a pair of opposite parts: the even part of Q with the odd one taken away and added
 pub record Paired (f g w d : ℤ) (k : Common) (r : Pair) : Type 0 where

@@ -169,41 +169,41 @@ module _ (flags : List ℕ) (parts : List ℤ) (off : List ℕ) (low : ℕ) (g :
   own-in : (k : ℕ) → k ≤ 18 → Within (getD parts (19 * c + k) (pos 0)) 1179648
   own-in k h = t .body c (a .is-cell) l .parts k h
 
-  less : {x y : ℤ} → Within x 229376 → Within y 1179648 → Within (x -ℤ y) 2097152
+  less : {x y : ℤ} → Within x 229376 → Within y 1179648 → Within (x -ℤ y) 1572864
   less {x} {y} h k = record { abs = omega (arith, abs-sub x y, h .abs, k .abs) }
 
-  loose : {z : ℤ} → Within z 1179648 → Within z 2097152
+  loose : {z : ℤ} → Within z 1179648 → Within z 1572864
   loose h = record { abs = omega (arith, h .abs) }
 
-  arrives-in : (i k : ℕ) → 0 < i → i < 19 → k < 19 → Within (arrives S c i k) 2097152
+  arrives-in : (i k : ℕ) → 0 < i → i < 19 → k < 19 → Within (arrives S c i k) 1572864
   arrives-in i k z h m = go (getD flags b 3) refl
     where
       b : ℕ
       b = (c - low) + getD off i 0
 
-      from : liquid (getD flags b 3) ≡ true → Within (arrives S c i k) 2097152
+      from : liquid (getD flags b 3) ≡ true → Within (arrives S c i k) 1572864
       from w =
-          subst (λ (x : ℤ). Within x 2097152) (sym (arrives-liquid flags parts off low g c b i k refl w))
+          subst (λ (x : ℤ). Within x 1572864) (sym (arrives-liquid flags parts off low g c b i k refl w))
           (loose (t .body b (a .each i h) w .parts k (omega arith)))
 
-      go : (f : ℕ) → getD flags b 3 ≡ f → Within (arrives S c i k) 2097152
+      go : (f : ℕ) → getD flags b 3 ≡ f → Within (arrives S c i k) 1572864
       go zero e =
-          subst (λ (x : ℤ). Within x 2097152) (sym (arrives-empty flags parts off low g c b i k refl e))
+          subst (λ (x : ℤ). Within x 1572864) (sym (arrives-empty flags parts off low g c b i k refl e))
           (less (gas-body (λ k. getD parts (19 * c + k) (pos 0)) (t .body c (a .is-cell) l) i z h) (own-in i (omega arith)))
       go (suc zero) e = from (ap liquid e)
       go (suc (suc zero)) e = from (ap liquid e)
       go (suc (suc (suc n))) e =
-          subst (λ (x : ℤ). Within x 2097152) (sym (arrives-wall flags parts off low g c b i k refl (omega arith))) (loose (own-in i (omega arith)))
+          subst (λ (x : ℤ). Within x 1572864) (sym (arrives-wall flags parts off low g c b i k refl (omega arith))) (loose (own-in i (omega arith)))
 
-  pub streamed-in : (k : ℕ) → k ≤ 18 → Within (streamed S c k) 2097152
+  pub streamed-in : (k : ℕ) → k ≤ 18 → Within (streamed S c k) 1572864
   unfolding streamed sight stateOf d3q19
   streamed-in zero h = loose (own-in 0 h)
   streamed-in (suc n) h = arrives-in (pairOpp (suc n)) (suc n) (opposite-some n) (opposite-most n (omega arith)) (omega arith)
 
   -- read into an array
-  pub bounded-streamed : (x : List ℤ) → x ≡ tab 19 (streamed S c) → Bounded x 2097152 2097152
+  pub bounded-streamed : (x : List ℤ) → x ≡ tab 19 (streamed S c) → Bounded x 1572864 1572864
   bounded-streamed x e = record { rest = at 0 (omega arith); at = λ k z h. at k h }
     where
-      at : (k : ℕ) → k < 19 → Within (partsOf x k) 2097152
+      at : (k : ℕ) → k < 19 → Within (partsOf x k) 1572864
       at k h =
-          subst (λ (y : ℤ). Within y 2097152) (sym (ap (λ (y : List ℤ). getD y k (pos 0)) e ∙ getD-tab 19 (streamed S c) (pos 0) k h)) (streamed-in k (omega arith))
+          subst (λ (y : ℤ). Within y 1572864) (sym (ap (λ (y : List ℤ). getD y k (pos 0)) e ∙ getD-tab 19 (streamed S c) (pos 0) k h)) (streamed-in k (omega arith))

@@ -49,7 +49,7 @@ fn fair(f: [i32; 19]) -> bool
 
 // Stages 3 and 4 of a liquid cell c into which f streamed.
 fn put_moved(f: [i32; 19], parts2: &mut [i32], c: usize, g: Settings) -> Put
-    requires { ⌜ Bounded f 2097152 2097152 × (settingsGood g ≡ true) × (19 * c + 19 ≤ length (now parts2)) ⌝ }
+    requires { ⌜ Bounded f 1572864 1572864 × (settingsGood g ≡ true) × (19 * c + 19 ≤ length (now parts2)) ⌝ }
     ensures { λ r. ⌜ ((flags : List ℕ) (parts : List ℤ) (off : List ℕ) (low : ℕ) → liquid (getD flags c 3) ≡ true → f ≡ tab 19 (streamed (sight (flowing flags parts) off low noSettings) c) → PutAt (sight (flowing flags parts) off low g) c (now (parts2 .entry)) (now (parts2 .exit)) r) ⌝ }
 {
     let v = pulled(flow_of(f), g);

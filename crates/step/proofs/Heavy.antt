@@ -36,11 +36,11 @@ module _ {ρ : ℤ} (low : pos 294912 ≤ℤ ρ) (high : Within ρ 1179648) wher
   unfolding still
   still-in {w} {q} hw hq = cut-still {w = pos w} (record { abs = hw }) hq
 
-  cut-relaxed : {p f q w : ℤ} → Within p 2037 → Within w 2 → Within q 26000000000000 → Within f 2097152
+  cut-relaxed : {p f q w : ℤ} → Within p 2037 → Within w 2 → Within q 26000000000000 → Within f 1572864
       → Within (f +ℤ quotZ (p *ℤ (w *ℤ q -ℤ pos 72 *ℤ (ρ *ℤ f))) (pos 73728 *ℤ ρ)) 33554432
   cut-relaxed {p} {f} {q} {w} hp hw hq hf = let d = is-least (pos 73728 *ℤ ρ) 21743271936 (far 73728) in within-by (search reading depth 30 fits 5000) tt
 
-  pub relaxed-in : {p f q : ℤ} {w : ℕ} → Within p 2037 → w ≤ 2 → Within q 26000000000000 → Within f 2097152 → Within (relaxed p w q ρ f) 33554432
+  pub relaxed-in : {p f q : ℤ} {w : ℕ} → Within p 2037 → w ≤ 2 → Within q 26000000000000 → Within f 1572864 → Within (relaxed p w q ρ f) 33554432
   unfolding relaxed
   relaxed-in {w = w} hp hw hq hf = cut-relaxed {w = pos w} hp (record { abs = hw }) hq hf
 

@@ -57,13 +57,13 @@ quad-in ρ ej jj h k l =
       times-in ej ej 1179648 1179648 k k,
     )
 
-relaxed-in : (p : ℤ) (w : ℕ) (Q ρ f : ℤ) → natAbs p ≤ 2037 → w ≤ 2 → natAbs Q ≤ 26000000000000 → 294912 ≤ natAbs ρ → natAbs ρ ≤ 1179648 → natAbs f ≤ 2097152
+relaxed-in : (p : ℤ) (w : ℕ) (Q ρ f : ℤ) → natAbs p ≤ 2037 → w ≤ 2 → natAbs Q ≤ 26000000000000 → 294912 ≤ natAbs ρ → natAbs ρ ≤ 1179648 → natAbs f ≤ 1572864
     → natAbs (relaxed p w Q ρ f) ≤ 33554432
 unfolding relaxed
 relaxed-in p w Q ρ f hp hw hQ low hρ hf =
     let n = pos w *ℤ Q -ℤ pos 72 *ℤ (ρ *ℤ f) in
     let inner : natAbs n ≤ 230120883699712 =
-    omega (arith, abs-sub (pos w *ℤ Q) (pos 72 *ℤ (ρ *ℤ f)), times-in (pos w) Q 2 26000000000000 hw hQ, abs-mul (pos 72) (ρ *ℤ f), times-in ρ f 1179648 2097152 hρ hf) in
+    omega (arith, abs-sub (pos w *ℤ Q) (pos 72 *ℤ (ρ *ℤ f)), times-in (pos w) Q 2 26000000000000 hw hQ, abs-mul (pos 72) (ρ *ℤ f), times-in ρ f 1179648 1572864 hρ hf) in
     let top : natAbs (p *ℤ n) ≤ 468756240096313344 = omega (arith, times-in p n 2037 230120883699712 hp inner) in
     let bottom : 21743271936 ≤ natAbs (pos 73728 *ℤ ρ) = omega (arith, abs-mul (pos 73728) ρ) in
     let q : natAbs (quotZ (p *ℤ n) (pos 73728 *ℤ ρ)) ≤ 21558679 = quot-abs (p *ℤ n) (pos 73728 *ℤ ρ) 468756240096313344 21743271936 top (omega arith) bottom in
@@ -119,10 +119,10 @@ module _ (s : Sides) (g : Settings) (a : Lent) (r : Poised s g a) (t : cellsOf s
   unfolding sight sceneOf d3q19
   near i d = sym (place-is o c inside i (omega (arith, d .most)))
 
-  stream-in : (k : ℕ) → k ≤ 18 → Within (streamed S c k) 2097152
+  stream-in : (k : ℕ) → k ≤ 18 → Within (streamed S c k) 1572864
   unfolding sight sceneOf stateOf d3q19
   stream-in k m =
-      subst (λ (z : ℤ). Within z 2097152)
+      subst (λ (z : ℤ). Within z 1572864)
       (sym (streamed-same d3q19 paired19 (S .grid) (seen .grid) (S .old .flag) (S .old .part) c near
       (S .old .mass) (seen .old .mass) (S .old .fill) (seen .old .fill) (S .old .carry) (seen .old .carry) (S .g) (seen .g) (S .relax) (seen .relax) k m))
       (streamed-in (a .flags) (a .parts) (tab 19 (offsetOf s)) (lowOf s) g (poised-bodied s g a r) c (subst (λ (n : ℕ). Around n (tab 19 (offsetOf s)) (lowOf s) c) (sym (r .flags)) around) l k m)

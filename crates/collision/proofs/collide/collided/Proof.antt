@@ -1,122 +1,108 @@
--- `collision::collide::collided`: pair by pair each part is the definition's, and what the pairs leave of the density is part 0. Assumes nothing.
+-- `collision::collide::collided`: pair by pair each part lands by its end, what the pairs leave of the density is part 0, and where the low words
+-- tell, each landing is the definition's. Assumes nothing.
 use mathlib.Core.Path.{_≡_, refl, sym, _∙_, ap, ap₂, subst}
-use mathlib.Core.List.{List, [], _∷_}
-use Prim.Native.Nat.{ℕ, zero, suc, _+_, _-_, _*_, _%_, _<_, _≤_}
+use mathlib.Core.List.{List}
+use Prim.Native.Nat.{ℕ, suc, _+_, _-_, _%_, _<_, _≤_}
 use native.Mathlib.Omega.{arith}
 use borrow.Author.Needs.{needs}
-use lib.ListN.{length, getD, set, length-set}
-use lib.Seq.{getD-set-same, getD-set-other}
-use lib.IntN.{ℤ, pos, negℤ, natAbs, _+ℤ_, _-ℤ_, _*ℤ_, +ℤ-idr}
+use lib.ListN.{getD}
+use lib.IntN.{ℤ, pos, _+ℤ_, _-ℤ_}
 use mir.Syntax.{w32, w64}
 use mir.Val.{toZ, ofZ}
 use mir.Facts.{toZ-ofZ}
-use Rattle.whole.specs.Fold.{sum, dirs}
-use Rattle.whole.specs.Sums.{sum-cong}
-use Rattle.whole.specs.Tab.{getD-tab, upto-all}
-use Rattle.whole.specs.Ring.{ring-by, quotes}
-use Rattle.whole.specs.Bounds.{abs-sub, abs-add}
-use Rattle.whole.specs.Machine.{Within, machine, known, same, v32, v64, within-by, does-fit, reads-as}
-use Rattle.lattice.specs.Lattice.{dot, d3q19}
-use Rattle.lattice.specs.Body.{partsOf, Bounded, vec, relaxedDir, collidedPart}
-use Rattle.lattice.proofs.Pairs.{off-rest, off-one, off-dirs, off-pair, both-stored}
+use Rattle.whole.specs.Machine.{Within, known, v32, within-by, does-fit, reads-as}
+use Rattle.lattice.specs.Lattice.{d3q19}
+use Rattle.lattice.specs.Body.{partsOf, vec, relaxedDir}
+use Rattle.lattice.proofs.Ranges.{relaxation-in}
 use Rattle.lattice.proofs.Reading.{reading, inside}
-use Rattle.lattice.proofs.Table.{weight-in, weight-opposite, dot-opposite, dot-in}
-use Rattle.lattice.proofs.Tame.{widest}
-use Rattle.collision.specs.declared.collide.Common.{Common}
-use Rattle.collision.specs.Post.{Ready, grown, Paired}
-use Rattle.collision.proofs.Collision.{ready, formed, turned, formed-is}
+use Rattle.lattice.proofs.Tame.{steady-tame}
+use Rattle.collision.specs.Estimate.{landed, EndsNear}
+use Rattle.collision.proofs.Landed.{slack, landed-part}
+use Rattle.collision.proofs.Turns.{Done, begun, more, all-done}
 use Rattle.collision.proofs.collide.collided.Statement.{statement}
 use Rattle.collision.proofs.collide.collided.Tie as tie
 
--- below i each part is the code's form of the definition; r is what they leave of the density r₀
-record Done (f d : List ℤ) (k : Common) (r₀ : ℕ) (a : List ℤ) (r i : ℕ) : Type 0 where
-  len : length a ≡ 19
-  most : i ≤ 19
-  odd : i % 2 ≡ 1
-  parts : (j : ℕ) → 0 < j → j < i → (getD a j (pos 0) ≡ formed f d k j) × Within (getD a j (pos 0)) 33554432
-  left : toZ w32 r ≡ toZ w32 r₀ -ℤ sum i (off-rest (formed f d k))
-  near : natAbs (toZ w32 r) ≤ 1179648 + i * 33554432
+-- where part j lands, by the ends e
+abbrev aimed : List ℕ → List ℤ → ℕ → ℕ → ℤ
+aimed e f c j = landed (getD e (j - 1) 0) (partsOf f j) (toZ w32 c)
 
 abbrev Inv-loop : tie.InvT-loop
-Inv-loop p f k d a₀ r₀ i₀ a r i = Done f d k r₀ a r i
+Inv-loop v p f e c a₀ r₀ i₀ a r i = Done (aimed e f c) (toZ w32 r₀) a (toZ w32 r) i
 
 abbrev μ-loop : tie.MeasureT-loop
-μ-loop p f k d a₀ r₀ i₀ a r i = 19 - i
+μ-loop v p f e c a₀ r₀ i₀ a r i = 19 - i
 
-common-of-requires : tie.Need-common-of-requires Inv-loop μ-loop
-common-of-requires c κs = (c .pre .1, rw (toZ-ofZ (c .fits .p)) (c .pre .2))
+ends-requires : tie.Need-ends-requires Inv-loop μ-loop
+ends-requires c κs = (c .pre .1, rw (toZ-ofZ (c .fits .p)) (c .pre .2))
 
-dots-requires : tie.Need-dots-requires Inv-loop μ-loop
-dots-requires c κs = let t = c .before .pre .1 in (widest (t .x), widest (t .y), widest (t .z))
+sub-c : tie.Need-sub-c Inv-loop μ-loop
+sub-c c = let p = relaxation-in (c .before .args .p) (c .before .pre .2) in does-fit (search reading depth 20) tt
+
+cast-c : tie.Need-cast-c Inv-loop μ-loop
+cast-c c = let p = relaxation-in (c .before .args .p) (c .before .pre .2) in does-fit (search reading depth 20) tt
 
 loop-holds : tie.Need-loop-holds Inv-loop μ-loop
 loop-holds c =
-    let s = c .before .before .before in
-    let v = s .args .v in
-    let h = s .pre .1 .rho in
-    let e : toZ w32 (ofZ w32 (v .rho)) ≡ v .rho = reads-as (v32 (inside h)) tt in
-    record {
-      len = refl;
-      most = omega arith;
-      odd = refl;
-      parts = λ j l m. absurd (omega arith);
-      left = sym (ap (λ (z : ℤ). toZ w32 (ofZ w32 (v .rho)) -ℤ z) (off-one _) ∙ +ℤ-idr (toZ w32 (ofZ w32 (v .rho))));
-      near = rw e (omega (arith, h .abs));
-    }
+    let s = c .before .before in
+    begun _ _ _ refl (within-by (v32 (inside (steady-tame (s .args .v) (s .pre .1) .rho))) tt)
 
-mul-relaxed-pair : tie.Need-mul-relaxed-pair Inv-loop μ-loop
-mul-relaxed-pair c = search needs
+sub-settled : tie.Need-sub-settled Inv-loop μ-loop
+sub-settled c = search needs
 
-array-copy-out-relaxed-pair : tie.Need-array-copy-out-relaxed-pair Inv-loop μ-loop
-array-copy-out-relaxed-pair c = search needs
+mul-settled : tie.Need-mul-settled Inv-loop μ-loop
+mul-settled c = search needs
 
-add-relaxed-pair : tie.Need-add-relaxed-pair Inv-loop μ-loop
-add-relaxed-pair c = search needs
+array-read-settled : tie.Need-array-read-settled Inv-loop μ-loop
+array-read-settled c = search needs
 
-mul-relaxed-pair-2 : tie.Need-mul-relaxed-pair-2 Inv-loop μ-loop
-mul-relaxed-pair-2 c = search needs
+mul-settled-2 : tie.Need-mul-settled-2 Inv-loop μ-loop
+mul-settled-2 c = search needs
 
-array-copy-out-relaxed-pair-2 : tie.Need-array-copy-out-relaxed-pair-2 Inv-loop μ-loop
-array-copy-out-relaxed-pair-2 c = search needs
+array-copy-out-settled : tie.Need-array-copy-out-settled Inv-loop μ-loop
+array-copy-out-settled c = search needs
 
-weight-of-requires : tie.Need-weight-of-requires Inv-loop μ-loop
-weight-of-requires c κs = search needs
+-- the ends, and p
+ends-are : (c : tie.After-ends Inv-loop μ-loop) → EndsNear (c .before .args .v) (c .before .args .p) (c .ends .result)
+ends-are c = rw (toZ-ofZ (c .before .fits .p)) at (c .ends .ensures)
 
-mul-relaxed-pair-3 : tie.Need-mul-relaxed-pair-3 Inv-loop μ-loop
-mul-relaxed-pair-3 c = search needs
+-- 1024 − p
+slack-in : (s : tie.Start Inv-loop μ-loop) → Within (toZ w32 (ofZ w32 (toZ w64 (ofZ w64 (pos 1024 -ℤ toZ w64 (ofZ w64 (s .args .p))))))) 1023
+slack-in s =
+    let p = relaxation-in (s .args .p) (s .pre .2) in
+    subst (λ (z : ℤ). Within z 1023) (sym (reads-as (search reading depth 20) tt)) (slack (s .args .p) (s .pre .2))
 
-array-copy-out-relaxed-pair-3 : tie.Need-array-copy-out-relaxed-pair-3 Inv-loop μ-loop
-array-copy-out-relaxed-pair-3 c = search needs
-
--- what the eighteen share is in range
-shared-ready : (c : tie.After-common-of Inv-loop μ-loop) → Ready (c .common-of .result)
-shared-ready c =
-    let s = c .before in
-    ready (s .args .v) _ (c .common-of .result) (s .pre .1) (rw (toZ-ofZ (s .fits .p)) (s .pre .2)) (c .common-of .ensures)
-
--- the array's entries are the table's e·j, and in range
-dot-is : (c : tie.After-dots Inv-loop μ-loop) (i : ℕ) → i < 19 → getD (c .dots .result) i (pos 0) ≡ dot (d3q19 .e i) (vec (c .before .before .args .v))
-dot-is c i h = ap (λ (l : List ℤ). getD l i (pos 0)) (c .dots .ensures) ∙ getD-tab 19 (λ k. dot (d3q19 .e k) (vec (c .before .before .args .v))) (pos 0) i h
-
-dot-bound : (c : tie.After-dots Inv-loop μ-loop) (i : ℕ) → i < 19 → Within (getD (c .dots .result) i (pos 0)) 1179648
-dot-bound c i h =
-    let t = c .before .before .pre .1 in
-    subst (λ (z : ℤ). Within z 1179648) (sym (dot-is c i h)) (dot-in i h (vec (c .before .before .args .v)) (t .x) (t .y) (t .z))
-
-relaxed-pair-requires : tie.Need-relaxed-pair-requires Inv-loop μ-loop
-relaxed-pair-requires c κs =
-    let s = c .before .before .before .before .before .before .before .before .before in
-    let i = c .before .before .before .before .before .loop .i in
+settled-requires : tie.Need-settled-requires Inv-loop μ-loop
+settled-requires c κs =
+    let t = c .before .before .before .before in
+    let s = t .before in
+    let i = c .before .before .loop .i in
+    let p = relaxation-in (s .args .p) (s .pre .2) in
     let hf = s .pre .0 .at i (omega arith) (omega arith) in
-    let hg = s .pre .0 .at (i + 1) (omega arith) (omega arith) in
-    let hd = dot-bound (c .before .before .before .before .before .before .before) i (omega arith) in
-    let w = same (c .before .weight-of .ensures) (inside (weight-in i (omega arith) (omega arith))) in (
-      shared-ready (c .before .before .before .before .before .before .before .before),
-      within-by (search reading depth 20) tt,
-      within-by (search reading depth 20) tt,
-      within-by (search machine depth 20) tt,
-      within-by (search reading depth 20) tt,
-    )
+    (ends-are t .at (i - 1) (omega arith) .most, within-by (search reading depth 20) tt, slack-in s)
+
+mul-settled-3 : tie.Need-mul-settled-3 Inv-loop μ-loop
+mul-settled-3 c = search needs
+
+array-read-settled-2 : tie.Need-array-read-settled-2 Inv-loop μ-loop
+array-read-settled-2 c = search needs
+
+add-settled : tie.Need-add-settled Inv-loop μ-loop
+add-settled c = search needs
+
+mul-settled-4 : tie.Need-mul-settled-4 Inv-loop μ-loop
+mul-settled-4 c = search needs
+
+array-copy-out-settled-2 : tie.Need-array-copy-out-settled-2 Inv-loop μ-loop
+array-copy-out-settled-2 c = search needs
+
+settled-requires-2 : tie.Need-settled-requires-2 Inv-loop μ-loop
+settled-requires-2 c κs =
+    let t = c .before .before .before .before .before .before in
+    let s = t .before in
+    let i = c .before .before .before .before .loop .i in
+    let p = relaxation-in (s .args .p) (s .pre .2) in
+    let hf = s .pre .0 .at (i + 1) (omega arith) (omega arith) in
+    (ends-are t .at i (omega arith) .most, within-by (search reading depth 20) tt, slack-in s)
 
 mul-a : tie.Need-mul-a Inv-loop μ-loop
 mul-a c = search needs
@@ -135,17 +121,15 @@ array-set-from-a-2 c = search needs
 
 add-r : tie.Need-add-r Inv-loop μ-loop
 add-r c =
-    let q = c .before .before .relaxed-pair .ensures in
-    let x = q .a-in in
-    let y = q .b-in in
+    let x = c .before .before .settled .ensures .1 in
+    let y = c .settled2 .ensures .1 in
     does-fit (search reading depth 20) tt
 
 sub-r : tie.Need-sub-r Inv-loop μ-loop
 sub-r c =
-    let q = c .before .before .relaxed-pair .ensures in
-    let x = q .a-in in
-    let y = q .b-in in
-    let r = known (toZ w32 (c .before .before .before .before .before .before .before .before .loop .r)) 671088640 (omega arith) in
+    let x = c .before .before .settled .ensures .1 in
+    let y = c .settled2 .ensures .1 in
+    let r = known (toZ w32 (c .before .before .before .before .before .loop .r)) 671088640 (omega arith) in
     does-fit (search reading depth 20) tt
 
 add-i : tie.Need-add-i Inv-loop μ-loop
@@ -154,130 +138,92 @@ add-i c = search needs
 loop-less : tie.Need-loop-less Inv-loop μ-loop
 loop-less c = search needs
 
--- the pair that a turn works out, in the code's forms
-module _ (c : tie.After-relaxed-pair Inv-loop μ-loop) where
+-- the pair that a turn works out
+module _ (c : tie.After-settled2 Inv-loop μ-loop) where
+  abbrev start : tie.Start Inv-loop μ-loop
+  start = c .before .before .before .before .before .before .before .before
+
   abbrev at : ℕ
-  at = c .before .before .before .before .before .before .loop .i
+  at = c .before .before .before .before .before .loop .i
 
-  abbrev own : List ℤ
-  own = c .before .before .before .before .before .before .before .before .before .before .args .t1
+  abbrev want : ℕ → ℤ
+  want = aimed (c .before .before .before .before .before .before .before .ends .result) (start .args .t1) (ofZ w32 (toZ w64 (ofZ w64 (pos 1024 -ℤ toZ w64 (ofZ w64 (start .args .p))))))
 
-  abbrev dot-list : List ℤ
-  dot-list = c .before .before .before .before .before .before .before .before .dots .result
+  first : c .before .before .settled .result ≡ want at
+  first =
+      let i = c .before .before .before .before .before .loop .i in
+      let s = start in
+      let e : toZ w32 (ofZ w32 (partsOf (s .args .t1) at)) ≡ partsOf (s .args .t1) at = reads-as (v32 (inside (s .pre .0 .at i (omega arith) (omega arith)))) tt in
+      c .before .before .settled .ensures .0
+      ∙ ap (λ (z : ℤ). landed (getD (c .before .before .before .before .before .before .before .ends .result) (at - 1) 0) z (toZ w32 (ofZ w32 (toZ w64 (ofZ w64 (pos 1024 -ℤ toZ w64 (ofZ w64 (s .args .p)))))))) e
 
-  abbrev shared : Common
-  shared = c .before .before .before .before .before .before .before .before .before .common-of .result
-
-  paired : Paired (partsOf own at) (partsOf own (at + 1)) (pos (d3q19 .weight at)) (getD dot-list at (pos 0)) shared (c .relaxed-pair .result)
-  paired =
-      let s = c .before .before .before .before .before .before .before .before .before .before in
-      let i = c .before .before .before .before .before .before .loop .i in
-      let ef : toZ w32 (ofZ w32 (partsOf own at)) ≡ partsOf own at = reads-as (v32 (inside (s .pre .0 .at i (omega arith) (omega arith)))) tt in
-      let eg : toZ w32 (ofZ w32 (partsOf own (at + 1))) ≡ partsOf own (at + 1) = reads-as (v32 (inside (s .pre .0 .at (i + 1) (omega arith) (omega arith)))) tt in
-      let w = c .before .before .weight-of .ensures in
-      let ew : toZ w64 (ofZ w64 (c .before .before .weight-of .result)) ≡ pos (d3q19 .weight at) = reads-as (v64 (same w (inside (weight-in i (omega arith) (omega arith))))) tt in
-      let ed : toZ w32 (ofZ w32 (getD dot-list at (pos 0))) ≡ getD dot-list at (pos 0) = reads-as (v32 (inside (dot-bound (c .before .before .before .before .before .before .before .before) i (omega arith)))) tt in
-      rw (ef, eg, ew, ed) at (c .relaxed-pair .ensures)
-
-  first : c .relaxed-pair .result .a ≡ formed own dot-list shared at
-  first = paired .a
-
-  second : c .relaxed-pair .result .b ≡ formed own dot-list shared (at + 1)
+  second : c .settled2 .result ≡ want (at + 1)
   second =
-      let i = c .before .before .before .before .before .before .loop .i in
-      let d = c .before .before .before .before .before .before .before .before in
-      let k = shared in
-      paired .b
-      ∙ turned (partsOf own (at + 1)) (pos (d3q19 .weight at)) (k .base) (k .six) (getD dot-list at (pos 0)) k
-      ∙ ap₂ (λ (n : ℕ) (y : ℤ). grown (partsOf own (at + 1)) (pos n) (k .base +ℤ pos 9 *ℤ y *ℤ y -ℤ k .six *ℤ y) k)
-      (sym (weight-opposite i (omega arith) (omega arith)))
-      (sym (dot-is d (i + 1) (omega arith) ∙ dot-opposite i (omega arith) (omega arith) _ ∙ ap negℤ (sym (dot-is d i (omega arith)))))
-
-taken : (r s x y : ℤ) → r -ℤ s -ℤ (x +ℤ y) ≡ r -ℤ (s +ℤ (x +ℤ y))
-taken r s x y = ring-by (r ∷ s ∷ x ∷ y ∷ []) (search quotes depth 20) (search quotes depth 20) tt
+      let i = c .before .before .before .before .before .loop .i in
+      let s = start in
+      let e : toZ w32 (ofZ w32 (partsOf (s .args .t1) (at + 1))) ≡ partsOf (s .args .t1) (at + 1) = reads-as (v32 (inside (s .pre .0 .at (i + 1) (omega arith) (omega arith)))) tt in
+      let z : i ≡ i + 1 - 1 = omega arith in
+      c .settled2 .ensures .0
+      ∙ ap₂ (λ (n : ℕ) (y : ℤ). landed (getD (c .before .before .before .before .before .before .before .ends .result) n 0) y (toZ w32 (ofZ w32 (toZ w64 (ofZ w64 (pos 1024 -ℤ toZ w64 (ofZ w64 (s .args .p)))))))) z e
 
 loop-again : tie.Need-loop-again Inv-loop μ-loop
 loop-again c =
-    let q = c .before .before in
-    let n = q .relaxed-pair .result in
-    let l = c .before .before .before .before .before .before .before .before .loop in
-    let hx = q .relaxed-pair .ensures .a-in in
-    let hy = q .relaxed-pair .ensures .b-in in
+    let l = c .before .before .before .before .before .loop in
+    let m = c .before .before .settled .result in
+    let n = c .settled2 .result in
+    let hx = c .before .before .settled .ensures .1 in
+    let hy = c .settled2 .ensures .1 in
     let r = known (toZ w32 (l .r)) 671088640 (omega arith) in
-    let ex : toZ w32 (ofZ w32 (n .a)) ≡ n .a = reads-as (v32 (inside hx)) tt in
-    let ey : toZ w32 (ofZ w32 (n .b)) ≡ n .b = reads-as (v32 (inside hy)) tt in
-    let er : toZ w32 (ofZ w32 (toZ w32 (l .r) -ℤ toZ w32 (ofZ w32 (toZ w32 (ofZ w32 (n .a)) +ℤ toZ w32 (ofZ w32 (n .b)))))) ≡ toZ w32 (l .r) -ℤ (n .a +ℤ n .b) =
+    let ex : toZ w32 (ofZ w32 m) ≡ m = reads-as (v32 (inside hx)) tt in
+    let ey : toZ w32 (ofZ w32 n) ≡ n = reads-as (v32 (inside hy)) tt in
+    let er : toZ w32 (ofZ w32 (toZ w32 (l .r) -ℤ toZ w32 (ofZ w32 (toZ w32 (ofZ w32 m) +ℤ toZ w32 (ofZ w32 n))))) ≡ toZ w32 (l .r) -ℤ (m +ℤ n) =
     reads-as (search reading depth 20) tt in
-    let F = formed (own q) (dot-list q) (shared q) in
-    let ρ = toZ w32 (ofZ w32 (c .before .before .before .before .before .before .before .before .before .before .before .before .args .v .rho)) in
-    record {
-      len = simp length-set (l .inv .len);
-      most = omega arith;
-      odd = omega arith;
-      parts =
-          both-stored (λ (j : ℕ) (z : ℤ). (z ≡ F j) × Within z 33554432) (l .a) (l .i) _ _ (omega arith) (l .inv .parts)
-          (ex ∙ first q, subst (λ (z : ℤ). Within z 33554432) (sym ex) hx)
-          (ey ∙ second q, subst (λ (z : ℤ). Within z 33554432) (sym ey) hy);
-      left =
-          er ∙ ap₂ _-ℤ_ (l .inv .left) (ap₂ _+ℤ_ (first q) (second q)) ∙ taken ρ (sum (l .i) (off-rest F)) (F (l .i)) (F (l .i + 1))
-          ∙ ap (λ (z : ℤ). ρ -ℤ z) (sym (off-pair (l .i) F (omega arith)));
-      near = rw er (omega (arith, abs-sub (toZ w32 (l .r)) (n .a +ℤ n .b), abs-add (n .a) (n .b), hx .abs, hy .abs, l .inv .near));
-    }
+    rw (er, ex, ey) (more (want c) _ m n (l .inv) (omega arith) (first c) (second c) hx hy)
+
+highest-requires : tie.Need-highest-requires Inv-loop μ-loop
+highest-requires c κs = search needs
+
+by-divider-requires : tie.Need-by-divider-requires Inv-loop μ-loop
+by-divider-requires c κs =
+    let s = c .before .before .before .before .before .before in
+    (s .pre .0, steady-tame (s .args .v) (s .pre .1), rw (toZ-ofZ (s .fits .p)) (s .pre .2))
+
+returns : tie.Need-returns Inv-loop μ-loop
+returns c =
+    let s = c .before .before .before .before .before .before .before in
+    rw (toZ-ofZ (s .fits .p)) at (c .by-divider .ensures)
 
 array-set-from-a-3 : tie.Need-array-set-from-a-3 Inv-loop μ-loop
 array-set-from-a-3 c = search needs
 
--- after the loop: what each part is, by the definition
-module _ (c : tie.After-loop Inv-loop μ-loop) where
-  abbrev start : tie.Start Inv-loop μ-loop
-  start = c .before .before .before .before .before
+-- where the low words tell: what each part is, by the definition
+module _ (c : tie.Else1 Inv-loop μ-loop) where
+  abbrev first-of : tie.Start Inv-loop μ-loop
+  first-of = c .before .before .before .before .before .before
 
   abbrev forms : ℕ → ℤ
-  forms = formed (start .args .t1) (c .before .before .before .dots .result) (c .before .before .before .before .common-of .result)
+  forms = aimed (c .before .before .before .before .before .ends .result) (first-of .args .t1) (ofZ w32 (toZ w64 (ofZ w64 (pos 1024 -ℤ toZ w64 (ofZ w64 (first-of .args .p))))))
 
   abbrev wanted : ℕ → ℤ
-  wanted = relaxedDir d3q19 (start .args .v .rho) (vec (start .args .v)) (start .args .p) (partsOf (start .args .t1))
+  wanted = relaxedDir d3q19 (first-of .args .v .rho) (vec (first-of .args .v)) (first-of .args .p) (partsOf (first-of .args .t1))
 
-  form-is : (j : ℕ) → j < 19 → forms j ≡ wanted j
-  form-is j h =
-      let s = start in
-      let k = c .before .before .before .before .common-of .result in
-      let e = rw (toZ-ofZ (s .fits .p)) at (c .before .before .before .before .common-of .ensures) in
-      formed-is (s .args .v) (s .args .p) k e (s .args .t1) (c .before .before .before .dots .result) j (dot-is (c .before .before .before) j h)
+  share-is : toZ w32 (ofZ w32 (toZ w64 (ofZ w64 (pos 1024 -ℤ toZ w64 (ofZ w64 (first-of .args .p)))))) ≡ pos 1024 -ℤ first-of .args .p
+  share-is = let p = relaxation-in (first-of .args .p) (first-of .pre .2) in reads-as (search reading depth 20) tt
 
-  rest-is : toZ w32 (c .before .loop .r) ≡ start .args .v .rho -ℤ dirs 18 wanted
-  rest-is =
-      let s = start in
-      let l = c .before .loop in
-      l .inv .left
-      ∙ ap₂ _-ℤ_ (reads-as (v32 (inside (s .pre .1 .rho))) tt)
-      (ap (λ (n : ℕ). sum n (off-rest forms)) (omega arith) ∙ off-dirs 18 forms ∙ sum-cong 18 (λ a. forms (suc a)) (λ a. wanted (suc a)) (λ a h. form-is (suc a) (omega arith)))
+  form-is : (k : ℕ) → k < 18 → forms (suc k) ≡ wanted (suc k)
+  form-is k h =
+      let s = first-of in
+      let t = c .before .before .before .before .before in
+      let z : suc k - 1 ≡ k = omega arith in
+      let low : getD (t .ends .result) k 0 % 4294967296 + 524288 < 4294967296 = omega (arith, c .before .highest .ensures k h) in
+      ap₂ (λ (n : ℕ) (y : ℤ). landed (getD (t .ends .result) n 0) (partsOf (s .args .t1) (suc k)) y) z share-is
+      ∙ landed-part d3q19 (s .args .v) (s .args .p) (partsOf (s .args .t1)) (suc k) (getD (t .ends .result) k 0) 524288 (steady-tame (s .args .v) (s .pre .1) .low) (ends-are t .at k h) low
 
-  part-is : (j : ℕ) → j < 19
-      → getD (set (c .before .loop .a) 0 (toZ w32 (c .before .loop .r))) j (pos 0)
-      ≡ collidedPart d3q19 (start .args .v .rho) (vec (start .args .v)) (start .args .p) (partsOf (start .args .t1)) j
-  unfolding collidedPart d3q19
-  part-is zero h = getD-set-same (c .before .loop .a) 0 (toZ w32 (c .before .loop .r)) (pos 0) (omega arith) ∙ rest-is
-  part-is (suc j) h =
-      let l = c .before .loop in
-      getD-set-other (l .a) 0 (suc j) (toZ w32 (l .r)) (pos 0) (λ e. omega arith) ∙ l .inv .parts (suc j) (omega arith) (omega arith) .0 ∙ form-is (suc j) h
-
-  all-in : Bounded (set (c .before .loop .a) 0 (toZ w32 (c .before .loop .r))) 1073741824 33554432
-  all-in =
-      let l = c .before .loop in
-      record {
-        rest =
-            subst (λ (z : ℤ). Within z 1073741824) (sym (getD-set-same (l .a) 0 (toZ w32 (l .r)) (pos 0) (omega arith)))
-            (record { abs = omega arith });
-        at = λ j h m.
-            subst (λ (z : ℤ). Within z 33554432) (sym (getD-set-other (l .a) 0 j (toZ w32 (l .r)) (pos 0) (λ e. omega arith)))
-            (l .inv .parts j h (omega arith) .1);
-      }
-
-returns : tie.Need-returns Inv-loop μ-loop
-returns c =
-    let l = c .before .loop in
-    (upto-all (pos 0) (collidedPart d3q19 _ _ _ _) (set (l .a) 0 (toZ w32 (l .r))) 19 (simp length-set (l .inv .len)) (part-is c), all-in c)
+returns-2 : tie.Need-returns-2 Inv-loop μ-loop
+returns-2 c =
+    let s = c .before .before .before .before .before .before in
+    let e : toZ w32 (ofZ w32 (s .args .v .rho)) ≡ s .args .v .rho = reads-as (v32 (inside (steady-tame (s .args .v) (s .pre .1) .rho))) tt in
+    all-done (forms c) (s .args .v .rho) (vec (s .args .v)) (s .args .p) (partsOf (s .args .t1)) (form-is c) (rw e at (c .before .before .before .loop .inv)) (omega arith)
 
 pub collided-spec : {M : Type 1} → statement M
 collided-spec =
@@ -285,18 +231,22 @@ collided-spec =
     (tie.spec
     Inv-loop
     μ-loop
-    common-of-requires
-    dots-requires
+    ends-requires
+    sub-c
+    cast-c
     loop-holds
-    mul-relaxed-pair
-    array-copy-out-relaxed-pair
-    add-relaxed-pair
-    mul-relaxed-pair-2
-    array-copy-out-relaxed-pair-2
-    weight-of-requires
-    mul-relaxed-pair-3
-    array-copy-out-relaxed-pair-3
-    relaxed-pair-requires
+    sub-settled
+    mul-settled
+    array-read-settled
+    mul-settled-2
+    array-copy-out-settled
+    settled-requires
+    mul-settled-3
+    array-read-settled-2
+    add-settled
+    mul-settled-4
+    array-copy-out-settled-2
+    settled-requires-2
     mul-a
     array-set-from-a
     add-a
@@ -307,5 +257,8 @@ collided-spec =
     add-i
     loop-less
     loop-again
+    highest-requires
+    by-divider-requires
+    returns
     array-set-from-a-3
-    returns)
+    returns-2)

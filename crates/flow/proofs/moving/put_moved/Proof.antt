@@ -15,7 +15,6 @@ use Rattle.lattice.specs.Lattice.{d3q19}
 use Rattle.lattice.specs.Cell.{relaxationGood}
 use borrow.Author.Tests.{not-true, not-false}
 use Rattle.lattice.specs.Body.{partsOf, Bounded, vec, Tame, steadyFlow, collidedPart}
-use Rattle.lattice.proofs.Tame.{steady-tame}
 use Rattle.flow.proofs.Collisions.{loosened, gravity-of, relaxation-of, flow-rho, flow-x, flow-y, flow-z, pulled-x, pulled-y, pulled-z, put-refused, put-accepted}
 use borrow.Author.Needs.{needs}
 use Rattle.flow.proofs.moving.put_moved.Statement.{statement}
@@ -59,7 +58,7 @@ collided-requires : tie.Need-collided-requires
 collided-requires c κs =
     let s = c .before .before .before .before .before in (
       s .pre .0,
-      steady-tame _ (sym (c .before .before .steady .ensures) ∙ not-false _ (c .before .if1 .left)),
+      sym (c .before .before .steady .ensures) ∙ not-false _ (c .before .if1 .left),
       ap relaxationGood (relaxation c) ∙ relaxation-of _ (s .pre .1),
     )
 
