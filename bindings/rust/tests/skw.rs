@@ -230,7 +230,16 @@ fn a_file_is_answered_as_standard_input_is() {
             if words[0] != "draw" {
                 assert_eq!(by_input.out, by_file.out, "{words:?}");
             }
+            let output = folder.path("output");
+            let into_file = fed(&[&quiet[..], &["-o", &output]].concat(), &bytes);
+            assert_eq!((into_file.status, &into_file.out[..]), (by_input.status, &[][..]), "{words:?}");
+            // The record of a refused step is written too, what else is refused is not.
+            if !by_input.out.is_empty() {
+                assert_eq!(fs::read(&output).unwrap(), by_input.out, "{words:?}");
+                fs::remove_file(&output).unwrap();
+            }
             assert_eq!(fs::read(&file).unwrap(), bytes);
+            assert_eq!(folder.names(), ["record"]);
         }
     }
 }
@@ -245,10 +254,7 @@ fn damaged_records_are_refused_by_every_command() {
         numbers.push(refusal.number);
         let output = folder.path("output");
         for words in CALLS {
-            let mut words = words.to_vec();
-            if ["step", "run", "write", "draw"].contains(&words[0]) {
-                words.extend(["-o", &output]);
-            }
+            let words = [words, &["-o", &output]].concat();
             let called = fed(&words, &bytes);
             assert_eq!((called.status, &called.out[..]), (Some(1), &[][..]), "{words:?} {}", called.err);
             let told =
