@@ -8,6 +8,7 @@ pub mod kinds;
 pub mod layer;
 pub mod lengths;
 pub mod neighbours;
+pub mod normal;
 pub mod seeking;
 
 // The sides of a grid, in cells.
