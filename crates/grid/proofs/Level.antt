@@ -4,7 +4,6 @@ use mathlib.Core.List.{[], _∷_}
 use Prim.Native.Nat.{ℕ, zero, suc}
 use lib.IntN.{ℤ, pos, _-ℤ_}
 use Rattle.whole.specs.Ring.{ring-by, quotes}
-use Rattle.lattice.specs.Lattice.{V3}
 use Rattle.grid.specs.State.{Scene, byFlag}
 use Rattle.grid.specs.Step.{flagAt, near, seen, normal}
 

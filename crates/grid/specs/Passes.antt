@@ -1,5 +1,5 @@
--- What the passes of the step and of the check compute on the way, in terms of the definitions: offsets of neighbours, the coordinates of a walk,
--- marks. Assumes nothing.
+-- What the passes of the step and of the check compute on the way, in terms of the definitions: offsets of neighbours, the normal, the
+-- coordinates of a walk, marks. Assumes nothing.
 use Prim.Native.Nat.{ℕ, _+_, _<_, _≤_}
 use mathlib.Core.Path.{_≡_}
 use mathlib.Core.Bool.{Bool, true, false, _&&_, _||_, not, cond}
