@@ -1,4 +1,4 @@
-// Layer 2, the grid: states and the check. Knows the promises of lattice.
+// Layer 2, the grid: states, the check, the normal. Knows the promises of lattice.
 pub mod cells;
 pub mod checking;
 pub mod copying;
