@@ -21,8 +21,7 @@ use Rattle.lattice.specs.Lattice.{V3, dot, d3q19}
 use Rattle.lattice.specs.Cell.{positive, isPositive}
 use Rattle.lattice.specs.Body.{partsOf, Weights}
 use Rattle.lattice.proofs.Paired.{paired19}
-use Rattle.grid.specs.Passes.{seenAt, normalAt}
-use Rattle.grid.proofs.Slopes.{seen-in}
+use Rattle.grid.specs.Passes.{normalAt}
 use Rattle.excess.specs.Gifts.{back, leaningAt, targetAt, leanWeightAt, evenAt, weightAt, ofDir, Filled}
 use Rattle.excess.proofs.Portions.{weights-total, term-le}
 
@@ -62,12 +61,9 @@ pub record Leaning (n : V3) : Type 0 where
   pub z : Within (n .z) 131072
 
 module _ (flags fills off : List ℕ) (k : ℕ) (f : Filled fills) where
-  seen-low : (b : ℕ) → seenAt flags fills (getD fills (k + getD off 0 0) 0) b ≤ 65536
-  seen-low b = seen-in flags fills (getD fills (k + getD off 0 0) 0) b (f b) (f _)
-
   pub normal-in : Leaning (normalAt flags fills off k)
   unfolding normalAt
-  normal-in = record { x = component _ _ (seen-low _) (seen-low _); y = component _ _ (seen-low _) (seen-low _); z = component _ _ (seen-low _) (seen-low _) }
+  normal-in = record { x = component _ _ (f _) (f _); y = component _ _ (f _) (f _); z = component _ _ (f _) (f _) }
 
   pub leaning-in : (m : ℕ) → Leaning (leaningAt flags fills off k m)
   unfolding leaningAt

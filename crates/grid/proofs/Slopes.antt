@@ -1,4 +1,4 @@
--- What a cell sees of the fills around it: by cases of the flag, within its bound, and as a signed number. Assumes nothing.
+-- Whose fill counts for a cell, by cases of the flag; and a fill as a signed number. Assumes nothing.
 use mathlib.Core.Path.{_≡_, refl, subst}
 use mathlib.Core.List.{List}
 use Prim.Native.Nat.{ℕ, zero, suc, _+_, _≤_, _<_, _^_}
@@ -17,43 +17,43 @@ use Rattle.grid.specs.Passes.{seenAt, Sloping}
 use Rattle.grid.proofs.Lists.{getD-there}
 
 -- ---- by cases of a flag
-wall-is : (f x own : ℕ) → 2 < f → own ≡ byFlag f x x x own
-wall-is zero x own h = absurd (omega arith)
-wall-is (suc zero) x own h = absurd (omega arith)
-wall-is (suc (suc zero)) x own h = absurd (omega arith)
-wall-is (suc (suc (suc n))) x own h = refl
+wall-is : (f b c : ℕ) → 2 < f → c ≡ byFlag f b b b c
+wall-is zero b c h = absurd (omega arith)
+wall-is (suc zero) b c h = absurd (omega arith)
+wall-is (suc (suc zero)) b c h = absurd (omega arith)
+wall-is (suc (suc (suc n))) b c h = refl
 
-other-is : (f x own : ℕ) → f ≤ 2 → x ≡ byFlag f x x x own
-other-is zero x own h = refl
-other-is (suc zero) x own h = refl
-other-is (suc (suc zero)) x own h = refl
-other-is (suc (suc (suc n))) x own h = absurd (omega arith)
+other-is : (f b c : ℕ) → f ≤ 2 → b ≡ byFlag f b b b c
+other-is zero b c h = refl
+other-is (suc zero) b c h = refl
+other-is (suc (suc zero)) b c h = refl
+other-is (suc (suc (suc n))) b c h = absurd (omega arith)
 
-either-in : (f x own k : ℕ) → x ≤ k → own ≤ k → byFlag f x x x own ≤ k
-either-in zero x own k h l = h
-either-in (suc zero) x own k h l = h
-either-in (suc (suc zero)) x own k h l = h
-either-in (suc (suc (suc n))) x own k h l = l
+either-in : (f b c n : ℕ) → b < n → c < n → byFlag f b b b c < n
+either-in zero b c n h l = h
+either-in (suc zero) b c n h l = h
+either-in (suc (suc zero)) b c n h l = h
+either-in (suc (suc (suc m))) b c n h l = l
 
 -- ---- of the flag as the code reads it
-module _ (flags fills : List ℕ) (own b : ℕ) where
-  pub seen-wall : b < length flags → 2 < getD flags b 0 → own ≡ seenAt flags fills own b
+module _ (flags : List ℕ) (c b : ℕ) (h : b < length flags) where
+  pub seen-wall : 2 < getD flags b 0 → c ≡ seenAt flags c b
   unfolding seenAt
-  seen-wall h e = wall-is (getD flags b 3) (getD fills b 0) own (subst (λ (f : ℕ). 2 < f) (getD-there flags b 0 3 h) e)
+  seen-wall e = wall-is (getD flags b 3) b c (subst (λ (f : ℕ). 2 < f) (getD-there flags b 0 3 h) e)
 
-  pub seen-other : b < length flags → getD flags b 0 ≤ 2 → getD fills b 0 ≡ seenAt flags fills own b
+  pub seen-other : getD flags b 0 ≤ 2 → b ≡ seenAt flags c b
   unfolding seenAt
-  seen-other h e = other-is (getD flags b 3) (getD fills b 0) own (subst (λ (f : ℕ). f ≤ 2) (getD-there flags b 0 3 h) e)
+  seen-other e = other-is (getD flags b 3) b c (subst (λ (f : ℕ). f ≤ 2) (getD-there flags b 0 3 h) e)
 
-  pub seen-in : getD fills b 0 ≤ 65536 → own ≤ 65536 → seenAt flags fills own b ≤ 65536
+  pub seen-in : c < length flags → seenAt flags c b < length flags
   unfolding seenAt
-  seen-in h l = either-in (getD flags b 3) (getD fills b 0) own 65536 h l
+  seen-in l = either-in (getD flags b 3) b c (length flags) h l
 
 -- what `fall` asks of the neighbours in directions i and j
 pub falls : {flags fills off : List ℕ} {k : ℕ} → Sloping flags fills off k → (i j : ℕ) → i < 19 → j < 19
-    → (k + getD off i 0 < length flags) × (k + getD off j 0 < length flags) × (length fills ≡ length flags) × (getD fills (k + getD off 0 0) 0 ≤ 65536)
-    × (getD fills (k + getD off i 0) 0 ≤ 65536) × (getD fills (k + getD off j 0) 0 ≤ 65536)
-falls s i j h l = (s .reach i h, s .reach j l, s .count, s .low _ (s .reach 0 (omega arith)), s .low _ (s .reach i h), s .low _ (s .reach j l))
+    → (k + getD off 0 0 < length flags) × (k + getD off i 0 < length flags) × (k + getD off j 0 < length flags) × (length fills ≡ length flags)
+    × ((c : ℕ) → c < length flags → getD fills c 0 ≤ 65536)
+falls s i j h l = (s .reach 0 (omega arith), s .reach i h, s .reach j l, s .count, s .low)
 
 -- ---- `n as i32`
 pub n32-is : (n k : ℕ) → n ≤ k → T (ltb k (2 ^ 31)) → toZ w32 n ≡ pos n

@@ -34,13 +34,13 @@ pub record Reach (bytes off : List ℕ) (k : ℕ) : Type 0 where
 
 -- ---- the normal of the cell c with k = c − low, whose own place is k + offset 0
 
--- the fill that a cell of fill own sees at b: a wall counts with own
-unfoldable pub seenAt : List ℕ → List ℕ → ℕ → ℕ → ℕ
-seenAt flags fills own b = byFlag (getD flags b 3) (getD fills b 0) (getD fills b 0) (getD fills b 0) own
+-- the cell whose fill counts for c at b: for a wall c itself
+unfoldable pub seenAt : List ℕ → ℕ → ℕ → ℕ
+seenAt flags c b = byFlag (getD flags b 3) b b b c
 
--- what it sees in direction i
+-- the fill that counts in direction i
 abbrev pub seenBeside : List ℕ → List ℕ → List ℕ → ℕ → ℕ → ℤ
-seenBeside flags fills off k i = pos (seenAt flags fills (getD fills (k + getD off 0 0) 0) (k + getD off i 0))
+seenBeside flags fills off k i = pos (getD fills (seenAt flags (k + getD off 0 0) (k + getD off i 0)) 0)
 
 -- per axis: fill at minus one less fill at plus one
 unfoldable pub normalAt : List ℕ → List ℕ → List ℕ → ℕ → V3

@@ -78,15 +78,16 @@ lean-cases true e n = dot-turn e n
 lean-cases false e n = dot-back e n
 
 -- a wall is a wall in the new flags as in the old
-wall-cases : (f : ℕ) (bf fi em be : Bool) (x own : ℕ) → pos (byFlag (flagAfter f bf fi em be) x x x own) ≡ byFlag f (pos x) (pos x) (pos x) (pos own)
-wall-cases zero true fi em be x own = refl
-wall-cases zero false fi em be x own = refl
-wall-cases (suc zero) bf true em be x own = refl
-wall-cases (suc zero) bf false true be x own = refl
-wall-cases (suc zero) bf false false be x own = refl
-wall-cases (suc (suc zero)) bf fi em true x own = refl
-wall-cases (suc (suc zero)) bf fi em false x own = refl
-wall-cases (suc (suc (suc n))) bf fi em be x own = refl
+wall-cases : (f : ℕ) (bf fi em be : Bool) (fill : ℕ → ℕ) (d c : ℕ)
+    → pos (fill (byFlag (flagAfter f bf fi em be) d d d c)) ≡ byFlag f (pos (fill d)) (pos (fill d)) (pos (fill d)) (pos (fill c))
+wall-cases zero true fi em be fill d c = refl
+wall-cases zero false fi em be fill d c = refl
+wall-cases (suc zero) bf true em be fill d c = refl
+wall-cases (suc zero) bf false true be fill d c = refl
+wall-cases (suc zero) bf false false be fill d c = refl
+wall-cases (suc (suc zero)) bf fi em true fill d c = refl
+wall-cases (suc (suc zero)) bf fi em false fill d c = refl
+wall-cases (suc (suc (suc n))) bf fi em be fill d c = refl
 
 gathered-cases : (b : Bool) (m x y : ℤ) → (b ≡ true → x ≡ y) → cond b (m +ℤ x) m ≡ m +ℤ cond b y (pos 0)
 gathered-cases true m x y e = ap (λ (z : ℤ). m +ℤ z) (e refl)
@@ -157,9 +158,9 @@ module _ {s : Sides} {g : Settings} {a : Lent} {flags fills : List ℕ} {parts m
     unfolding seenAt seen newFlag sceneOf stateOf
     fill-seen i h =
         let d = gridOf s .near c i in
-        ap₂ (λ (j m : ℕ). pos (seenAt flags fills (getD fills m 0) j)) (place-is o c n i h) own-place
-        ∙ ap₂ (λ (f : ℕ) (l : List ℕ). pos (byFlag f (getD l d 0) (getD l d 0) (getD l d 0) (getD l c 0))) (flag-there d (near-low i h)) (w .fills-are)
-        ∙ wall-cases (flagAt S d) (besideFilled S d) (filled S d) (emptied S d) (besideEmptied S d) (getD (a .fills) d 0) (getD (a .fills) c 0)
+        ap₂ (λ (j m : ℕ). pos (getD fills (seenAt flags m j) 0)) (place-is o c n i h) own-place
+        ∙ ap₂ (λ (f : ℕ) (l : List ℕ). pos (getD l (byFlag f d d d c) 0)) (flag-there d (near-low i h)) (w .fills-are)
+        ∙ wall-cases (flagAt S d) (besideFilled S d) (filled S d) (emptied S d) (besideEmptied S d) (λ j. getD (a .fills) j 0) d c
 
     normal-is : normalAt flags fills off (c - low) ≡ normal S c
     unfolding normalAt normal sceneOf d3q19
