@@ -290,15 +290,9 @@ unsafe fn born(grid: &Grid, factors: Factors, old: &FloatStore, c: usize) -> Par
 
 /// Stage 6 of one converted cell; sign is 1 for a filled one, −1 for an emptied one.
 unsafe fn give(grid: &Grid, old: &FloatStore, new: &mut FloatStore, c: usize, excess: f32, sign: f32) {
-    let own = at(&old.fills, c);
     let fill = |i: usize| {
         let b = grid.near(c, i);
-        let there = at(&old.fills, b);
-        if at(&old.flags, b) == WALL {
-            own
-        } else {
-            there
-        }
+        at(&old.fills, if at(&old.flags, b) == WALL { c } else { b })
     };
     let dots = along([fill(2) - fill(1), fill(4) - fill(3), fill(6) - fill(5)]);
     let (mut targets, mut total) = (0.0, 0.0);
