@@ -17,8 +17,9 @@ use skwarzyna::{Depth, Grid, Refusal, Settings, Sides, Water, ONE};
 const SIDES: Sides = Sides::new(40, 20, 24);
 /// The edge of a cell in metres.
 const EDGE: f64 = 0.05;
-/// Water of little viscosity, and gravity of about two ten-thousandths of a cell per step and step.
-const SETTINGS: Settings = Settings { p: 1700, gx: 0, gy: 0, gz: -200 };
+/// So viscous that the thin film on the invert is not refused on the way, and gravity of about two ten-thousandths of a cell per step and
+/// step.
+const SETTINGS: Settings = Settings { p: 1500, gx: 0, gy: 0, gz: -200 };
 const STEPS: usize = 8000;
 /// Steps of one run, after which the line of progress is drawn anew; and of one line that stays.
 const STRIDE: usize = 100;
