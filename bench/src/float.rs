@@ -290,7 +290,10 @@ unsafe fn born(grid: &Grid, factors: Factors, old: &FloatStore, c: usize) -> Par
 
 /// Stage 6 of one converted cell; sign is 1 for a filled one, −1 for an emptied one.
 unsafe fn give(grid: &Grid, old: &FloatStore, new: &mut FloatStore, c: usize, excess: f32, sign: f32) {
-    let fill = |i: usize| at(&old.fills, grid.near(c, i));
+    let fill = |i: usize| {
+        let b = grid.near(c, i);
+        at(&old.fills, if at(&old.flags, b) == WALL { c } else { b })
+    };
     let dots = along([fill(2) - fill(1), fill(4) - fill(3), fill(6) - fill(5)]);
     let (mut targets, mut total) = (0.0, 0.0);
     let mut weights = [0.0; 19];

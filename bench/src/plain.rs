@@ -246,7 +246,11 @@ unsafe fn born(grid: &Grid, settings: Settings, old: &Set, c: usize) -> Parts {
 
 /// Stage 6 of one converted cell; sign is 1 for a filled one, −1 for an emptied one.
 unsafe fn give(grid: &Grid, old: &Set, new: &mut SetMut, c: usize, excess: i64, sign: i64) {
-    let fill = |i: usize| i64::from(at(old.fills, grid.near(c, i)));
+    // A wall counts with the cell's own fill.
+    let fill = |i: usize| {
+        let b = grid.near(c, i);
+        i64::from(at(old.fills, if at(old.flags, b) == WALL { c } else { b }))
+    };
     let dots = along([fill(2) - fill(1), fill(4) - fill(3), fill(6) - fill(5)]);
     let (mut targets, mut total) = (0, 0);
     let mut weights = [0; 19];

@@ -120,11 +120,15 @@ fn newborn(grid: &Grid, old: &State, flows: &[Option<Flow>], c: usize) -> Parts 
     equilibrium(rho, &j)
 }
 
-/// Stage 6: the normal at c, from the old fills; a wall's fill is 0.
-fn normal(grid: &Grid, old: &State, c: usize) -> Vector {
+/// Stage 6: the normal at c, from the old fills; a wall counts with the fill of c itself.
+pub fn normal(grid: &Grid, old: &State, c: usize) -> Vector {
+    let counted = |neighbour: usize| match old.cells[neighbour].flag {
+        WALL => old.cells[c].fill,
+        _ => old.cells[neighbour].fill,
+    };
     std::array::from_fn(|axis| {
         let plus = 2 * axis + 1;
-        old.cells[grid.near(c, plus + 1)].fill - old.cells[grid.near(c, plus)].fill
+        counted(grid.near(c, plus + 1)) - counted(grid.near(c, plus))
     })
 }
 

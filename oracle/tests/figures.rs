@@ -1,4 +1,4 @@
-// Every worked figure of document 01, the slips it names, and the figures of OPEN-POINTS.
+// Every worked figure of document 01 as amended, the slips it names, and the figures of OPEN-POINTS.
 
 use std::io::Write;
 use std::process::{Command, Stdio};
@@ -10,7 +10,7 @@ use oracle::record::read_within;
 use oracle::scenes::{case_t, parts_at, Scene};
 use oracle::settings::test_flow;
 use oracle::state::{Cell, Rule, State, EMPTY, FLUID, INTERFACE, WALL};
-use oracle::step::{draft, exchange, fills_up, next_state, pushed, runs_dry, shares, traded};
+use oracle::step::{draft, exchange, fills_up, next_state, normal, pushed, runs_dry, shares, traded};
 use oracle::text::gridstep;
 use oracle::{cell_point, check, depth, place, run, step, write, Settings, Store};
 
@@ -304,6 +304,42 @@ fn excess_follows_the_normal() {
         let next = next_state(&grid, &old, 1024, [0; 3]).unwrap();
         assert_eq!(next.cells[ROW].iter().map(|cell| cell.mass).collect::<Vec<_>>(), masses);
     }
+}
+
+#[test]
+fn a_wall_counts_with_the_cells_own_fill() {
+    let at = |rho: i128, mass: i128| {
+        let cell = Cell { flag: INTERFACE, parts: equilibrium(rho, &[0; 3]), mass, fill: 0 };
+        Cell { fill: cell.worked_out_fill(), ..cell }
+    };
+    let (grid, old) = row([at(600_000, 500_000), at(589_824, 300_000), at(580_000, 100_000)]);
+    assert_eq!(old.cells[ROW].iter().map(|cell| cell.fill).collect::<Vec<_>>(), [54_613, 33_333, 11_299]);
+    let normals: Vec<_> = ROW.map(|c| normal(&grid, &old, c)).collect();
+    assert_eq!(normals, [[21_280, 0, 0], [43_314, 0, 0], [22_034, 0, 0]]);
+
+    // A level pool does not slope, and an empty cell beside a wall counts 0 still.
+    let (grid, level) = row([at(589_824, 300_000); 3]);
+    assert_eq!(ROW.map(|c| normal(&grid, &level, c)).collect::<Vec<_>>(), [[0; 3]; 3]);
+    let (grid, ends) = row([at(589_824, 300_000), Cell::blank(EMPTY), Cell::blank(EMPTY)]);
+    assert_eq!(
+        ROW.map(|c| normal(&grid, &ends, c)).collect::<Vec<_>>(),
+        [[33_333, 0, 0], [33_333, 0, 0], [0; 3]]
+    );
+}
+
+#[test]
+fn excess_leaves_the_wall_alone() {
+    let grid = Grid::new([4, 4, 3]).unwrap();
+    let mut old = State { cells: vec![Cell::blank(WALL); grid.n], carry: 0 };
+    let pool = [(21, 591_424), (22, 147_456), (25, 442_368), (26, 294_912)];
+    for (c, mass) in pool {
+        old.cells[c] = resting(mass, 0);
+    }
+    assert_eq!(normal(&grid, &old, 21), [49_152, 16_384, 0]);
+    let next = next_state(&grid, &old, 1024, [0; 3]).unwrap();
+    assert_eq!((next.cells[21].flag, next.cells[21].mass), (FLUID, ONE));
+    let gifts: Vec<_> = pool[1..].iter().map(|&(c, mass)| next.cells[c].mass - mass).collect();
+    assert_eq!(gifts, [600, 200, 800]);
 }
 
 #[test]

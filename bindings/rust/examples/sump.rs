@@ -19,8 +19,9 @@ use skwarzyna::{Depth, Grid, Point, Refusal, Settings, Sides, Site, Water, ONE};
 const SIDES: Sides = Sides::new(40, 20, 24);
 /// Cells of 50 millimetres, from the survey's own origin.
 const SITE: Site = Site { edge: 50, origin: Point::new(0, 0, 0) };
-/// Water of little viscosity, and gravity of about two ten-thousandths of a cell per step and step.
-const SETTINGS: Settings = Settings { p: 1700, gx: 0, gy: 0, gz: -200 };
+/// So viscous that the thin film on the invert is not refused on the way, and gravity of about two ten-thousandths of a cell per step and
+/// step.
+const SETTINGS: Settings = Settings { p: 1500, gx: 0, gy: 0, gz: -200 };
 const STEPS: usize = 8000;
 /// Steps of one run, after which the line of progress is drawn anew; and of one line that stays.
 const STRIDE: usize = 100;

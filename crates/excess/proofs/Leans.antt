@@ -21,7 +21,8 @@ use Rattle.lattice.specs.Lattice.{V3, dot, d3q19}
 use Rattle.lattice.specs.Cell.{positive, isPositive}
 use Rattle.lattice.specs.Body.{partsOf, Weights}
 use Rattle.lattice.proofs.Paired.{paired19}
-use Rattle.excess.specs.Gifts.{normalAt, back, leaningAt, targetAt, leanWeightAt, evenAt, weightAt, ofDir, Filled}
+use Rattle.grid.specs.Passes.{normalAt}
+use Rattle.excess.specs.Gifts.{back, leaningAt, targetAt, leanWeightAt, evenAt, weightAt, ofDir, Filled}
 use Rattle.excess.proofs.Portions.{weights-total, term-le}
 
 -- ---- arrays of the directions
@@ -59,16 +60,18 @@ pub record Leaning (n : V3) : Type 0 where
   pub y : Within (n .y) 131072
   pub z : Within (n .z) 131072
 
-pub leaning-in : (fills off : List ℕ) (k m : ℕ) → Filled fills → Leaning (leaningAt fills off k m)
-unfolding leaningAt normalAt
-leaning-in fills off k m f = go (eqb m 1)
-  where
-    n : Leaning (normalAt fills off k)
-    n = record { x = component _ _ (f _) (f _); y = component _ _ (f _) (f _); z = component _ _ (f _) (f _) }
+module _ (flags fills off : List ℕ) (k : ℕ) (f : Filled fills) where
+  pub normal-in : Leaning (normalAt flags fills off k)
+  unfolding normalAt
+  normal-in = record { x = component _ _ (f _) (f _); y = component _ _ (f _) (f _); z = component _ _ (f _) (f _) }
 
-    go : (b : Bool) → Leaning (cond b (normalAt fills off k) (back (normalAt fills off k)))
-    go true = n
-    go false = record { x = turned-in _ (n .x); y = turned-in _ (n .y); z = turned-in _ (n .z) }
+  pub leaning-in : (m : ℕ) → Leaning (leaningAt flags fills off k m)
+  unfolding leaningAt
+  leaning-in m = go (eqb m 1)
+    where
+      go : (b : Bool) → Leaning (cond b (normalAt flags fills off k) (back (normalAt flags fills off k)))
+      go true = normal-in
+      go false = record { x = turned-in _ (normal-in .x); y = turned-in _ (normal-in .y); z = turned-in _ (normal-in .z) }
 
 -- ---- sizes
 small : (a : ℤ) (x : ℤ) → natAbs a ≤ 1 → natAbs x ≤ 131072 → natAbs (a *ℤ x) ≤ 131072
@@ -147,7 +150,7 @@ module _ (flags off : List ℕ) (k : ℕ) where
 
 module _ (flags fills off : List ℕ) (k m : ℕ) where
   abbrev lean : ℕ → ℤ
-  lean = leanWeightAt flags (leaningAt fills off k m) off k
+  lean = leanWeightAt flags (leaningAt flags fills off k m) off k
 
   pub weight-even : dirs 18 lean ≡ pos 0 → (i : ℕ) → evenAt flags off k i ≡ weightAt flags fills off k m i
   unfolding weightAt
@@ -155,14 +158,14 @@ module _ (flags fills off : List ℕ) (k m : ℕ) where
 
   pub weight-lean : (dirs 18 lean ≡ pos 0 → ⊥) → (i : ℕ) → lean i ≡ weightAt flags fills off k m i
   unfolding weightAt
-  weight-lean n i = sym (cond-yes (lean i) (evenAt flags off k i) (lean-some flags (leaningAt fills off k m) off k n))
+  weight-lean n i = sym (cond-yes (lean i) (evenAt flags off k i) (lean-some flags (leaningAt flags fills off k m) off k n))
 
   pub weight-in : Filled fills → (i : ℕ) → Dir 18 i → Within (weightAt flags fills off k m i) 393216
   unfolding weightAt
   weight-in f i d = go (isPositive (dirs 18 lean))
     where
       go : (b : Bool) → Within (cond b (lean i) (evenAt flags off k i)) 393216
-      go true = lean-in flags (leaningAt fills off k m) off k (leaning-in fills off k m f) i d
+      go true = lean-in flags (leaningAt flags fills off k m) off k (leaning-in flags fills off k f m) i d
       go false = record { abs = omega (arith, even-in flags off k i .abs) }
 
   pub weight-counted : (i : ℕ) → weightAt flags fills off k m i ≡ pos (natAbs (weightAt flags fills off k m i))
@@ -170,7 +173,7 @@ module _ (flags fills off : List ℕ) (k m : ℕ) where
   weight-counted i = go (isPositive (dirs 18 lean))
     where
       go : (b : Bool) → cond b (lean i) (evenAt flags off k i) ≡ pos (natAbs (cond b (lean i) (evenAt flags off k i)))
-      go true = lean-counted flags (leaningAt fills off k m) off k i
+      go true = lean-counted flags (leaningAt flags fills off k m) off k i
       go false = even-counted flags off k i
 
   some-total : (w : ℕ → ℤ) → ((i : ℕ) → w i ≡ pos (natAbs (w i))) → (i : ℕ) → Dir 18 i → w i ≡ pos 1 → pos 0 <ℤ dirs 18 w
@@ -204,12 +207,12 @@ weights-fit f {w} e h = record {
 }
 
 -- the code's choice of the weights: w by the normal v, of total t
-module _ (flags fills off : List ℕ) (k m : ℕ) (v : V3) {w : List ℤ} {t : ℤ} (n : v ≡ leaningAt fills off k m) (e : w ≡ tab 19 (ofDir (leanWeightAt flags v off k))) (s : t ≡ dirs 18 (partsOf w)) where
-  lean-array : w ≡ tab 19 (ofDir (leanWeightAt flags (leaningAt fills off k m) off k))
+module _ (flags fills off : List ℕ) (k m : ℕ) (v : V3) {w : List ℤ} {t : ℤ} (n : v ≡ leaningAt flags fills off k m) (e : w ≡ tab 19 (ofDir (leanWeightAt flags v off k))) (s : t ≡ dirs 18 (partsOf w)) where
+  lean-array : w ≡ tab 19 (ofDir (leanWeightAt flags (leaningAt flags fills off k m) off k))
   lean-array = e ∙ ap (λ (x : V3). tab 19 (ofDir (leanWeightAt flags x off k))) n
 
-  lean-total : t ≡ dirs 18 (leanWeightAt flags (leaningAt fills off k m) off k)
-  lean-total = s ∙ dirs-at (leanWeightAt flags (leaningAt fills off k m) off k) lean-array
+  lean-total : t ≡ dirs 18 (leanWeightAt flags (leaningAt flags fills off k m) off k)
+  lean-total = s ∙ dirs-at (leanWeightAt flags (leaningAt flags fills off k m) off k) lean-array
 
   pub used-even : t ≡ pos 0 → tab 19 (ofDir (evenAt flags off k)) ≡ tab 19 (ofDir (weightAt flags fills off k m))
   used-even z = arrays-same (evenAt flags off k) (weightAt flags fills off k m) (λ i h l. weight-even flags fills off k m (sym lean-total ∙ z) i)
@@ -217,4 +220,4 @@ module _ (flags fills off : List ℕ) (k m : ℕ) (v : V3) {w : List ℤ} {t : �
   pub used-lean : (t ≡ pos 0 → ⊥) → w ≡ tab 19 (ofDir (weightAt flags fills off k m))
   used-lean z =
       lean-array
-      ∙ arrays-same (leanWeightAt flags (leaningAt fills off k m) off k) (weightAt flags fills off k m) (λ i h l. weight-lean flags fills off k m (λ q. z (lean-total ∙ q)) i)
+      ∙ arrays-same (leanWeightAt flags (leaningAt flags fills off k m) off k) (weightAt flags fills off k m) (λ i h l. weight-lean flags fills off k m (λ q. z (lean-total ∙ q)) i)

@@ -19,30 +19,18 @@ use Rattle.grid.specs.State.{Lent}
 use Rattle.grid.specs.Step.{tooFast, newFlag}
 use Rattle.grid.specs.Outcome.{sceneOf}
 use Rattle.grid.specs.Between.{Poised, movedMass, settledMark, bornPart}
-use Rattle.grid.specs.Passes.{lowOf, offsetOf}
+use Rattle.grid.specs.Passes.{lowOf, offsetOf, normalAt}
 use Rattle.grid.specs.Sight.{Around}
 use Rattle.grid.specs.Pasted.{pasted}
 
--- ---- the normal, of the cell with k = c − low
-
--- the old fill of the neighbour in direction i
-abbrev pub fillBeside : List ℕ → List ℕ → ℕ → ℕ → ℤ
-fillBeside fills off k i = pos (getD fills (k + getD off i 0) 0)
-
--- per axis: fill at minus one less fill at plus one
-unfoldable pub normalAt : List ℕ → List ℕ → ℕ → V3
-normalAt fills off k = record {
-  x = fillBeside fills off k 2 -ℤ fillBeside fills off k 1;
-  y = fillBeside fills off k 4 -ℤ fillBeside fills off k 3;
-  z = fillBeside fills off k 6 -ℤ fillBeside fills off k 5;
-}
+-- ---- the normal, of the cell with k = c − low: new flags tell a wall as well as old ones, since walls stay
 
 abbrev pub back : V3 → V3
 back n = record { x = negℤ (n .x); y = negℤ (n .y); z = negℤ (n .z) }
 
 -- as it is for a filled cell, of mark 1, and turned for an emptied one
-unfoldable pub leaningAt : List ℕ → List ℕ → ℕ → ℕ → V3
-leaningAt fills off k m = cond (eqb m 1) (normalAt fills off k) (back (normalAt fills off k))
+unfoldable pub leaningAt : List ℕ → List ℕ → List ℕ → ℕ → ℕ → V3
+leaningAt flags fills off k m = cond (eqb m 1) (normalAt flags fills off k) (back (normalAt flags fills off k))
 
 -- ---- weights
 
@@ -60,7 +48,7 @@ evenAt flags off k i = cond (targetAt flags off k i) (pos 1) (pos 0)
 
 unfoldable pub weightAt : List ℕ → List ℕ → List ℕ → ℕ → ℕ → ℕ → ℤ
 weightAt flags fills off k m i =
-    cond (isPositive (dirs 18 (leanWeightAt flags (leaningAt fills off k m) off k))) (leanWeightAt flags (leaningAt fills off k m) off k i) (evenAt flags off k i)
+    cond (isPositive (dirs 18 (leanWeightAt flags (leaningAt flags fills off k m) off k))) (leanWeightAt flags (leaningAt flags fills off k m) off k i) (evenAt flags off k i)
 
 -- numbers of the directions as an array: index 0 holds 0
 abbrev pub ofDir : (ℕ → ℤ) → ℕ → ℤ
@@ -198,5 +186,5 @@ pub record Midway (s : Sides) (g : Settings) (a : Lent) (flags fills : List ℕ)
 
 -- names every definition of this file: whoever unfolds this computes with all of them
 unfoldable pub open-gifts : Unit {0}
-unfolding normalAt leaningAt targetAt leanWeightAt evenAt weightAt densityAt excessAt giftAt giftFrom receivedAt gatheredAt lostAt strayAt settledMass settledPart
+unfolding leaningAt targetAt leanWeightAt evenAt weightAt densityAt excessAt giftAt giftFrom receivedAt gatheredAt lostAt strayAt settledMass settledPart
 open-gifts = tt

@@ -3,6 +3,7 @@ use lib.Dec.{T}
 use Rattle.whole.specs.Fold.{open-fold}
 use Rattle.lattice.specs.Lattice.{open-lattice}
 use Rattle.lattice.specs.Cell.{open-cell}
+use Rattle.lattice.specs.Body.{open-body}
 use Rattle.grid.specs.Grid.{open-grid}
 use Rattle.grid.specs.State.{open-state}
 use Rattle.grid.specs.Step.{open-step}
@@ -12,5 +13,5 @@ use Rattle.tunnel.specs.Place.{open-place}
 use Rattle.figures.specs.Table.{figures, hold}
 
 pub stars : T (hold figures)
-unfolding open-fold open-lattice open-cell open-grid open-state open-step open-good open-outcome open-place
+unfolding open-fold open-lattice open-cell open-body open-grid open-state open-step open-good open-outcome open-place
 stars = tt

@@ -1,9 +1,13 @@
--- Case T of document 01 as lent sets: a 3×3×3 grid, all wall but the centre, which is interface. Assumes nothing.
+-- The grids of the worked figures as lent sets: case T of document 01, a 3×3×3 grid, all wall but the centre, which is interface; and the two of P6.
+-- Assumes nothing.
 use Prim.Native.Nat.{ℕ}
-use mathlib.Core.List.{List, [], _∷_}
+use mathlib.Core.List.{List, [], _∷_, _++_}
 use lib.IntN.{ℤ, pos, negsuc}
 use lib.ListN.{replicate, set}
 use lib.Seq.{sets}
+use Rattle.whole.specs.Fold.{tab}
+use Rattle.lattice.specs.Lattice.{d3q19}
+use Rattle.lattice.specs.Body.{stillPart}
 use Rattle.lattice.specs.declared.Settings.{Settings}
 use Rattle.grid.specs.declared.Sides.{Sides}
 use Rattle.grid.specs.State.{Lent}
@@ -58,3 +62,37 @@ marks = replicate 27 7
 -- case T with another flag at its centre
 abbrev pub flagged : ℕ → Lent
 flagged f = record { flags = set (replicate 27 3) 13 f; parts = caseT .parts; masses = caseT .masses; fills = caseT .fills; carry = caseT .carry }
+
+-- ---- P6: without gravity
+
+abbrev pub calm : Settings
+calm = settings (pos 0)
+
+-- 5×3×3: cells 21, 22, 23 interface, at stage 5's equilibrium without momentum
+abbrev pub rowSides : Sides
+rowSides = record { nx = 5; ny = 3; nz = 3 }
+
+abbrev still : ℤ → List ℤ
+still ρ = tab 19 (stillPart d3q19 ρ (record { x = pos 0; y = pos 0; z = pos 0 }))
+
+abbrev pub row : Lent
+row = record {
+  flags = sets (replicate 45 3) 21 (1 ∷ 1 ∷ 1 ∷ []);
+  parts = sets (replicate 855 (pos 0)) 399 (still (pos 600000) ++ still (pos 589824) ++ still (pos 580000));
+  masses = sets (replicate 45 (pos 0)) 21 (pos 500000 ∷ pos 300000 ∷ pos 100000 ∷ []);
+  fills = sets (replicate 45 0) 21 (54613 ∷ 33333 ∷ 11299 ∷ []);
+  carry = pos 0 ∷ [];
+}
+
+-- 4×4×3: cells 21, 22 and 25, 26 interface, at rest as in case T
+abbrev pub poolSides : Sides
+poolSides = record { nx = 4; ny = 4; nz = 3 }
+
+abbrev pub pool : Lent
+pool = record {
+  flags = sets (replicate 48 3) 21 (1 ∷ 1 ∷ 3 ∷ 3 ∷ 1 ∷ 1 ∷ []);
+  parts = sets (replicate 912 (pos 0)) 399 (rest ++ rest ++ replicate 38 (pos 0) ++ rest ++ rest);
+  masses = sets (replicate 48 (pos 0)) 21 (pos 591424 ∷ pos 147456 ∷ pos 0 ∷ pos 0 ∷ pos 442368 ∷ pos 294912 ∷ []);
+  fills = sets (replicate 48 0) 21 (65536 ∷ 16384 ∷ 0 ∷ 0 ∷ 49152 ∷ 32768 ∷ []);
+  carry = pos 0 ∷ [];
+}

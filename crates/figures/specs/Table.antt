@@ -1,17 +1,18 @@
--- Every figure that document 01 marks with a star, in one table: what the definitions give, and what the document says. Assumes nothing.
+-- Every figure that document 01 as amended marks with a star, in one table: what the definitions give, and what the document says. Assumes nothing.
 use mathlib.Core.Bool.{Bool, true, false, _&&_, cond}
 use mathlib.Core.List.{List, [], _∷_, _++_, map}
 use Prim.Native.Nat.{ℕ}
 use lib.IntN.{ℤ, pos, negsuc}
 use lib.ListN.{getD}
 use Rattle.lattice.specs.Cell.{fillOf, exchange, over, under, share, gravityGood}
-use Rattle.grid.specs.State.{Lent}
+use Rattle.grid.specs.State.{Lent, Scene}
+use Rattle.grid.specs.Step.{newFlag, excess, normal, gift}
 use Rattle.lattice.specs.Body.{eqZ}
-use Rattle.grid.specs.Outcome.{numberOf, placeOf, stepAnswer, stepSecond, stepMarks}
+use Rattle.grid.specs.Outcome.{numberOf, placeOf, checkAnswer, sceneOf, stepAnswer, stepSecond, stepMarks}
 use Rattle.tunnel.specs.declared.Placed.{Placed}
 use Rattle.tunnel.specs.Place.{refusalNumber, axisOf}
 use Rattle.tunnel.specs.Place as placing
-use Rattle.figures.specs.Cases.{sides, settings, falling, single, rest, fallen, caseT, marks}
+use Rattle.figures.specs.Cases.{sides, settings, falling, single, rest, fallen, caseT, marks, calm, rowSides, row, poolSides, pool}
 
 -- a figure: what the definitions give, and what the document says
 pub record Figure : Type 0 where
@@ -39,6 +40,13 @@ axis point = axisOf point (pos 5200000000) 50 10
 abbrev placed : ℤ → Placed
 placed point =
     placing.placeOf (record { nx = 10; ny = 3; nz = 3 }) (pos 50) (record { x = pos 5200000000; y = pos 0; z = pos 0 }) (record { x = point; y = pos 0; z = pos 0 })
+
+-- P6's two grids as a step reads them
+abbrev along : Scene
+along = sceneOf rowSides calm row
+
+abbrev beside : Scene
+beside = sceneOf poolSides calm pool
 
 abbrev ONE : ℤ
 ONE = pos 589824
@@ -78,6 +86,14 @@ figures =
       said = pos 0 ∷ pos 0 ∷ [];
     }
     ∷ record { worked = flat (stepSecond sides falling caseT caseT marks); said = flat (single fallen) }
+    -- P6: fills 54,613, 33,333, 11,299 in a row; both sets are good; nx at 21, 22, 23 is 21,280, 43,314, 22,034
+    ∷ one (pos (numberOf (checkAnswer rowSides row))) (pos 0)
+    ∷ one (pos (numberOf (checkAnswer poolSides pool))) (pos 0)
+    ∷ record { worked = normal along 21 .x ∷ normal along 22 .x ∷ normal along 23 .x ∷ []; said = pos 21280 ∷ pos 43314 ∷ pos 22034 ∷ [] }
+    -- P6: cell 21 becomes fluid, its excess is 1,600, n = (49,152, 16,384, 0), and 22, 25, 26 get 600, 200, 800
+    ∷ record { worked = pos (newFlag beside 21) ∷ excess beside 21 ∷ []; said = pos 2 ∷ pos 1600 ∷ [] }
+    ∷ record { worked = normal beside 21 .x ∷ normal beside 21 .y ∷ normal beside 21 .z ∷ []; said = pos 49152 ∷ pos 16384 ∷ pos 0 ∷ [] }
+    ∷ record { worked = gift beside 21 1 ∷ gift beside 21 3 ∷ gift beside 21 7 ∷ []; said = pos 600 ∷ pos 200 ∷ pos 800 ∷ [] }
     ∷ []
 
 -- two lists of numbers are the same

@@ -10,6 +10,7 @@ pub mod Reached
 pub mod Listed
 pub mod Conserved
 pub mod Bgk
+pub mod Level
 pub mod Accurate
 pub mod Unique
 pub mod Counted
@@ -22,6 +23,7 @@ pub mod Inside
 pub mod Open
 pub mod Rows
 pub mod Beside
+pub mod Slopes
 pub mod Prepared
 pub mod Blocks
 pub mod Moved

@@ -100,6 +100,11 @@ module _ (s : Sides) (i : ℕ) (h : i < 19) where
   unfolding offsetOf toward
   offset-most = omega (arith, ahead-low, back-low)
 
+-- direction 0 leads to the cell itself
+pub near-self : (s : Sides) (c : ℕ) → gridOf s .near c 0 ≡ c
+unfolding gridOf box toward open-lattice
+near-self s c = omega arith
+
 -- an array of these offsets leads to the neighbours
 pub neighbour : (s : Sides) (off : List ℕ) (low c i : ℕ) → off ≡ tab 19 (offsetOf s) → low ≡ lowOf s → i < 19 → lowOf s ≤ c
     → c - low + getD off i 0 ≡ gridOf s .near c i

@@ -1,18 +1,18 @@
--- What the passes of the step and of the check compute on the way, in terms of the definitions: offsets of neighbours, the coordinates of a walk,
--- marks. Assumes nothing.
+-- What the passes of the step and of the check compute on the way, in terms of the definitions: offsets of neighbours, the normal, the
+-- coordinates of a walk, marks. Assumes nothing.
 use Prim.Native.Nat.{ℕ, _+_, _<_, _≤_}
 use mathlib.Core.Path.{_≡_}
 use mathlib.Core.Bool.{Bool, true, false, _&&_, _||_, not, cond}
 use mathlib.Core.List.{List, [], _∷_}
-use lib.IntN.{ℤ, pos}
+use lib.IntN.{ℤ, pos, _-ℤ_}
 use lib.Dec.{leb, ltb, eqb}
 use lib.ListN.{length, getD}
 use Rattle.whole.specs.Fold.{anyDir}
-use Rattle.lattice.specs.Lattice.{d3q19}
+use Rattle.lattice.specs.Lattice.{V3, d3q19}
 use Rattle.grid.specs.declared.Sides.{Sides}
 use Rattle.grid.specs.declared.layer.Place.{Place}
 use Rattle.grid.specs.Grid.{cellAt, atEnd, toward, cellsOf, sidesGood, gridOf}
-use Rattle.grid.specs.State.{Lent}
+use Rattle.grid.specs.State.{Lent, byFlag}
 use Rattle.grid.specs.Step.{flagAfter}
 use Rattle.grid.specs.Good.{flagGood, badFlag}
 
@@ -31,6 +31,30 @@ besideAt bytes off k m = anyDir 18 (λ i. eqb (getD bytes (k + getD off i 0) 0) 
 -- every offset leads to a byte
 pub record Reach (bytes off : List ℕ) (k : ℕ) : Type 0 where
   pub all : (i : ℕ) → i < 19 → k + getD off i 0 < length bytes
+
+-- ---- the normal of the cell c with k = c − low, whose own place is k + offset 0
+
+-- the cell whose fill counts for c at b: for a wall c itself
+unfoldable pub seenAt : List ℕ → ℕ → ℕ → ℕ
+seenAt flags c b = byFlag (getD flags b 3) b b b c
+
+-- the fill that counts in direction i
+abbrev pub seenBeside : List ℕ → List ℕ → List ℕ → ℕ → ℕ → ℤ
+seenBeside flags fills off k i = pos (getD fills (seenAt flags (k + getD off 0 0) (k + getD off i 0)) 0)
+
+-- per axis: fill at minus one less fill at plus one
+unfoldable pub normalAt : List ℕ → List ℕ → List ℕ → ℕ → V3
+normalAt flags fills off k = record {
+  x = seenBeside flags fills off k 2 -ℤ seenBeside flags fills off k 1;
+  y = seenBeside flags fills off k 4 -ℤ seenBeside flags fills off k 3;
+  z = seenBeside flags fills off k 6 -ℤ seenBeside flags fills off k 5;
+}
+
+-- every offset leads to a cell, and no fill is above 65,536
+pub record Sloping (flags fills off : List ℕ) (k : ℕ) : Type 0 where
+  pub reach : (i : ℕ) → i < 19 → k + getD off i 0 < length flags
+  pub count : length fills ≡ length flags
+  pub low : (c : ℕ) → c < length flags → getD fills c 0 ≤ 65536
 
 -- a cell whose neighbours are all cells
 pub record Inner (s : Sides) (c : ℕ) : Type 0 where
@@ -145,5 +169,5 @@ carryless flags parts masses fills = record { flags = flags; parts = parts; mass
 
 -- names every definition of this file: whoever unfolds this computes with all of them
 unfoldable pub open-passes : Unit {0}
-unfolding lowOf offsetOf besideAt placeAfter outerAt inside besideIn openedMark keptMark turnedFlag
+unfolding lowOf offsetOf besideAt seenAt normalAt placeAfter outerAt inside besideIn openedMark keptMark turnedFlag
 open-passes = tt

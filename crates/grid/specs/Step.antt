@@ -170,9 +170,9 @@ newPart S c k =
 unfoldable pub excess : Scene → ℕ → ℤ
 excess S c = cond (filled S c) (tradedMass S c -ℤ newDensity S c) (cond (emptied S c) (tradedMass S c) (pos 0))
 
--- the old fill that c sees at d; a wall counts 0 (P6 amends this line)
+-- the old fill that c sees at d; a wall counts with the old fill of c itself
 unfoldable pub seen : Scene → ℕ → ℕ → ℤ
-seen S c d = byFlag (flagAt S d) (pos (S .old .fill d)) (pos (S .old .fill d)) (pos (S .old .fill d)) (pos 0)
+seen S c d = byFlag (flagAt S d) (pos (S .old .fill d)) (pos (S .old .fill d)) (pos (S .old .fill d)) (pos (S .old .fill c))
 
 -- per axis: fill at minus one less fill at plus one
 unfoldable pub normal : Scene → ℕ → V3

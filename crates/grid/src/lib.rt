@@ -1,4 +1,4 @@
-// Layer 2, the grid: states and the check. Knows the promises of lattice.
+// Layer 2, the grid: states, the check, the normal. Knows the promises of lattice.
 pub mod cells;
 pub mod checking;
 pub mod copying;
@@ -8,6 +8,7 @@ pub mod kinds;
 pub mod layer;
 pub mod lengths;
 pub mod neighbours;
+pub mod normal;
 pub mod seeking;
 
 // The sides of a grid, in cells.

@@ -1,5 +1,5 @@
 -- The amounts of stage 6, from a good state that passed test 7: a liquid cell's density, an interface cell's mass, and which cells take part. Assumes nothing.
-use mathlib.Core.Path.{_≡_, refl, sym, ap, subst}
+use mathlib.Core.Path.{_≡_, refl, ap, subst}
 use mathlib.Core.Bool.{Bool, true, false, _&&_, not, cond}
 use Prim.Native.Nat.{ℕ, zero, suc, _+_, _*_, _≤_, _<_}
 use native.Mathlib.Nat.{div-le-of-le-mul, mul-le-mul-right}
@@ -77,13 +77,6 @@ fill-cases (suc zero) m ρ = fill-most m ρ
 fill-cases (suc (suc zero)) m ρ = omega arith
 fill-cases (suc (suc (suc n))) m ρ = omega arith
 
-wall-fill : (f : ℕ) (m ρ : ℤ) (x : ℕ) → x ≡ fillFor f m ρ → byFlag f (pos x) (pos x) (pos x) (pos 0) ≡ pos x
-unfolding fillFor
-wall-fill zero m ρ x e = refl
-wall-fill (suc zero) m ρ x e = refl
-wall-fill (suc (suc zero)) m ρ x e = refl
-wall-fill (suc (suc (suc n))) m ρ x e = ap pos (sym e)
-
 moved-le : (f : ℕ) (m ρ : ℤ) → (f ≡ 1 → natAbs m ≤ 44826624) → (liquid f ≡ true → natAbs ρ ≤ 1179648) → natAbs (byFlag f (pos 0) m ρ (pos 0)) ≤ 44826624
 moved-le zero m ρ h k = omega arith
 moved-le (suc zero) m ρ h k = h refl
@@ -123,10 +116,6 @@ module _ (s : Sides) (g : Settings) (a : Lent) (r : Poised s g a) where
 
   pub fill-in : (c : ℕ) → c < cellsOf s → stateOf 18 a .fill c ≤ 65536
   fill-in c h = omega (arith, poised-fill s g a r c h, fill-cases (flag c) (stateOf 18 a .mass c) (density d3q19 (stateOf 18 a .part c)))
-
-  -- a wall's fill is 0, so that what a cell sees of it is its fill
-  pub seen-fill : (c : ℕ) → c < cellsOf s → byFlag (flag c) (pos (stateOf 18 a .fill c)) (pos (stateOf 18 a .fill c)) (pos (stateOf 18 a .fill c)) (pos 0) ≡ pos (stateOf 18 a .fill c)
-  seen-fill c h = wall-fill (flag c) (stateOf 18 a .mass c) _ (stateOf 18 a .fill c) (poised-fill s g a r c h)
 
   difference-in : (c i : ℕ) → c < cellsOf s → flag c ≡ 1 → Dir 18 i → liquid (flag (gridOf s .near c i)) ≡ true
       → natAbs (stateOf 18 a .part (gridOf s .near c i) (d3q19 .opp i) -ℤ stateOf 18 a .part c i) ≤ 2359296

@@ -20,21 +20,21 @@ use Rattle.lattice.specs.declared.Settings.{Settings}
 use Rattle.lattice.proofs.Paired.{paired19}
 use Rattle.grid.specs.declared.Sides.{Sides}
 use Rattle.grid.specs.Grid.{cellsOf, gridOf, box}
-use Rattle.grid.specs.State.{Lent, Scene, stateOf}
-use Rattle.grid.specs.Step.{tradedMass, newDensity, collided, filled, emptied, newFlag, seen, normal, target, anyTarget, lean, leanWeight, shareWeight, excess, converted, gift, toCarry, received, newCarry}
+use Rattle.grid.specs.State.{Lent, Scene, byFlag, stateOf}
+use Rattle.grid.specs.Step.{flagAt, tradedMass, newDensity, collided, filled, besideFilled, emptied, besideEmptied, flagAfter, newFlag, seen, normal, target, anyTarget, lean, leanWeight, shareWeight, excess, converted, gift, toCarry, received, newCarry}
 use Rattle.grid.specs.Outcome.{sceneOf}
 use Rattle.grid.specs.Between.{movedMass, settledMark, bornPart, gatheredMass}
-use Rattle.grid.specs.Passes.{Inner}
+use Rattle.grid.specs.Passes.{seenAt, seenBeside, normalAt, Inner}
 use Rattle.grid.proofs.Beside.{Offsets, any-cong, place-is}
 use Rattle.grid.proofs.Box.{grid-laid}
 use Rattle.grid.proofs.Closed.{wall-stays}
 use Rattle.grid.proofs.Listed.{part-at}
 use Rattle.grid.proofs.Moved.{density-collided}
-use Rattle.grid.proofs.Offsets.{near-below}
+use Rattle.grid.proofs.Offsets.{near-below, near-self}
 use Rattle.grid.proofs.Same.{density-same}
-use Rattle.excess.specs.Gifts.{fillBeside, normalAt, back, leaningAt, targetAt, leanWeightAt, evenAt, weightAt, densityAt, excessAt, giftAt, giftFrom, receivedAt, gatheredAt, lostAt, strayAt, Midway}
+use Rattle.excess.specs.Gifts.{back, leaningAt, targetAt, leanWeightAt, evenAt, weightAt, densityAt, excessAt, giftAt, giftFrom, receivedAt, gatheredAt, lostAt, strayAt, Midway}
 use Rattle.excess.proofs.Portions.{share-cong}
-use Rattle.turn.proofs.Amounts.{marked-interface, outer-not, inner-cell, seen-fill}
+use Rattle.turn.proofs.Amounts.{marked-interface, outer-not, inner-cell}
 
 -- ---- by cases on marks alone
 
@@ -77,6 +77,18 @@ lean-cases : (fi : Bool) (e n : V3) → dot e (cond fi n (back n)) ≡ cond fi (
 lean-cases true e n = dot-turn e n
 lean-cases false e n = dot-back e n
 
+-- a wall is a wall in the new flags as in the old
+wall-cases : (f : ℕ) (bf fi em be : Bool) (fill : ℕ → ℕ) (d c : ℕ)
+    → pos (fill (byFlag (flagAfter f bf fi em be) d d d c)) ≡ byFlag f (pos (fill d)) (pos (fill d)) (pos (fill d)) (pos (fill c))
+wall-cases zero true fi em be fill d c = refl
+wall-cases zero false fi em be fill d c = refl
+wall-cases (suc zero) bf true em be fill d c = refl
+wall-cases (suc zero) bf false true be fill d c = refl
+wall-cases (suc zero) bf false false be fill d c = refl
+wall-cases (suc (suc zero)) bf fi em true fill d c = refl
+wall-cases (suc (suc zero)) bf fi em false fill d c = refl
+wall-cases (suc (suc (suc n))) bf fi em be fill d c = refl
+
 gathered-cases : (b : Bool) (m x y : ℤ) → (b ≡ true → x ≡ y) → cond b (m +ℤ x) m ≡ m +ℤ cond b y (pos 0)
 gathered-cases true m x y e = ap (λ (z : ℤ). m +ℤ z) (e refl)
 gathered-cases false m x y e = sym (+ℤ-idr m)
@@ -88,6 +100,9 @@ module _ {s : Sides} {g : Settings} {a : Lent} {flags fills : List ℕ} {parts m
 
   pub flag-is : (c : ℕ) → c < cellsOf s → getD flags c 0 ≡ newFlag S c
   flag-is c h = rw (w .flags-are) (getD-tab (cellsOf s) (newFlag S) 0 c h)
+
+  flag-there : (c : ℕ) → c < cellsOf s → getD flags c 3 ≡ newFlag S c
+  flag-there c h = rw (w .flags-are) (getD-tab (cellsOf s) (newFlag S) 3 c h)
 
   pub mark-is : (c : ℕ) → c < cellsOf s → getD marks c 0 ≡ settledMark S c
   mark-is c h = rw (w .marks-are) (getD-tab (cellsOf s) (settledMark S) 0 c h)
@@ -136,14 +151,18 @@ module _ {s : Sides} {g : Settings} {a : Lent} {flags fills : List ℕ} {parts m
     unfolding anyTarget sceneOf d3q19
     any-target-is = any-cong 18 (λ b. targetAt flags off (c - low) (suc b)) (λ b. target S c (suc b)) (λ b k. target-is (suc b) (omega arith))
 
-    fill-seen : (i : ℕ) → i < 19 → fillBeside fills off (c - low) i ≡ seen S c (gridOf s .near c i)
-    unfolding seen sceneOf stateOf
-    fill-seen i h =
-        ap (λ (j : ℕ). pos (getD fills j 0)) (place-is o c n i h)
-        ∙ ap (λ (l : List ℕ). pos (getD l (gridOf s .near c i) 0)) (w .fills-are)
-        ∙ sym (seen-fill s g a (w .poised) (gridOf s .near c i) (near-low i h))
+    own-place : c - low + getD off 0 0 ≡ c
+    own-place = place-is o c n 0 (omega arith) ∙ near-self s c
 
-    normal-is : normalAt fills off (c - low) ≡ normal S c
+    fill-seen : (i : ℕ) → i < 19 → seenBeside flags fills off (c - low) i ≡ seen S c (gridOf s .near c i)
+    unfolding seenAt seen newFlag sceneOf stateOf
+    fill-seen i h =
+        let d = gridOf s .near c i in
+        ap₂ (λ (j m : ℕ). pos (getD fills (seenAt flags m j) 0)) (place-is o c n i h) own-place
+        ∙ ap₂ (λ (f : ℕ) (l : List ℕ). pos (getD l (byFlag f d d d c) 0)) (flag-there d (near-low i h)) (w .fills-are)
+        ∙ wall-cases (flagAt S d) (besideFilled S d) (filled S d) (emptied S d) (besideEmptied S d) (λ j. getD (a .fills) j 0) d c
+
+    normal-is : normalAt flags fills off (c - low) ≡ normal S c
     unfolding normalAt normal sceneOf d3q19
     normal-is i = record {
       x = fill-seen 2 (omega arith) i -ℤ fill-seen 1 (omega arith) i;
@@ -155,20 +174,20 @@ module _ {s : Sides} {g : Settings} {a : Lent} {flags fills : List ℕ} {parts m
       abbrev m : ℕ
       m = getD marks c 0
 
-      lean-is : (k : ℕ) → dot (d3q19 .e k) (leaningAt fills off (c - low) m) ≡ lean S c k
+      lean-is : (k : ℕ) → dot (d3q19 .e k) (leaningAt flags fills off (c - low) m) ≡ lean S c k
       unfolding leaningAt lean sceneOf
       lean-is k =
           ap₂ (λ (b : Bool) (v : V3). dot (d3q19 .e k) (cond b v (back v))) (filled-is c h) normal-is
           ∙ lean-cases (filled S c) (d3q19 .e k) (normal S c)
 
-      lean-weight-is : (k : ℕ) → k < 19 → leanWeightAt flags (leaningAt fills off (c - low) m) off (c - low) k ≡ leanWeight S c k
+      lean-weight-is : (k : ℕ) → k < 19 → leanWeightAt flags (leaningAt flags fills off (c - low) m) off (c - low) k ≡ leanWeight S c k
       unfolding leanWeightAt leanWeight
       lean-weight-is k l = ap₂ (λ (b : Bool) (z : ℤ). cond b (positive z) (pos 0)) (target-is k l) (lean-is k)
 
       pub weight-is : (k : ℕ) → k < 19 → weightAt flags fills off (c - low) m k ≡ shareWeight S c k
       unfolding weightAt shareWeight evenAt sceneOf d3q19
       weight-is k l i =
-          cond (isPositive (sum-cong 18 (λ b. leanWeightAt flags (leaningAt fills off (c - low) m) off (c - low) (suc b)) (λ b. leanWeight S c (suc b)) (λ b j. lean-weight-is (suc b) (omega arith)) i))
+          cond (isPositive (sum-cong 18 (λ b. leanWeightAt flags (leaningAt flags fills off (c - low) m) off (c - low) (suc b)) (λ b. leanWeight S c (suc b)) (λ b j. lean-weight-is (suc b) (omega arith)) i))
           (lean-weight-is k l i) (cond (target-is k l i) (pos 1) (pos 0))
 
   -- ---- a converted cell's density, mass and excess

@@ -1,7 +1,5 @@
 -- `excess::leaning::used_weights`: the weights by the normal, unless their total is 0. Assumes nothing.
 use mathlib.Core.Path.{sym, _∙_, subst}
-use Prim.Native.Nat.{ℕ, _+_, _<_}
-use lib.ListN.{getD}
 use Rattle.lattice.specs.Body.{vec}
 use Rattle.excess.specs.Gifts.{leanWeightAt}
 use Rattle.excess.proofs.Leans.{Leaning, leaning-in, lean-in, weights-fit, used-even, used-lean}
@@ -10,15 +8,13 @@ use borrow.Author.Needs.{needs}
 use Rattle.excess.proofs.leaning.used_weights.Statement.{statement}
 use Rattle.excess.proofs.leaning.used_weights.Tie as tie
 
-normal-requires : tie.Need-normal-requires
-normal-requires c κs =
-    let s = c .before .before in
-    (λ i h. subst (λ (n : ℕ). s .args .k + getD (s .args .off .now) i 0 < n) (sym (s .pre .1)) (s .pre .0 i h), s .pre .2)
+leaning-requires : tie.Need-leaning-requires
+leaning-requires c κs = search needs
 
-leaning : (c : tie.After-normal) → Leaning (vec (c .normal .result))
+leaning : (c : tie.After-leaning) → Leaning (vec (c .leaning .result))
 leaning c =
     let s = c .before .before .before in
-    subst Leaning (sym (c .normal .ensures)) (leaning-in (s .args .fill .now) (s .args .off .now) (s .args .k) (s .args .m) (s .pre .2))
+    subst Leaning (sym (c .leaning .ensures)) (leaning-in (s .args .flags .now) (s .args .fill .now) (s .args .off .now) (s .args .k) (s .pre .2) (s .args .m))
 
 weights-requires : tie.Need-weights-requires
 weights-requires c κs = (c .before .before .before .pre .0, leaning c .x, leaning c .y, leaning c .z)
@@ -26,7 +22,7 @@ weights-requires c κs = (c .before .before .before .pre .0, leaning c .x, leani
 total-requires : tie.Need-total-requires
 total-requires c κs =
     let s = c .before .before .before .before in
-    let n = vec (c .before .normal .result) in
+    let n = vec (c .before .leaning .result) in
     weights-fit (leanWeightAt (s .args .flags .now) n (s .args .off .now) (s .args .k)) (c .weights .ensures) (lean-in (s .args .flags .now) n (s .args .off .now) (s .args .k) (leaning (c .before)))
 
 evens-requires : tie.Need-evens-requires
@@ -38,16 +34,16 @@ returns c =
     let w = d .before in
     let s = w .before .before .before .before in
     c .evens .ensures
-    ∙ used-even (s .args .flags .now) (s .args .fill .now) (s .args .off .now) (s .args .k) (s .args .m) (vec (w .before .normal .result)) (w .before .normal .ensures) (w .weights .ensures) (d .total .ensures) (bits-zero (d .total .ok) (c .before .if1 .taken))
+    ∙ used-even (s .args .flags .now) (s .args .fill .now) (s .args .off .now) (s .args .k) (s .args .m) (vec (w .before .leaning .result)) (w .before .leaning .ensures) (w .weights .ensures) (d .total .ensures) (bits-zero (d .total .ok) (c .before .if1 .taken))
 
 returns-2 : tie.Need-returns-2
 returns-2 c =
     let d = c .before in
     let w = d .before in
     let s = w .before .before .before .before in
-    used-lean (s .args .flags .now) (s .args .fill .now) (s .args .off .now) (s .args .k) (s .args .m) (vec (w .before .normal .result)) (w .before .normal .ensures) (w .weights .ensures) (d .total .ensures) (λ z. c .if1 .left (zero-bits z))
+    used-lean (s .args .flags .now) (s .args .fill .now) (s .args .off .now) (s .args .k) (s .args .m) (vec (w .before .leaning .result)) (w .before .leaning .ensures) (w .weights .ensures) (d .total .ensures) (λ z. c .if1 .left (zero-bits z))
 
 pub used-weights-spec : {M : Type 1} → statement M
 used-weights-spec =
     tie.close
-    (tie.spec normal-requires weights-requires total-requires evens-requires returns returns-2)
+    (tie.spec leaning-requires weights-requires total-requires evens-requires returns returns-2)

@@ -1,0 +1,70 @@
+-- Whose fill counts for a cell, by cases of the flag; and a fill as a signed number. Assumes nothing.
+use mathlib.Core.Path.{_≡_, refl, subst}
+use mathlib.Core.List.{List}
+use Prim.Native.Nat.{ℕ, zero, suc, _+_, _≤_, _<_, _^_}
+use native.Mathlib.Nat.{lt-of-le-of-lt}
+use native.Mathlib.Omega.{arith}
+use lib.IntN.{ℤ, pos}
+use lib.Dec.{T, ltb, ltb→lt}
+use lib.ListN.{length, getD}
+use mir.Syntax.{w32}
+use mir.Val.{SFits, toZ}
+use mir.Facts.{toZ-pos}
+use Rattle.whole.specs.Machine.{Val, does-fit, known}
+use Rattle.lattice.specs.Lattice.{V3}
+use Rattle.grid.specs.State.{byFlag}
+use Rattle.grid.specs.Passes.{seenAt, Sloping}
+use Rattle.grid.proofs.Lists.{getD-there}
+
+-- ---- by cases of a flag
+wall-is : (f b c : ℕ) → 2 < f → c ≡ byFlag f b b b c
+wall-is zero b c h = absurd (omega arith)
+wall-is (suc zero) b c h = absurd (omega arith)
+wall-is (suc (suc zero)) b c h = absurd (omega arith)
+wall-is (suc (suc (suc n))) b c h = refl
+
+other-is : (f b c : ℕ) → f ≤ 2 → b ≡ byFlag f b b b c
+other-is zero b c h = refl
+other-is (suc zero) b c h = refl
+other-is (suc (suc zero)) b c h = refl
+other-is (suc (suc (suc n))) b c h = absurd (omega arith)
+
+either-in : (f b c n : ℕ) → b < n → c < n → byFlag f b b b c < n
+either-in zero b c n h l = h
+either-in (suc zero) b c n h l = h
+either-in (suc (suc zero)) b c n h l = h
+either-in (suc (suc (suc m))) b c n h l = l
+
+-- ---- of the flag as the code reads it
+module _ (flags : List ℕ) (c b : ℕ) (h : b < length flags) where
+  pub seen-wall : 2 < getD flags b 0 → c ≡ seenAt flags c b
+  unfolding seenAt
+  seen-wall e = wall-is (getD flags b 3) b c (subst (λ (f : ℕ). 2 < f) (getD-there flags b 0 3 h) e)
+
+  pub seen-other : getD flags b 0 ≤ 2 → b ≡ seenAt flags c b
+  unfolding seenAt
+  seen-other e = other-is (getD flags b 3) b c (subst (λ (f : ℕ). f ≤ 2) (getD-there flags b 0 3 h) e)
+
+  pub seen-in : c < length flags → seenAt flags c b < length flags
+  unfolding seenAt
+  seen-in l = either-in (getD flags b 3) b c (length flags) h l
+
+-- what `fall` asks of the neighbours in directions i and j
+pub falls : {flags fills off : List ℕ} {k : ℕ} → Sloping flags fills off k → (i j : ℕ) → i < 19 → j < 19
+    → (k + getD off 0 0 < length flags) × (k + getD off i 0 < length flags) × (k + getD off j 0 < length flags) × (length fills ≡ length flags)
+    × ((c : ℕ) → c < length flags → getD fills c 0 ≤ 65536)
+falls s i j h l = (s .reach 0 (omega arith), s .reach i h, s .reach j l, s .count, s .low)
+
+-- ---- `n as i32`
+pub n32-is : (n k : ℕ) → n ≤ k → T (ltb k (2 ^ 31)) → toZ w32 n ≡ pos n
+n32-is n k h t = toZ-pos w32 (lt-of-le-of-lt h (ltb→lt k (2 ^ 31) t))
+
+abbrev pub n32 : {n k : ℕ} → n ≤ k → Val (toZ w32 n)
+n32 {n} {k} h = record { z = pos n; n = k; ok = ltb k (2 ^ 31); is = λ t. record { is = n32-is n k h t; abs = h } }
+
+pub fill-fits : {n : ℕ} → n ≤ 65536 → SFits w32 (pos n)
+fill-fits {n} h = does-fit {w = w32} (known (pos n) 65536 h) tt
+
+-- ---- vectors
+pub vector : {x y z u v w : ℤ} → x ≡ u → y ≡ v → z ≡ w → _≡_ {A = V3} (record { x = x; y = y; z = z }) (record { x = u; y = v; z = w })
+vector p q r i = record { x = p i; y = q i; z = r i }
