@@ -13,7 +13,7 @@ use Rattle.tunnel.specs.declared.Point.{Point}
 use Rattle.tunnel.specs.Point.{WholePoint}
 use Rattle.tunnel.specs.Depth.{Reading}
 use Rattle.tunnel.proofs.Floats.{exactly-one}
-use Rattle.host.specs.Kinds.{readingSum}
+use Rattle.tunnel.specs.Kinds.{readingSum}
 use Rattle.host.specs.Promise.{CheckTold, StepTold, RunTold, ReadTold, WriteTold, PlaceTold, PointTold, DepthTold}
 
 pub check-unique : (s : Sides) (a : Lent) {n m p q : ℕ} → CheckTold s a n p → CheckTold s a m q → (n ≡ m) × (p ≡ q)

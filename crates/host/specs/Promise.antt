@@ -18,7 +18,7 @@ use Rattle.tunnel.specs.Place.{refusalNumber, refusalPlace, cellNumber}
 use Rattle.tunnel.specs.Exact.{Exactly}
 use Rattle.tunnel.specs.Point.{WholePoint}
 use Rattle.tunnel.specs.Depth.{Reading}
-use Rattle.host.specs.Kinds.{readingNumber, readingPlace, readingKind, readingSum}
+use Rattle.tunnel.specs.Kinds.{readingNumber, readingPlace, readingKind, readingSum}
 
 -- ---- what the layers take, from the numbers that a call is given
 
