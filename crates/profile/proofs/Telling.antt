@@ -51,7 +51,7 @@ depths-one v m one other h k =
     ext-getD zeroFloat one other (h .size ∙ sym (k .size))
     (λ j b. let l : j < m = subst (λ (n : ℕ). j < n) (h .size) b in exactly-one (getD one j zeroFloat) (getD other j zeroFloat) (depthAt v j) 65536 (lit< tt) (h .each j l) (k .each j l))
 
-by-one : (a : Answer) (v : Survey) (m : ℕ) (depths one other : List Float) → DepthsBy a v m depths one → DepthsBy a v m depths other → one ≡ other
+pub by-one : (a : Answer) (v : Survey) (m : ℕ) (depths one other : List Float) → DepthsBy a v m depths one → DepthsBy a v m depths other → one ≡ other
 by-one Done v m depths one other h k = depths-one v m one other h k
 by-one (Refused n p) v m depths one other h k = h ∙ sym k
 

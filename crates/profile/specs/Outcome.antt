@@ -75,6 +75,28 @@ unfoldable pub profileAnswer : Survey → List ℤ → ℕ → ℕ → Profiled
 profileAnswer v chainages kinds depths =
     profiledBy (testsAnswer v chainages kinds depths) (deepestAnswer (length chainages) (deepest v (length chainages)))
 
+-- the paper's number and values for each case: number and place are 0 0 if accepted, the values 0 beside a refusal
+abbrev pub profiledNumber : Profiled → ℕ
+profiledNumber (profiled.Refused number place) = number
+profiledNumber (profiled.Deepest i) = 0
+profiledNumber profiled.Dry = 0
+
+abbrev pub profiledPlace : Profiled → ℕ
+profiledPlace (profiled.Refused number place) = place
+profiledPlace (profiled.Deepest i) = 0
+profiledPlace profiled.Dry = 0
+
+-- whether a point is deep: 1 or 0; and the deepest, 0 where none is
+abbrev pub wetOf : Profiled → ℕ
+wetOf (profiled.Refused number place) = 0
+wetOf (profiled.Deepest i) = 1
+wetOf profiled.Dry = 0
+
+abbrev pub deepestOf : Profiled → ℕ
+deepestOf (profiled.Refused number place) = 0
+deepestOf (profiled.Deepest i) = i
+deepestOf profiled.Dry = 0
+
 -- what the kinds hold: one for each point; a refusal writes nothing
 abbrev pub kindsBy : Answer → Survey → ℕ → List ℕ → List ℕ
 kindsBy Done v m kinds = tab m (λ i. lineKind (seen v i))
