@@ -20,10 +20,16 @@ place-requires c κs = search needs
 number-requires : tie.Need-number-requires
 number-requires c κs = search needs
 
+same-length : tie.Need-same-length
+same-length c = search needs
+
+same-length-2 : tie.Need-same-length-2
+same-length-2 c = search needs
+
 returns : tie.Need-returns
 returns c =
-    let d = c .before .before .before .before in
-    let s = d .before .before .before in
+    let d = c .before .before .before .before .before .before .before .before in
+    let s = d .before .before .before .before .before .before .before in
     let a = s .args in
     let f = s .fits in
     profile-told (frame-back (a .nx) (a .ny) (a .nz) (a .edge) (a .ox) (a .oy) (a .oz) (f .edge) (f .ox) (f .oy) (f .oz))
@@ -38,4 +44,6 @@ skw-profile-spec =
     deepest-requires
     place-requires
     number-requires
+    same-length
+    same-length-2
     returns)
