@@ -12,11 +12,9 @@ use lists::List;
 /// Lists by seed.
 const SEEDS: u64 = 20_000;
 
-/// All that can be answered: a deepest point, none, and every refusal.
-const ANSWERS: &Wanted = &[("profile", &["deepest", "none", "1", "2", "3", "4", "6", "22", "23"])];
-
-/// The lines that must be met, lest all points be outside.
-const LINES: &[&str] = &["solid", "dry", "deep", "outside"];
+/// All that can be answered: a deepest point, among lines of all four kinds too, none, and every refusal.
+const ANSWERS: &Wanted = &[("profile", &["deepest", ALL_KINDS, "none", "1", "2", "3", "4", "6", "22", "23"])];
+const ALL_KINDS: &str = "deepest of all four kinds";
 
 /// Number, place, whether a point is wet, and the deepest; then the lines.
 #[derive(PartialEq)]
@@ -87,6 +85,7 @@ fn wanted(list: &List) -> Told {
 
 fn met(told: &Told) -> Met {
     match told.answer {
+        [0, _, 1, _] if (1..=4).all(|kind| told.kinds.contains(&kind)) => Met::new("profile", ALL_KINDS),
         [0, _, 1, _] => Met::new("profile", "deepest"),
         [0, ..] => Met::new("profile", "none"),
         [number, ..] => Met::new("profile", number),
@@ -107,22 +106,16 @@ fn apart(wanted: &Told, given: &Told) -> Option<String> {
     Some(format!("line {point}: wanted {}, given {}", line(wanted), line(given)))
 }
 
-/// The list of a seed through both; and the kinds of its lines.
+/// The list of a seed through both.
 fn compared(seed: u64) -> Vec<Outcome> {
     let list = List::of(seed);
     let (wanted, given) = (wanted(&list), given(&list));
     let differs = apart(&wanted, &given).map(|text| format!("profile, list seed {seed}: {text}"));
-    let mut outcomes = vec![Outcome { met: met(&wanted), differs }];
-    if wanted.answer[0] == 0 {
-        let kinds = (1u8..).zip(LINES).filter(|(kind, _)| wanted.kinds.contains(kind));
-        outcomes.extend(kinds.map(|(_, name)| Outcome { met: Met::new("lines", name), differs: None }));
-    }
-    outcomes
+    vec![Outcome { met: met(&wanted), differs }]
 }
 
 pub fn compare(wish: &Wish, total: &mut Total) {
     let title =
         format!("the library's profile on lists of points, {SEEDS} of them, seeds from {}", wish.from);
-    let answers: Vec<(&str, &[&str])> = [ANSWERS, &[("lines", LINES)]].concat();
-    total.compare(&title, wish, SEEDS as usize, &answers, |number| compared(wish.from + number as u64));
+    total.compare(&title, wish, SEEDS as usize, ANSWERS, |number| compared(wish.from + number as u64));
 }

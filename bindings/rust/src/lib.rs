@@ -39,7 +39,7 @@ mod sides;
 mod state;
 
 pub use grid::{Grid, Record};
-pub use readings::{CellPoint, Depth};
+pub use readings::{CellPoint, Depth, Line, Profile, Station};
 pub use refusal::{Refusal, Stopped};
 pub use settings::{Point, Settings, Site};
 pub use sides::Sides;

@@ -6,9 +6,9 @@ use std::fmt::{Display, Formatter, Result as Written};
 /// Why a call was refused. Nothing is written then, but as each call says for 7 and 8.
 #[derive(Clone, Copy, Debug, PartialEq, Eq, Hash)]
 pub struct Refusal {
-    /// 1 to 13; [`SIDES`](Refusal::SIDES) and so on.
+    /// 1 to 13, 22 or 23; [`SIDES`](Refusal::SIDES) and so on.
     pub number: u8,
-    /// A cell, a byte, a section, a number of bytes, or 0, by the number.
+    /// A cell, a byte, a section, a number of bytes, a point of a list, or 0, by the number.
     pub place: usize,
 }
 
@@ -17,7 +17,7 @@ impl Refusal {
     pub const SIDES: u8 = 1;
     /// A lent slice is not of its exact length.
     pub const LENGTH: u8 = 2;
-    /// A setting, origin or point coordinate is out of range.
+    /// A setting, origin or point coordinate is out of range. Place: of a profile's points the first such point, else 0.
     pub const SETTING: u8 = 3;
     /// A flag is above 3, or an outer cell is not wall. Place: the lowest such cell.
     pub const FLAG: u8 = 4;
@@ -39,6 +39,10 @@ impl Refusal {
     pub const ROOM: u8 = 12;
     /// Column, cell or point outside.
     pub const OUTSIDE: u8 = 13;
+    /// A profile's list has not 1 to 2,000 points.
+    pub const LIST: u8 = 22;
+    /// A profile's chainage is not above the one before. Place: the first such point.
+    pub const CHAINAGE: u8 = 23;
 
     pub(crate) fn new(number: u8, place: usize) -> Refusal {
         Refusal { number, place }
@@ -60,6 +64,8 @@ impl Refusal {
             Refusal::COUNT => "a section's count is wrong",
             Refusal::ROOM => "room for the record too small",
             Refusal::OUTSIDE => "column, cell or point outside",
+            Refusal::LIST => "the list has not 1 to 2,000 points",
+            Refusal::CHAINAGE => "a chainage is not above the one before",
             _ => "no number of document 01",
         }
     }
@@ -77,6 +83,9 @@ impl Display for Refusal {
             Refusal::END => write!(text, ", at byte {place}"),
             Refusal::COUNT => write!(text, ", in section {place}"),
             Refusal::ROOM => write!(text, ", {place} bytes needed"),
+            Refusal::CHAINAGE => write!(text, ", at point {place}"),
+            // 0 may be the edge or the origin as well.
+            Refusal::SETTING if *place > 0 => write!(text, ", at point {place}"),
             _ => Ok(()),
         }
     }

@@ -84,12 +84,13 @@ impl List {
         if random.percent(outside) {
             let axis = random.below(3);
             let length = self.sides[axis] as i64 * self.edge;
+            let anywhere = random.between((-REACH).into(), REACH.into()) as i64;
             point[axis] = random.pick(&[
                 self.origin[axis] + length,
                 (self.origin[axis] - 1).max(-REACH),
                 REACH,
                 -REACH,
-                random.between((-REACH).into(), REACH.into()) as i64,
+                anywhere,
             ]);
         }
         point

@@ -1,9 +1,10 @@
--- Every figure that document 01 marks with a star, in one table: what the definitions give, and what the document says. Assumes nothing.
+-- Every figure that document 01 as amended marks with a star, in one table: what the definitions give, and what the document says. Assumes nothing.
 use mathlib.Core.Bool.{Bool, true, false, _&&_, cond}
 use mathlib.Core.List.{List, [], _∷_, _++_, map}
 use Prim.Native.Nat.{ℕ}
 use lib.IntN.{ℤ, pos, negsuc}
 use lib.ListN.{getD}
+use Rattle.whole.specs.Fold.{tab}
 use Rattle.lattice.specs.Cell.{fillOf, exchange, over, under, share, gravityGood}
 use Rattle.grid.specs.State.{Lent}
 use Rattle.lattice.specs.Body.{eqZ}
@@ -11,7 +12,12 @@ use Rattle.grid.specs.Outcome.{numberOf, placeOf, stepAnswer, stepSecond, stepM
 use Rattle.tunnel.specs.declared.Placed.{Placed}
 use Rattle.tunnel.specs.Place.{refusalNumber, axisOf}
 use Rattle.tunnel.specs.Place as placing
+use Rattle.profile.specs.declared.Profiled.{Profiled}
+use Rattle.profile.specs.Kinds.{lineKind}
+use Rattle.profile.specs.Profile.{seen, depthAt}
+use Rattle.profile.specs.Outcome.{profileAnswer, profiledNumber, profiledPlace, wetOf, deepestOf}
 use Rattle.figures.specs.Cases.{sides, settings, falling, single, rest, fallen, caseT, marks}
+use Rattle.figures.specs.Gutter.{points, chainages, along}
 
 -- a figure: what the definitions give, and what the document says
 pub record Figure : Type 0 where
@@ -39,6 +45,14 @@ axis point = axisOf point (pos 5200000000) 50 10
 abbrev placed : ℤ → Placed
 placed point =
     placing.placeOf (record { nx = 10; ny = 3; nz = 3 }) (pos 50) (record { x = pos 5200000000; y = pos 0; z = pos 0 }) (record { x = point; y = pos 0; z = pos 0 })
+
+-- a profile's answer as number, place, whether a point is wet, and the deepest point
+abbrev answered : Profiled → List ℤ
+answered a = pos (profiledNumber a) ∷ pos (profiledPlace a) ∷ pos (wetOf a) ∷ pos (deepestOf a) ∷ []
+
+abbrev profiled : Profiled → ℕ → ℕ → ℕ → ℕ → Figure
+profiled a number place wet deepest =
+    record { worked = answered a; said = pos number ∷ pos place ∷ pos wet ∷ pos deepest ∷ [] }
 
 abbrev ONE : ℤ
 ONE = pos 589824
@@ -78,6 +92,24 @@ figures =
       said = pos 0 ∷ pos 0 ∷ [];
     }
     ∷ record { worked = flat (stepSecond sides falling caseT caseT marks); said = flat (single fallen) }
+    -- the profile of the gutter's seven points: deep 0.5, 1 and 1, outside, solid, dry, deep 0.75; in 65,536ths
+    ∷ record {
+      worked = map pos (tab 7 (λ i. lineKind (seen (along (pos 50) (points 50)) i)));
+      said = pos 3 ∷ pos 3 ∷ pos 3 ∷ pos 4 ∷ pos 1 ∷ pos 2 ∷ pos 3 ∷ [];
+    }
+    ∷ record {
+      worked = map pos (tab 7 (λ i. depthAt (along (pos 50) (points 50)) i));
+      said = pos 32768 ∷ pos 65536 ∷ pos 65536 ∷ pos 0 ∷ pos 0 ∷ pos 0 ∷ pos 49152 ∷ [];
+    }
+    -- its deepest is point 1, the first among equals
+    ∷ profiled (profileAnswer (along (pos 50) (points 50)) (chainages 3000) 7 7) 0 0 1 1
+    -- x of point 1 made 10,000,000,001: 3 at 1; chainage 3 equal to chainage 2 as well: 23 at 3; edge 0 as well: 3 at 0; room for six kinds as well: 2 at 0
+    ∷ profiled (profileAnswer (along (pos 50) (points 10000000001)) (chainages 3000) 7 7) 3 1 0 0
+    ∷ profiled (profileAnswer (along (pos 50) (points 10000000001)) (chainages 2000) 7 7) 23 3 0 0
+    ∷ profiled (profileAnswer (along (pos 0) (points 10000000001)) (chainages 2000) 7 7) 3 0 0 0
+    ∷ profiled (profileAnswer (along (pos 0) (points 10000000001)) (chainages 2000) 6 7) 2 0 0 0
+    -- no points: 22 at 0
+    ∷ profiled (profileAnswer (along (pos 50) []) [] 0 0) 22 0 0 0
     ∷ []
 
 -- two lists of numbers are the same

@@ -2,5 +2,4 @@ pub mod Deepest
 pub mod Written
 pub mod Passed
 pub mod Telling
-pub mod Figures
 pub mod Answered

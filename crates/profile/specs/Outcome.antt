@@ -117,6 +117,6 @@ pub record Told (v : Survey) (chainages : List ℤ) (kinds : List ℕ) (depths :
   pub depths-are : DepthsBy (testsAnswer v chainages (length kinds) (length depths)) v (length chainages) depths depthsAfter
 
 -- names every definition of this file: whoever unfolds this computes with all of them
-unfoldable pub open-outcome : Unit {0}
+unfoldable pub open-answer : Unit {0}
 unfolding listWhole openAnswer columnsAnswer testsAnswer profileAnswer
-open-outcome = tt
+open-answer = tt

@@ -141,10 +141,10 @@ pub(crate) fn tested(
         return Answer::Refused(number, place);
     }
     let up = first_not_above(chainages);
+    let out = first_far(f, points, m);
     if up < m {
         return Answer::Refused(23, up);
     }
-    let out = first_far(f, points, m);
     if out < m {
         return Answer::Refused(3, out);
     }
