@@ -25,22 +25,25 @@
 //! # }
 //! ```
 //!
-//! [`Grid`] is what most hosts need; [`lent`] has the same calls over slices of one's own.
+//! [`Grid`] is what most hosts need; [`lent`] has the same calls over slices of one's own; [`drawing`] draws a grid.
 
+pub mod drawing;
 mod grid;
 mod laying;
 pub mod lent;
+pub mod picture;
 #[doc(hidden)]
 pub mod raw;
 mod readings;
 mod refusal;
 mod settings;
 mod sides;
+pub mod spelling;
 mod state;
 
 pub use grid::{Grid, Record};
 pub use readings::{CellPoint, Depth, Line, Profile, Station};
-pub use refusal::{Refusal, Stopped};
+pub use refusal::{Place, Refusal, Stopped};
 pub use settings::{Point, Settings, Site};
 pub use sides::Sides;
 pub use state::{Counts, State, StateMut, Water, EMPTY, FLUID, FULL, INTERFACE, ONE, PARTS, WALL};

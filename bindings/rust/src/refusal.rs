@@ -12,6 +12,24 @@ pub struct Refusal {
     pub place: usize,
 }
 
+/// What the place of a refusal is.
+#[derive(Clone, Copy, Debug, PartialEq, Eq, Hash)]
+pub enum Place {
+    /// Nothing: the number says it all.
+    None,
+    Cell(usize),
+    /// A cell, or the carry where it is the number of cells.
+    CellOrCarry(usize),
+    /// A byte of the record, where a section or the rest begins.
+    Byte(usize),
+    /// A section of the record, 1 to 7.
+    Section(usize),
+    /// The bytes that the record needs.
+    Room(usize),
+    /// A point of a profile's list, from 0.
+    Point(usize),
+}
+
 impl Refusal {
     /// A side or the product of the sides is outside its range.
     pub const SIDES: u8 = 1;
@@ -69,24 +87,36 @@ impl Refusal {
             _ => "no number of document 01",
         }
     }
+
+    /// The place as what it is.
+    pub fn at(&self) -> Place {
+        match self.number {
+            Refusal::FLAG | Refusal::LAYER | Refusal::FLOW => Place::Cell(self.place),
+            Refusal::STATE | Refusal::NEXT => Place::CellOrCarry(self.place),
+            Refusal::END => Place::Byte(self.place),
+            Refusal::COUNT => Place::Section(self.place),
+            Refusal::ROOM => Place::Room(self.place),
+            Refusal::CHAINAGE => Place::Point(self.place),
+            // 0 may be the edge or the origin as well.
+            Refusal::SETTING if self.place > 0 => Place::Point(self.place),
+            _ => Place::None,
+        }
+    }
 }
 
 impl Display for Refusal {
     fn fmt(&self, text: &mut Formatter) -> Written {
-        let Refusal { number, place } = self;
-        write!(text, "refusal {number}: {}", self.words())?;
-        match *number {
-            Refusal::FLAG | Refusal::LAYER | Refusal::FLOW => write!(text, ", at cell {place}"),
-            Refusal::STATE | Refusal::NEXT => {
-                write!(text, ", at cell {place} (the carry, where that is the number of cells)")
+        write!(text, "refusal {}: {}", self.number, self.words())?;
+        match self.at() {
+            Place::None => Ok(()),
+            Place::Cell(cell) => write!(text, ", at cell {cell}"),
+            Place::CellOrCarry(cell) => {
+                write!(text, ", at cell {cell} (the carry, where that is the number of cells)")
             }
-            Refusal::END => write!(text, ", at byte {place}"),
-            Refusal::COUNT => write!(text, ", in section {place}"),
-            Refusal::ROOM => write!(text, ", {place} bytes needed"),
-            Refusal::CHAINAGE => write!(text, ", at point {place}"),
-            // 0 may be the edge or the origin as well.
-            Refusal::SETTING if *place > 0 => write!(text, ", at point {place}"),
-            _ => Ok(()),
+            Place::Byte(byte) => write!(text, ", at byte {byte}"),
+            Place::Section(section) => write!(text, ", in section {section}"),
+            Place::Room(bytes) => write!(text, ", {bytes} bytes needed"),
+            Place::Point(point) => write!(text, ", at point {point}"),
         }
     }
 }

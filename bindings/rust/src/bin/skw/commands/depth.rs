@@ -1,0 +1,37 @@
+// skw depth: the depth of the water in a column.
+
+use skwarzyna::spelling::grouped;
+use skwarzyna::{Depth, FULL};
+
+use super::Command;
+use crate::arguments::Arguments;
+use crate::failure::Failure;
+use crate::{files, records};
+
+pub const COMMAND: Command = Command {
+    name: "depth",
+    usage: "X Y [FILE]",
+    summary: "the depth of the water in column X Y",
+    help: "\
+Tells whether column X Y is solid, dry or how deep its water is, in cells (exactly as 65,536ths) and in millimetres.
+
+    skw depth 20 3 sump.rec",
+    choices: &[],
+    act,
+};
+
+fn act(mut arguments: Arguments) -> Result<(), Failure> {
+    let (x, y) = (arguments.number("X")?, arguments.number("Y")?);
+    let (record, _) = records::read(&arguments.input()?)?;
+    let depth = record.grid.depth(x, y).map_err(|refusal| records::refused(&record, refusal))?;
+    files::print(&match depth {
+        Depth::Solid => "solid\n".to_string(),
+        Depth::Dry => "dry\n".to_string(),
+        Depth::Deep(cells) => {
+            // Exact: the library answers whole 65,536ths.
+            let parts = (cells * FULL as f32) as u32;
+            let millimetres = f64::from(cells) * record.site.edge as f64;
+            format!("{cells:.4} cells, {}/{FULL}, {millimetres:.1} mm\n", grouped(parts).replace(',', ""))
+        }
+    })
+}

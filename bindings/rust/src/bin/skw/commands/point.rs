@@ -1,0 +1,47 @@
+// skw point: a cell's kind, centre and fill.
+
+use skwarzyna::spelling::grouped;
+use skwarzyna::FULL;
+
+use super::Command;
+use crate::arguments::Arguments;
+use crate::failure::Failure;
+use crate::{files, records};
+
+pub const COMMAND: Command = Command {
+    name: "point",
+    usage: "C [FILE]",
+    summary: "the kind, centre, fill and water of cell C",
+    help: "\
+Tells of cell C where it lies, what it is, its centre in cells from the grid's corner, its fill and its water.
+
+    skw point 34 sump.rec",
+    choices: &[],
+    act,
+};
+
+/// By flag.
+const KINDS: [&str; 4] = ["empty", "interface", "fluid", "wall"];
+
+fn act(mut arguments: Arguments) -> Result<(), Failure> {
+    let cell = arguments.number("C")?;
+    let (record, _) = records::read(&arguments.input()?)?;
+    let point = record.grid.point(cell).map_err(|refusal| records::refused(&record, refusal))?;
+    let (x, y, z) = record.grid.sides().position(cell);
+    let state = record.grid.state();
+    files::print(&format!(
+        "cell {cell}: x {x}, y {y}, z {z}\n\
+         kind     {}\n\
+         centre   {} {} {} cells from the corner\n\
+         fill     {:.6}, {} of {}\n\
+         water    {} units\n",
+        KINDS[usize::from(state.flags[cell])],
+        point.x,
+        point.y,
+        point.z,
+        point.fill,
+        grouped(state.fills[cell]),
+        grouped(FULL),
+        grouped(state.masses[cell]),
+    ))
+}

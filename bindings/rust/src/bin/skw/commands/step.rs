@@ -1,0 +1,23 @@
+// skw step: one step.
+
+use super::{run, Command};
+use crate::arguments::{Arguments, OUTPUT, QUIET};
+use crate::failure::Failure;
+
+pub const COMMAND: Command = Command {
+    name: "step",
+    usage: "[FILE] [-o FILE] [-q]",
+    summary: "make one step with the record's own settings",
+    help: "\
+Makes one step and writes the record of the state reached. A refused step (7 or 8) leaves the state as it was: it is written, the
+refusal is told, and the status is 1.
+
+    skw step sump.rec -o next.rec
+    skw step < sump.rec | skw step | skw water",
+    choices: &[OUTPUT, QUIET],
+    act,
+};
+
+fn act(arguments: Arguments) -> Result<(), Failure> {
+    run::steps(arguments, 1)
+}

@@ -1,0 +1,27 @@
+// skw water: the water balance of a record, to the unit.
+
+use skwarzyna::drawing::{balance, table};
+
+use super::Command;
+use crate::arguments::Arguments;
+use crate::failure::Failure;
+use crate::{files, records};
+
+pub const COMMAND: Command = Command {
+    name: "water",
+    usage: "[FILE]",
+    summary: "the water balance, to the unit and in litres",
+    help: "\
+Counts fluid, interface, empty and wall cells, and the water in fluid cells, in interface cells and in the carry: together the
+total, which no step changes by one unit. Litres are by the cell's edge, to the nearest millilitre.
+
+    skw water sump.rec
+    skw run 1000 sump.rec | skw water   the same total",
+    choices: &[],
+    act,
+};
+
+fn act(mut arguments: Arguments) -> Result<(), Failure> {
+    let (record, _) = records::read(&arguments.input()?)?;
+    files::print(&table(&balance(&record.grid, record.site.edge)))
+}

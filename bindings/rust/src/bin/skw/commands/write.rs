@@ -1,0 +1,27 @@
+// skw write: a record read and written back as the same bytes.
+
+use super::Command;
+use crate::arguments::{Arguments, OUTPUT};
+use crate::failure::Failure;
+use crate::records;
+
+pub const COMMAND: Command = Command {
+    name: "write",
+    usage: "[FILE] [-o FILE]",
+    summary: "read a record and write it back: the same bytes",
+    help: "\
+Reads a record and writes what was read. An accepted record comes back as the same bytes, and a refused one not at all, so that what
+lies behind this in a pipe gets whole records only.
+
+    skw write sump.rec | cmp - sump.rec
+    fetch-record | skw write -o sump.rec   only if it is accepted",
+    choices: &[OUTPUT],
+    act,
+};
+
+fn act(mut arguments: Arguments) -> Result<(), Failure> {
+    let (input, output) = (arguments.input()?, arguments.output(true)?);
+    output.ready()?;
+    let (record, _) = records::read(&input)?;
+    records::write(&record, &output)
+}

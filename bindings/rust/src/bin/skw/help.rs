@@ -1,0 +1,69 @@
+// What skw says of itself.
+
+use std::ffi::{OsStr, OsString};
+
+use crate::arguments::Choice;
+use crate::commands::{Command, COMMANDS};
+use crate::failure::Failure;
+
+const ABOUT: &str = "skw: water in a grid of cells, by the proved library, to the unit";
+const FILES: &str = "\
+A record is read from FILE, or from standard input where there is none or a dash. A record or picture that comes of it goes to
+standard output, or by -o FILE to a file, which is whole or as it was. What is refused is told on standard error.
+
+status   0 accepted   1 refused   2 usage   3 a file cannot be read or written   130 interrupted, what was reached is written";
+
+pub fn version() -> String {
+    format!("skw {}\n", env!("CARGO_PKG_VERSION"))
+}
+
+pub fn usage(command: &Command) -> String {
+    format!("usage: skw {} {}\nskw {} --help says more", command.name, command.usage, command.name)
+}
+
+/// For one who said nothing.
+pub fn short() -> String {
+    let names: Vec<_> = COMMANDS.iter().map(|command| command.name).collect();
+    format!("usage: skw {} ...\nskw help says more", names.join("|"))
+}
+
+pub fn unknown(word: &OsStr) -> String {
+    format!("skw: there is no command '{}'\n{}", word.to_string_lossy(), short())
+}
+
+/// All commands, a line each.
+pub fn all() -> String {
+    let widest = COMMANDS.iter().map(|command| command.name.len() + command.usage.len()).max().unwrap_or(0);
+    let mut text = format!("{ABOUT}\n\n");
+    for command in COMMANDS {
+        let call = format!("{} {}", command.name, command.usage);
+        text += &format!("    skw {call:<width$}   {}\n", command.summary, width = widest + 1);
+    }
+    text + "    skw help COMMAND, skw COMMAND --help, skw --version\n\n" + FILES + "\n"
+}
+
+/// One command.
+pub fn of(command: &Command) -> String {
+    let mut text = format!("skw {} {}\n\n{}\n", command.name, command.usage, command.help);
+    if !command.choices.is_empty() {
+        text += "\n";
+    }
+    for Choice { name, letter, value, help } in command.choices {
+        let letter = letter.map(|letter| format!("-{letter}, ")).unwrap_or_default();
+        let value = value.map(|value| format!(" {value}")).unwrap_or_default();
+        text += &format!("    {:<22} {help}\n", format!("{letter}--{name}{value}"));
+    }
+    text + "\n" + FILES + "\n"
+}
+
+/// `skw help`, with or without a command behind it.
+pub fn asked(words: &[OsString]) -> Result<String, Failure> {
+    match words {
+        [] => Ok(all()),
+        [name] => match COMMANDS.iter().find(|command| name == command.name) {
+            Some(command) => Ok(of(command)),
+            None => Err(Failure::Usage(unknown(name))),
+        },
+        _ => Err(Failure::Usage("usage: skw help [COMMAND]".into())),
+    }
+}

@@ -1,0 +1,117 @@
+// A refusal as a person can find it: document 01's words, and its place by cell, byte or section.
+
+use skwarzyna::{Place, Refusal, Sides};
+
+/// The sections of a record: what each holds, and the bytes of a number in it.
+const SECTIONS: [(&str, usize); 7] = [
+    ("sides", 4),
+    ("settings", 4),
+    ("origin", 8),
+    ("carry", 8),
+    ("flags", 1),
+    ("interface masses", 4),
+    ("parts of liquid cells", 4),
+];
+
+/// A refusal in a grid of these sides.
+pub fn in_grid(refusal: Refusal, sides: Sides) -> String {
+    let cell = |cell: usize| {
+        let (x, y, z) = sides.position(cell);
+        format!("at cell {cell} (x {x}, y {y}, z {z})")
+    };
+    let Refusal { number, .. } = refusal;
+    let words = refusal.words();
+    match refusal.at() {
+        Place::CellOrCarry(at) if at == sides.nx * sides.ny * sides.nz => {
+            format!("refusal {number}: {words}, at {at}, which stands for the carry")
+        }
+        Place::Cell(at) | Place::CellOrCarry(at) => format!("refusal {number}: {words}, {}", cell(at)),
+        _ => refusal.to_string(),
+    }
+}
+
+/// A refusal of the reader, told with what the record has there.
+pub fn in_record(refusal: Refusal, record: &[u8]) -> String {
+    let numbers = Numbers(record);
+    let told = match refusal.at() {
+        Place::Byte(byte) => match numbers.section_from(byte) {
+            Some(section) => {
+                let rest = record.len().saturating_sub(byte);
+                format!(": {} begins there and is not whole, as {rest} bytes follow", named(section))
+            }
+            None => ": the record should end there, and does not".to_string(),
+        },
+        Place::Section(section) => match numbers.count(section) {
+            Some(count) => format!(" ({}): it is {count}", SECTIONS[section - 1].0),
+            None => String::new(),
+        },
+        Place::None => match refusal.number {
+            Refusal::SIDES => format!(": its sides are {}", numbers.list(1, "x")),
+            Refusal::SETTING => format!(
+                ": its p, gravity and edge are {}, its origin is {}",
+                numbers.list(2, ","),
+                numbers.list(3, ",")
+            ),
+            _ => String::new(),
+        },
+        _ => match numbers.sides() {
+            Some(sides) => return in_grid(refusal, sides),
+            None => String::new(),
+        },
+    };
+    format!("{refusal}{told}")
+}
+
+fn named(section: usize) -> String {
+    format!("section {section} ({})", SECTIONS[section - 1].0)
+}
+
+/// The numbers of a record that is refused, as far as it has them.
+struct Numbers<'a>(&'a [u8]);
+
+impl Numbers<'_> {
+    fn u32_at(&self, at: usize) -> Option<u32> {
+        let bytes = self.0.get(at..at.checked_add(4)?)?;
+        Some(u32::from_le_bytes(bytes.try_into().ok()?))
+    }
+
+    /// Where a section begins, 1 to 7, or with 8 the rest, by the counts of those before it.
+    fn start(&self, section: usize) -> Option<usize> {
+        let mut at = 0usize;
+        for (_, width) in &SECTIONS[..section - 1] {
+            let count = usize::try_from(self.u32_at(at)?).ok()?;
+            at = at.checked_add(4)?.checked_add(count.checked_mul(*width)?)?;
+        }
+        Some(at)
+    }
+
+    fn section_from(&self, byte: usize) -> Option<usize> {
+        (1..=SECTIONS.len()).find(|&section| self.start(section) == Some(byte))
+    }
+
+    fn count(&self, section: usize) -> Option<u32> {
+        self.u32_at(self.start(section)?)
+    }
+
+    /// The numbers of section 1, 2 or 3.
+    fn list(&self, section: usize, between: &str) -> String {
+        let width = SECTIONS[section - 1].1;
+        let numbers = self.start(section).and_then(|start| {
+            let count = usize::try_from(self.count(section)?).ok()?;
+            self.0.get(start + 4..(start + 4).checked_add(count.checked_mul(width)?)?)
+        });
+        let spelled = numbers.unwrap_or(&[]).chunks_exact(width).map(|bytes| match (section, bytes) {
+            (1, &[a, b, c, d]) => u32::from_le_bytes([a, b, c, d]).to_string(),
+            (_, &[a, b, c, d]) => i32::from_le_bytes([a, b, c, d]).to_string(),
+            (_, bytes) => i64::from_le_bytes(bytes.try_into().unwrap_or([0; 8])).to_string(),
+        });
+        let between = if between == "x" { " x ".into() } else { format!("{between} ") };
+        spelled.collect::<Vec<_>>().join(&between)
+    }
+
+    fn sides(&self) -> Option<Sides> {
+        let side = |at: usize| usize::try_from(self.u32_at(at)?).ok();
+        let sides = Sides::new(side(4)?, side(8)?, side(12)?);
+        sides.cells().ok().map(|_| sides)
+    }
+}

@@ -1,0 +1,188 @@
+//! A grid as a picture or as text: its depths from above, or the cells of a section, with legend, scale and water balance.
+
+mod colours;
+mod scale;
+mod sheet;
+mod tiles;
+
+use crate::picture::Picture;
+use crate::spelling::{counted, grouped, litres, thousandths};
+use crate::{Grid, Refusal, Site, FULL, ONE};
+
+use tiles::Tile;
+
+/// An axis of the grid.
+#[derive(Clone, Copy, Debug, PartialEq, Eq)]
+pub enum Axis {
+    X,
+    Y,
+    Z,
+}
+
+/// What is drawn of a grid.
+#[derive(Clone, Copy, Debug, PartialEq, Eq)]
+pub enum View {
+    /// The depth of every column, north up.
+    Above,
+    /// The cells with this number along an axis: along x and y an upright section, along z a level one.
+    Section(Axis, usize),
+}
+
+/// A view of a grid, ready to be drawn.
+#[derive(Clone, Debug)]
+pub struct Drawing {
+    title: String,
+    view: View,
+    /// From the top.
+    rows: Vec<Vec<Tile>>,
+    deepest: f32,
+    sides: [usize; 3],
+    site: Site,
+    balance: Vec<(&'static str, String)>,
+}
+
+/// How many of the balance's lines count cells.
+const COUNTS: usize = 4;
+
+/// The water balance to the unit, as names and numbers: four counts of cells, four amounts of water, and the total in litres.
+pub fn balance(grid: &Grid, edge: i64) -> Vec<(&'static str, String)> {
+    let (counts, water) = (grid.counts(), grid.water());
+    vec![
+        ("fluid cells", counted(counts.fluid)),
+        ("interface cells", counted(counts.interface)),
+        ("empty cells", counted(counts.empty)),
+        ("wall cells", counted(counts.wall)),
+        ("in fluid cells", grouped(water.fluid)),
+        ("in interface cells", grouped(water.interface)),
+        ("carry", grouped(water.carry)),
+        ("total", grouped(water.total())),
+        ("total in litres", litres(water.total(), edge)),
+    ]
+}
+
+/// The unit of the balance.
+pub fn unit() -> String {
+    format!("water in units, {} to a full cell", grouped(ONE))
+}
+
+impl Axis {
+    /// x, y or z.
+    pub fn name(self) -> &'static str {
+        ["x", "y", "z"][self as usize]
+    }
+}
+
+impl View {
+    /// What runs to the right and what runs up.
+    fn axes(self) -> (Axis, Axis) {
+        match self {
+            View::Above | View::Section(Axis::Z, _) => (Axis::X, Axis::Y),
+            View::Section(Axis::Y, _) => (Axis::X, Axis::Z),
+            View::Section(Axis::X, _) => (Axis::Y, Axis::Z),
+        }
+    }
+}
+
+impl Drawing {
+    /// A view of a grid that lies there; refusal 13 for a section outside it.
+    pub fn new(grid: &Grid, site: Site, view: View) -> Result<Drawing, Refusal> {
+        let rows = tiles::rows(grid, view)?;
+        let deepest = rows.iter().flatten().map(Tile::depth).fold(0.0, f32::max);
+        let title = match view {
+            View::Above => "Depth from above".to_string(),
+            View::Section(axis, at) => format!("Section at {} = {at}", axis.name()),
+        };
+        let sides = grid.sides();
+        let sides = [sides.nx, sides.ny, sides.nz];
+        Ok(Drawing { title, view, rows, deepest, sides, site, balance: balance(grid, site.edge) })
+    }
+
+    /// With a name before the title.
+    pub fn named(mut self, name: &str) -> Drawing {
+        self.title = format!("{name}: {}", self.title);
+        self
+    }
+
+    /// The deepest column seen from above, in cells; 0 in a section.
+    pub fn deepest(&self) -> f32 {
+        self.deepest
+    }
+
+    /// With the darkest blue for a depth of so many cells, so that two pictures can be compared.
+    pub fn darkest_at(mut self, cells: f32) -> Drawing {
+        self.deepest = cells;
+        self
+    }
+
+    /// The grid and where it lies, in two lines.
+    fn place(&self) -> [String; 2] {
+        let [nx, ny, nz] = self.sides;
+        let origin = self.site.origin;
+        let [x, y, z] = [origin.x, origin.y, origin.z].map(thousandths);
+        [
+            format!("{nx} x {ny} x {nz} cells of {} mm", self.site.edge),
+            format!("metres from the origin, x {x}, y {y}, z {z}"),
+        ]
+    }
+
+    /// A depth in cells and in millimetres.
+    fn in_millimetres(&self, cells: f32) -> String {
+        format!("{:.0} mm", f64::from(cells) * self.site.edge as f64)
+    }
+
+    /// The picture, with the balance as a description in its file too.
+    pub fn picture(&self) -> Picture {
+        let mut picture = sheet::picture(self);
+        picture.note("Title", &self.title);
+        let lines = self.balance.iter().map(|(name, number)| format!("{name} {number}"));
+        picture.note("Description", &format!("{}\n{}", unit(), lines.collect::<Vec<_>>().join("\n")));
+        picture
+    }
+
+    /// The same as text, a letter for each cell or column.
+    pub fn text(&self) -> String {
+        let (across, up) = self.view.axes();
+        let mut text = format!("{}\n{}\n{}\n\n", self.title, self.place()[0], self.place()[1]);
+        text += &format!("{:>5}\n", up.name());
+        let height = self.rows.len();
+        for (row, tiles) in self.rows.iter().enumerate() {
+            let number = height - 1 - row;
+            let label = if number % 5 == 0 || row == 0 { number.to_string() } else { String::new() };
+            text += &format!(
+                "{label:>5} {}\n",
+                tiles.iter().map(|tile| tile.letter(self.deepest)).collect::<String>()
+            );
+        }
+        let labels = (0..self.sides[across as usize]).step_by(10).map(|number| format!("{number:<10}"));
+        text += &format!("      {}  {}\n\n", labels.collect::<String>().trim_end(), across.name());
+        text += &match self.view {
+            View::Above if self.deepest > 0.0 => format!(
+                "# solid, . dry, 0 to 9 tenths of {:.2} cells, {}\n",
+                self.deepest,
+                self.in_millimetres(self.deepest)
+            ),
+            View::Above => "# solid, . dry\n".to_string(),
+            View::Section(..) => {
+                "# wall, . empty, 0 to 9 interface by tenths of its fill, w fluid\n".to_string()
+            }
+        };
+        text + "\n" + &table(&self.balance)
+    }
+}
+
+/// The balance in lines, as `skw water` tells it.
+pub fn table(balance: &[(&str, String)]) -> String {
+    let mut text = String::new();
+    for (place, (name, number)) in balance.iter().enumerate() {
+        if place == COUNTS {
+            text += &format!("{}\n", unit());
+        }
+        text += &format!("{name:<20}{number:>24}\n");
+    }
+    text
+}
+
+/// A fill as a share.
+fn share(fill: u32) -> f32 {
+    fill as f32 / FULL as f32
+}

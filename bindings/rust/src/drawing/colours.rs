@@ -1,0 +1,27 @@
+// The colours of walls and water.
+
+use crate::picture::Colour;
+
+pub const WALL: Colour = [150, 146, 138];
+pub const EMPTY: Colour = [252, 250, 244];
+pub const FLUID: Colour = [26, 92, 160];
+/// An interface cell: its water, and the rest of it.
+pub const SURFACE: Colour = [74, 154, 208];
+pub const ABOVE_SURFACE: Colour = [214, 236, 246];
+/// Ticks, and what is said beside the picture.
+pub const PALE_INK: Colour = [96, 104, 112];
+
+/// From the shallowest to the deepest.
+const BLUES: [[f32; 3]; 3] = [[214.0, 234.0, 246.0], [72.0, 148.0, 200.0], [8.0, 44.0, 104.0]];
+
+/// The blue of a depth; by its root, so that a film still shows beside a sump.
+pub fn blue(depth: f32, deepest: f32) -> Colour {
+    let share = if deepest > 0.0 { 2.0 * (depth / deepest).clamp(0.0, 1.0).sqrt() } else { 0.0 };
+    let (from, way) = if share < 1.0 { (0, share) } else { (1, share - 1.0) };
+    std::array::from_fn(|k| (BLUES[from][k] + way * (BLUES[from + 1][k] - BLUES[from][k])) as u8)
+}
+
+/// The colour of a square's edge: a little darker.
+pub fn edge(colour: Colour) -> Colour {
+    colour.map(|channel| (f32::from(channel) * 0.92) as u8)
+}
