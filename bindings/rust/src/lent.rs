@@ -1,4 +1,4 @@
-//! The library's eight calls over slices that the caller lends: any lengths, any contents.
+//! The library's nine calls over slices that the caller lends: any lengths, any contents.
 //!
 //! [`Grid`](crate::Grid) makes the same calls over buffers of its own. These are for a host that has its own buffers, or wants to
 //! be refused.
