@@ -1,6 +1,6 @@
 // A gutter that runs into a sump: water at its upper end leaks through a slot, trickles down the sloping invert and falls into the pit.
-// Steps the scene, counts its water to the unit, and writes the depth maps before and after as pictures and as text into FOLDER, or
-// into the current folder.
+// Steps the scene, counts its water to the unit, and writes the depths before and after, and a section along the gutter, as pictures
+// and as text into FOLDER, or into the current folder; and the record of the end, for skw.
 //
 //     cargo run --release --offline --example sump [FOLDER]
 
@@ -12,11 +12,13 @@ use std::path::{Path, PathBuf};
 use std::process::ExitCode;
 use std::time::Instant;
 
-use skwarzyna::{Depth, Grid, Refusal, Settings, Sides, Water, ONE};
+use skwarzyna::drawing::{Axis, Drawing, View};
+use skwarzyna::spelling::grouped;
+use skwarzyna::{Depth, Grid, Point, Refusal, Settings, Sides, Site, Water, ONE};
 
 const SIDES: Sides = Sides::new(40, 20, 24);
-/// The edge of a cell in metres.
-const EDGE: f64 = 0.05;
+/// Cells of 50 millimetres, from the survey's own origin.
+const SITE: Site = Site { edge: 50, origin: Point::new(0, 0, 0) };
 /// Water of little viscosity, and gravity of about two ten-thousandths of a cell per step and step.
 const SETTINGS: Settings = Settings { p: 1700, gx: 0, gy: 0, gz: -200 };
 const STEPS: usize = 8000;
@@ -67,13 +69,6 @@ fn scene() -> Result<Grid, Refusal> {
     Ok(grid)
 }
 
-/// A whole number with commas between its thousands.
-fn grouped(number: i64) -> String {
-    let digits = number.unsigned_abs().to_string();
-    let groups: Vec<_> = digits.as_bytes().rchunks(3).rev().map(String::from_utf8_lossy).collect();
-    format!("{}{}", if number < 0 { "-" } else { "" }, groups.join(","))
-}
-
 /// One line of the table.
 fn line(step: usize, water: Water, start: i64) -> String {
     let [fluid, interface, carry, total, lost] =
@@ -99,109 +94,60 @@ fn advance(grid: &mut Grid, start: i64) -> Result<(), Box<dyn Error>> {
     Ok(())
 }
 
-/// The depths of all columns, by rows of y.
-type Map = Vec<Vec<Depth>>;
+/// From above, and along the middle of the gutter.
+const ABOVE: View = View::Above;
+const ALONG: View = View::Section(Axis::Y, 10);
 
-fn depths(grid: &Grid) -> Result<Map, Refusal> {
-    let row = |y: usize| (0..SIDES.nx).map(|x| grid.depth(x, y)).collect();
-    (0..SIDES.ny).map(row).collect()
-}
-
-fn cells(depth: &Depth) -> f32 {
-    match depth {
-        Depth::Deep(cells) => *cells,
-        _ => 0.0,
+/// Writes each drawing as picture and as text, with one scale of depths.
+fn write_drawings(folder: &Path, drawings: [(&str, Drawing); 4]) -> Result<(), Box<dyn Error>> {
+    let darkest = drawings.iter().map(|(_, drawing)| drawing.deepest()).fold(0.0, f32::max);
+    for (name, drawing) in drawings {
+        let drawing = drawing.darkest_at(darkest).named(name);
+        put(folder, &format!("{name}.png"), &drawing.picture().png())?;
+        put(folder, &format!("{name}.txt"), drawing.text().as_bytes())?;
     }
+    Ok(())
 }
 
-fn deepest(map: &Map) -> f32 {
-    map.iter().flatten().map(cells).fold(0.0, f32::max)
-}
-
-/// The map as text: a line for each y, the largest first, as on a plan.
-fn text(map: &Map) -> String {
-    let mut text = String::from(
-        "# depth in cells: a line for each y, the largest first, and in it a column for each x; ## solid, -- dry\n",
-    );
-    for row in map.iter().rev() {
-        let words = row.iter().map(|depth| match depth {
-            Depth::Solid => "   ##".to_string(),
-            Depth::Dry => "   --".to_string(),
-            Depth::Deep(cells) => format!("{cells:5.2}"),
-        });
-        text += &words.collect::<Vec<_>>().join(" ");
-        text.push('\n');
-    }
-    text
-}
-
-/// Grey where solid, white where dry, else from pale to dark blue; by the depth's root, so that a film still shows beside the sump.
-fn colour(depth: &Depth, deepest: f32) -> [f32; 3] {
-    const BLUES: [[f32; 3]; 3] = [[214.0, 234.0, 246.0], [72.0, 148.0, 200.0], [8.0, 44.0, 104.0]];
-    match depth {
-        Depth::Solid => [160.0; 3],
-        Depth::Dry => [255.0; 3],
-        Depth::Deep(cells) => {
-            let share = 2.0 * (cells / deepest).sqrt();
-            let (from, way) = if share < 1.0 { (0, share) } else { (1, share - 1.0) };
-            std::array::from_fn(|k| BLUES[from][k] + way * (BLUES[from + 1][k] - BLUES[from][k]))
-        }
-    }
-}
-
-/// The map as a picture in the PPM format: a square of pixels for each column, a little darker at two of its edges.
-fn picture(map: &Map, deepest: f32) -> Vec<u8> {
-    const SQUARE: usize = 20;
-    let (width, height) = (SQUARE * SIDES.nx, SQUARE * SIDES.ny);
-    let mut bytes = format!("P6\n{width} {height}\n255\n").into_bytes();
-    for y in 0..height {
-        let row = &map[SIDES.ny - 1 - y / SQUARE];
-        for x in 0..width {
-            let shade = if x % SQUARE == 0 || y % SQUARE == 0 { 0.9 } else { 1.0 };
-            bytes.extend(colour(&row[x / SQUARE], deepest).map(|part| (shade * part) as u8));
-        }
-    }
-    bytes
-}
-
-/// Writes both maps as pictures of one scale and as text.
-fn write_maps(folder: &Path, before: &Map, after: &Map) -> Result<(), Box<dyn Error>> {
-    let scale = deepest(before).max(deepest(after));
-    let put = |name: &str, bytes: &[u8]| {
-        let file = folder.join(name);
-        fs::write(&file, bytes).map_err(|error| format!("{}: {error}", file.display()))?;
-        println!("written: {}", file.display());
-        Ok::<(), Box<dyn Error>>(())
-    };
-    for (map, name) in [(before, "sump-before"), (after, "sump-after")] {
-        put(&format!("{name}.ppm"), &picture(map, scale))?;
-        put(&format!("{name}.txt"), text(map).as_bytes())?;
-    }
-    println!("colours: grey solid, white dry, from pale to dark blue up to {scale:.1} cells");
+fn put(folder: &Path, name: &str, bytes: &[u8]) -> Result<(), Box<dyn Error>> {
+    let file = folder.join(name);
+    fs::write(&file, bytes).map_err(|error| format!("{}: {error}", file.display()))?;
+    println!("written: {}", file.display());
     Ok(())
 }
 
 /// What the sump holds, as those ask for it who order its pump.
-fn tell_sump(map: &Map) {
-    let columns = || map.iter().flat_map(|row| &row[SUMP]).map(cells).map(f64::from);
-    let litres = columns().sum::<f64>() * EDGE.powi(3) * 1000.0;
-    let deepest = columns().fold(0.0, f64::max) * EDGE * 1000.0;
-    println!("the sump holds {litres:.1} litres and is {deepest:.0} mm deep at most");
+fn tell_sump(grid: &Grid) -> Result<(), Refusal> {
+    let (mut sum, mut deepest) = (0.0, 0.0f64);
+    for (x, y) in SUMP.flat_map(|x| (0..SIDES.ny).map(move |y| (x, y))) {
+        if let Depth::Deep(cells) = grid.depth(x, y)? {
+            sum += f64::from(cells);
+            deepest = deepest.max(cells.into());
+        }
+    }
+    let edge = SITE.edge as f64;
+    println!(
+        "the sump holds {:.1} litres and is {:.0} mm deep at most",
+        sum * edge.powi(3) / 1e6,
+        deepest * edge
+    );
+    Ok(())
 }
 
 fn play(folder: &Path) -> Result<(), Box<dyn Error>> {
     fs::create_dir_all(folder).map_err(|error| format!("{}: {error}", folder.display()))?;
     let mut grid = scene()?;
-    let before = depths(&grid)?;
+    let draw = |grid: &Grid, view: View| Drawing::new(grid, SITE, view);
+    let (before, before_along) = (draw(&grid, ABOVE)?, draw(&grid, ALONG)?);
     let (start, counts) = (grid.total(), grid.counts());
     println!(
         "{} x {} x {} cells of {} mm, {} of them open; {} units fill a cell",
         SIDES.nx,
         SIDES.ny,
         SIDES.nz,
-        EDGE * 1000.0,
+        SITE.edge,
         counts.empty + counts.liquid(),
-        grouped(ONE.into())
+        grouped(ONE)
     );
 
     let clock = Instant::now();
@@ -215,9 +161,16 @@ fn play(folder: &Path) -> Result<(), Box<dyn Error>> {
     );
 
     // A refused step leaves the state before it, which can be looked at as well.
-    let after = depths(&grid)?;
-    tell_sump(&after);
-    write_maps(folder, &before, &after)?;
+    tell_sump(&grid)?;
+    let (after, after_along) = (draw(&grid, ABOVE)?, draw(&grid, ALONG)?);
+    let drawings = [
+        ("sump-before", before),
+        ("sump-after", after),
+        ("section-before", before_along),
+        ("section-after", after_along),
+    ];
+    write_drawings(folder, drawings)?;
+    put(folder, "sump-after.rec", &grid.write(SETTINGS, SITE)?)?;
     made?;
     match start - grid.total() {
         0 => Ok(()),

@@ -36,7 +36,10 @@ pub struct Drawing {
     view: View,
     /// From the top.
     rows: Vec<Vec<Tile>>,
+    /// In cells, of the columns seen from above; 0 where none is wet, and in a section.
     deepest: f32,
+    /// The depth that is drawn darkest.
+    darkest: f32,
     sides: [usize; 3],
     site: Site,
     balance: Vec<(&'static str, String)>,
@@ -44,6 +47,8 @@ pub struct Drawing {
 
 /// How many of the balance's lines count cells.
 const COUNTS: usize = 4;
+/// Letters of a name that are drawn.
+const LONGEST_NAME: usize = 32;
 
 /// The water balance to the unit, as names and numbers: four counts of cells, four amounts of water, and the total in litres.
 pub fn balance(grid: &Grid, edge: i64) -> Vec<(&'static str, String)> {
@@ -95,12 +100,18 @@ impl Drawing {
         };
         let sides = grid.sides();
         let sides = [sides.nx, sides.ny, sides.nz];
-        Ok(Drawing { title, view, rows, deepest, sides, site, balance: balance(grid, site.edge) })
+        let balance = balance(grid, site.edge);
+        Ok(Drawing { title, view, rows, deepest, darkest: deepest, sides, site, balance })
     }
 
-    /// With a name before the title.
+    /// With a name before the title; what is no letter of ASCII is drawn as a question mark, and a long name is cut.
     pub fn named(mut self, name: &str) -> Drawing {
-        self.title = format!("{name}: {}", self.title);
+        let plain = |letter: char| if (' '..='~').contains(&letter) { letter } else { '?' };
+        let mut short: String = name.chars().map(plain).take(LONGEST_NAME).collect();
+        if name.chars().nth(LONGEST_NAME).is_some() {
+            short += "...";
+        }
+        self.title = format!("{short}: {}", self.title);
         self
     }
 
@@ -109,9 +120,11 @@ impl Drawing {
         self.deepest
     }
 
-    /// With the darkest blue for a depth of so many cells, so that two pictures can be compared.
+    /// With the darkest blue, from above, for a depth of so many cells, so that two pictures can be compared.
     pub fn darkest_at(mut self, cells: f32) -> Drawing {
-        self.deepest = cells;
+        if self.view == View::Above {
+            self.darkest = cells;
+        }
         self
     }
 
@@ -126,9 +139,12 @@ impl Drawing {
         ]
     }
 
-    /// A depth in cells and in millimetres.
+    /// A depth in cells as millimetres.
     fn in_millimetres(&self, cells: f32) -> String {
-        format!("{:.0} mm", f64::from(cells) * self.site.edge as f64)
+        match f64::from(cells) * self.site.edge as f64 {
+            few if few < 100.0 => format!("{few:.1} mm"),
+            many => format!("{} mm", grouped(many.round() as i64)),
+        }
     }
 
     /// The picture, with the balance as a description in its file too.
@@ -151,14 +167,15 @@ impl Drawing {
             let label = if number % 5 == 0 || row == 0 { number.to_string() } else { String::new() };
             text += &format!(
                 "{label:>5} {}\n",
-                tiles.iter().map(|tile| tile.letter(self.deepest)).collect::<String>()
+                tiles.iter().map(|tile| tile.letter(self.darkest)).collect::<String>()
             );
         }
         let labels = (0..self.sides[across as usize]).step_by(10).map(|number| format!("{number:<10}"));
         text += &format!("      {}  {}\n\n", labels.collect::<String>().trim_end(), across.name());
         text += &match self.view {
             View::Above if self.deepest > 0.0 => format!(
-                "# solid, . dry, 0 to 9 tenths of {:.2} cells, {}\n",
+                "# solid, . dry, 0 to 9 tenths of {:.2} cells; the deepest has {:.2}, {}\n",
+                self.darkest,
                 self.deepest,
                 self.in_millimetres(self.deepest)
             ),

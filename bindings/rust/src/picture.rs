@@ -114,7 +114,6 @@ impl Picture {
 
     /// The bytes of a PNG file.
     pub fn png(&self) -> Vec<u8> {
-        let notes: Vec<_> = self.notes.iter().map(|(keyword, text)| (&keyword[..], &text[..])).collect();
-        png::file(self.width, &self.pixels, &notes)
+        png::file(self.width, &self.pixels, &self.notes)
     }
 }

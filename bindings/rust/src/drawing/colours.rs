@@ -11,12 +11,14 @@ pub const ABOVE_SURFACE: Colour = [214, 236, 246];
 /// Ticks, and what is said beside the picture.
 pub const PALE_INK: Colour = [96, 104, 112];
 
-/// From the shallowest to the deepest.
+/// From the shallowest to the deepest, and in how many steps, so that a palette holds them all.
 const BLUES: [[f32; 3]; 3] = [[214.0, 234.0, 246.0], [72.0, 148.0, 200.0], [8.0, 44.0, 104.0]];
+const STEPS: f32 = 40.0;
 
 /// The blue of a depth; by its root, so that a film still shows beside a sump.
-pub fn blue(depth: f32, deepest: f32) -> Colour {
-    let share = if deepest > 0.0 { 2.0 * (depth / deepest).clamp(0.0, 1.0).sqrt() } else { 0.0 };
+pub fn blue(depth: f32, darkest: f32) -> Colour {
+    let share = if darkest > 0.0 { (depth / darkest).clamp(0.0, 1.0) } else { 0.0 };
+    let share = (share.sqrt() * 2.0 * STEPS).round() / STEPS;
     let (from, way) = if share < 1.0 { (0, share) } else { (1, share - 1.0) };
     std::array::from_fn(|k| (BLUES[from][k] + way * (BLUES[from + 1][k] - BLUES[from][k])) as u8)
 }

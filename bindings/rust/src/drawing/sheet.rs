@@ -3,7 +3,7 @@
 use super::colours::{blue, edge, ABOVE_SURFACE, EMPTY, FLUID, PALE_INK, SURFACE, WALL};
 use super::tiles::Tile;
 use super::{scale, unit, Drawing, View, COUNTS};
-use crate::picture::{Letters, Picture, INK};
+use crate::picture::{Colour, Letters, Picture, INK};
 
 const MARGIN: usize = 24;
 const TITLE: Letters = Letters(3);
@@ -11,21 +11,26 @@ const PLAIN: Letters = Letters(2);
 /// The squares: no smaller and no larger than this, and all of them in about this room.
 const SQUARES: std::ops::RangeInclusive<usize> = 6..=64;
 const ROOM: (usize, usize) = (720, 560);
+/// The smallest square whose edges are drawn.
+const LINED: usize = 8;
 /// A tick, and what lies between it and its label.
 const TICK: usize = 6;
 const GAP: usize = 4;
 /// Pixels that a label needs along and across a horizontal scale.
 const ALONG: usize = 84;
 const LABEL: usize = 36;
-/// A square of the legend, and the bar of depths.
+/// A square of the legend, the letters beside it, and how high the bar of depths may be.
 const SWATCH: usize = 26;
-const BAR: (usize, usize) = (SWATCH, 200);
-/// The columns of the balance: names, numbers, and what lies between the two tables.
-const NAMES: usize = 18;
-const AMOUNTS: usize = 20;
-const BETWEEN: usize = 4;
+const WORDS: usize = 10;
+const BAR: (usize, usize) = (120, 320);
+/// The columns of the balance in letters: names and numbers of the water, and of the cells beside it.
+const NAMES: usize = 19;
+const AMOUNTS: usize = 19;
+const BETWEEN: usize = 5;
 const COUNT_NAMES: usize = 15;
 const COUNT_NUMBERS: usize = 8;
+/// The line of the balance that all above it add up to.
+const TOTAL: usize = 3;
 
 /// Where the squares lie.
 struct Plan {
@@ -47,24 +52,24 @@ pub fn picture(drawing: &Drawing) -> Picture {
     let square = (ROOM.0 / columns).min(ROOM.1 / rows).clamp(*SQUARES.start(), *SQUARES.end());
     let (width, height) = (square * columns, square * rows);
     let left = MARGIN + letters(6) + GAP + TICK;
-    // Title, two lines on the grid, a line of names and one of labels.
-    let top = MARGIN + TITLE.line() + 5 * PLAIN.line() + TICK;
+    // Title, two lines on the grid, an empty one, one of names and one of labels.
+    let top = MARGIN + TITLE.line() + 5 * PLAIN.line() + GAP + TICK;
     let legend = left + width + TICK + GAP + letters(6) + MARGIN;
     let plan = Plan { left, top, square, width, height, legend };
 
-    let legend_height = 5 * (SWATCH + GAP) + BAR.1;
-    let below = top + (height + TICK + GAP + 2 * PLAIN.line()).max(legend_height) + PLAIN.line() / 2;
-    let balance = letters(NAMES + AMOUNTS + BETWEEN + COUNT_NAMES + COUNT_NUMBERS);
+    let below_squares = height + TICK + GAP + 2 * PLAIN.line();
+    let below = top + below_squares.max(legend_height(drawing, &plan)) + PLAIN.line();
     let [_, place] = drawing.place();
     let widest = [
-        legend + SWATCH + 2 * GAP + letters(10) - MARGIN,
-        balance,
+        legend - MARGIN + SWATCH + 2 * GAP + letters(WORDS),
+        letters(NAMES + AMOUNTS + BETWEEN + COUNT_NAMES + COUNT_NUMBERS),
         PLAIN.width(&place),
         TITLE.width(&drawing.title),
     ];
     let whole = widest.into_iter().max().unwrap_or(0) + 2 * MARGIN;
 
-    let mut picture = Picture::new(whole, below + 7 * PLAIN.line() + MARGIN);
+    let balance = (1 + drawing.balance.len() - COUNTS) * PLAIN.line();
+    let mut picture = Picture::new(whole, below + balance + MARGIN);
     heading(&mut picture, drawing);
     squares(&mut picture, drawing, &plan);
     scales(&mut picture, drawing, &plan);
@@ -84,32 +89,32 @@ fn squares(picture: &mut Picture, drawing: &Drawing, plan: &Plan) {
     for (row, tiles) in drawing.rows.iter().enumerate() {
         for (column, tile) in tiles.iter().enumerate() {
             let (x, y) = (plan.left + plan.square * column, plan.top + plan.square * row);
-            put(picture, x, y, plan.square, tile, drawing.deepest);
+            put(picture, x, y, plan.square, tile, drawing.darkest);
         }
     }
     picture.frame(plan.left - 1, plan.top - 1, plan.width + 2, plan.height + 2, INK);
 }
 
 /// A square, two of its edges a little darker; the water of an interface cell stands as high in it as it is full.
-fn put(picture: &mut Picture, x: usize, y: usize, square: usize, tile: &Tile, deepest: f32) {
-    let mut plain = |y: usize, height: usize, colour| {
+fn put(picture: &mut Picture, x: usize, y: usize, square: usize, tile: &Tile, darkest: f32) {
+    let line = usize::from(square >= LINED);
+    let mut shaded = |y: usize, height: usize, colour: Colour| {
         picture.fill(x, y, square, height, edge(colour));
-        picture.fill(x + 1, y, square - 1, height, colour);
+        picture.fill(x + line, y, square - line, height, colour);
     };
     let colour = match *tile {
         Tile::Wall => WALL,
         Tile::Empty => EMPTY,
         Tile::Interface(_) => ABOVE_SURFACE,
         Tile::Fluid => FLUID,
-        Tile::Deep(cells) => blue(cells, deepest),
+        Tile::Deep(cells) => blue(cells, darkest),
     };
-    plain(y, square, colour);
-    picture.fill(x, y, square, 1, edge(colour));
+    shaded(y, square, colour);
     if let Tile::Interface(share) = *tile {
         let water = (share * square as f32).round() as usize;
-        picture.fill(x, y + square - water, square, water, edge(SURFACE));
-        picture.fill(x + 1, y + square - water, square - 1, water, SURFACE);
+        shaded(y + square - water, water, SURFACE);
     }
+    picture.fill(x, y, square, line, edge(picture.pixel(x + 1, y).unwrap_or(colour)));
 }
 
 /// Cells below and to the left, metres above and to the right.
@@ -129,12 +134,17 @@ fn scales(picture: &mut Picture, drawing: &Drawing, plan: &Plan) {
         picture.fill(plan.left - TICK, y, TICK, 1, INK);
         picture.ending(plan.left - TICK - GAP, y - middle, &number.to_string(), PLAIN, INK);
     }
-    for (at, label) in scale::marks(plan.width as f64 / metre, plan.width / ALONG) {
+    let mut free = 0;
+    for (at, label) in scale::marks(plan.width as f64 / metre, (plan.width / ALONG).max(1)) {
         let x = plan.left + (at * metre) as usize;
         picture.fill(x.min(right), plan.top - TICK, 1, TICK, INK);
-        picture.centred(x, plan.top - TICK - GAP - PLAIN.capital(), &label, PLAIN, INK);
+        // Over a few cells there may be no room for two labels.
+        if x - PLAIN.width(&label) / 2 > free {
+            picture.centred(x, plan.top - TICK - GAP - PLAIN.capital(), &label, PLAIN, INK);
+            free = x + PLAIN.width(&label) / 2 + GAP;
+        }
     }
-    for (at, label) in scale::marks(plan.height as f64 / metre, plan.height / LABEL) {
+    for (at, label) in scale::marks(plan.height as f64 / metre, (plan.height / LABEL).max(1)) {
         let y = bottom - (at * metre) as usize;
         picture.fill(right, y, TICK, 1, INK);
         picture.text(right + TICK + GAP, y.saturating_sub(middle), &label, PLAIN, INK);
@@ -142,15 +152,16 @@ fn scales(picture: &mut Picture, drawing: &Drawing, plan: &Plan) {
 
     let names = plan.top - TICK - GAP - PLAIN.capital() - PLAIN.line();
     picture.ending(plan.left - TICK - GAP, names, &format!("cell {}", up.name()), PLAIN, PALE_INK);
-    picture.centred(plan.left + plan.width / 2, names, &format!("{} in m", across.name()), PLAIN, PALE_INK);
+    let over = if plan.width < ALONG { names - PLAIN.line() } else { names };
+    picture.centred(plan.left + plan.width / 2, over, &format!("{} in m", across.name()), PLAIN, PALE_INK);
     picture.text(right + TICK + GAP, names, &format!("{} in m", up.name()), PLAIN, PALE_INK);
     let below = bottom + TICK + GAP + PLAIN.line();
     picture.centred(plan.left + plan.width / 2, below, &format!("cell {}", across.name()), PLAIN, PALE_INK);
 }
 
-/// A square and a word for each kind of cell, and a bar of depths.
-fn legends(picture: &mut Picture, drawing: &Drawing, plan: &Plan) {
-    let kinds: &[(Tile, &str)] = match drawing.view {
+/// What is told beside the squares, by view.
+fn kinds(view: View) -> &'static [(Tile, &'static str)] {
+    match view {
         View::Above => &[(Tile::Wall, "solid"), (Tile::Empty, "dry")],
         View::Section(..) => &[
             (Tile::Wall, "wall"),
@@ -158,35 +169,61 @@ fn legends(picture: &mut Picture, drawing: &Drawing, plan: &Plan) {
             (Tile::Interface(0.5), "interface"),
             (Tile::Fluid, "fluid"),
         ],
-    };
-    let mut y = plan.top;
-    let beside = plan.legend + SWATCH + 2 * GAP;
-    for (tile, name) in kinds {
-        put(picture, plan.legend, y, SWATCH, tile, 0.0);
-        picture.frame(plan.legend, y, SWATCH, SWATCH, INK);
-        picture.text(beside, y + (SWATCH - PLAIN.capital()) / 2, name, PLAIN, INK);
-        y += SWATCH + 2 * GAP;
-    }
-    if drawing.deepest > 0.0 {
-        bar(picture, drawing, plan.legend, y + GAP);
     }
 }
 
-/// The blues of the depths from 0 to the deepest.
-fn bar(picture: &mut Picture, drawing: &Drawing, x: usize, y: usize) {
-    let (width, height) = BAR;
-    let deepest = drawing.deepest;
-    picture.text(x, y, "depth", PLAIN, INK);
-    let y = y + PLAIN.line() + PLAIN.capital() / 2;
-    for row in 0..height {
-        let depth = deepest * (row as f32 + 0.5) / height as f32;
-        picture.fill(x, y + row, width, 1, blue(depth, deepest));
+/// Lines above and below the bar of depths.
+const OVER_BAR: usize = 1;
+const UNDER_BAR: usize = 3;
+
+fn kinds_height(drawing: &Drawing) -> usize {
+    kinds(drawing.view).len() * (SWATCH + 2 * GAP)
+}
+
+fn bar_height(drawing: &Drawing, plan: &Plan) -> usize {
+    let others = kinds_height(drawing) + (OVER_BAR + UNDER_BAR + 1) * PLAIN.line();
+    plan.height.saturating_sub(others).clamp(BAR.0, BAR.1)
+}
+
+fn legend_height(drawing: &Drawing, plan: &Plan) -> usize {
+    let bar = bar_height(drawing, plan) + (OVER_BAR + UNDER_BAR + 1) * PLAIN.line();
+    kinds_height(drawing) + if drawing.darkest > 0.0 { bar } else { 0 }
+}
+
+/// A square and a word for each kind of cell, and a bar of depths.
+fn legends(picture: &mut Picture, drawing: &Drawing, plan: &Plan) {
+    let mut y = plan.top;
+    for (tile, name) in kinds(drawing.view) {
+        put(picture, plan.legend, y, SWATCH, tile, 0.0);
+        picture.frame(plan.legend, y, SWATCH, SWATCH, INK);
+        let beside = plan.legend + SWATCH + 2 * GAP;
+        picture.text(beside, y + (SWATCH - PLAIN.capital()) / 2, name, PLAIN, INK);
+        y += SWATCH + 2 * GAP;
     }
-    picture.frame(x, y, width, height, INK);
-    for (at, label) in scale::marks(deepest.into(), 5) {
-        let below = y + (at / f64::from(deepest) * (height - 1) as f64) as usize;
-        picture.fill(x + width, below, TICK, 1, INK);
-        picture.text(x + width + TICK + GAP, below - PLAIN.capital() / 2, &label, PLAIN, INK);
+    if drawing.darkest > 0.0 {
+        bar(picture, drawing, plan, y + PLAIN.line() / 2);
+    }
+}
+
+/// The blues of the depths from 0 to the darkest, and how deep the deepest is.
+fn bar(picture: &mut Picture, drawing: &Drawing, plan: &Plan, top: usize) {
+    let (x, height, darkest) = (plan.legend, bar_height(drawing, plan), drawing.darkest);
+    picture.text(x, top, "cells deep", PLAIN, INK);
+    let y = top + OVER_BAR * PLAIN.line() + PLAIN.capital() / 2;
+    for row in 0..height {
+        picture.fill(x, y + row, SWATCH, 1, blue(darkest * (row as f32 + 0.5) / height as f32, darkest));
+    }
+    picture.frame(x, y, SWATCH, height, INK);
+    for (at, label) in scale::marks(darkest.into(), 5) {
+        let mark = y + (at / f64::from(darkest) * (height - 1) as f64) as usize;
+        picture.fill(x + SWATCH, mark, TICK, 1, INK);
+        picture.text(x + SWATCH + TICK + GAP, mark - PLAIN.capital() / 2, &label, PLAIN, INK);
+    }
+    let deepest = drawing.deepest;
+    let told = ["deepest".into(), format!("{deepest:.2} cells"), drawing.in_millimetres(deepest)];
+    for (line, text) in told.iter().enumerate() {
+        let below = y + height + PLAIN.capital() + GAP + line * PLAIN.line();
+        picture.text(x, below, text, PLAIN, if line == 0 { PALE_INK } else { INK });
     }
 }
 
@@ -203,4 +240,6 @@ fn tables(picture: &mut Picture, drawing: &Drawing, top: usize) {
     };
     table(amounts, 0, NAMES, AMOUNTS);
     table(counts, NAMES + AMOUNTS + BETWEEN, COUNT_NAMES, COUNT_NUMBERS);
+    let sum = top + (TOTAL + 1) * PLAIN.line() - GAP;
+    picture.fill(MARGIN + letters(NAMES), sum, letters(AMOUNTS), 1, PALE_INK);
 }

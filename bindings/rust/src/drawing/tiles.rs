@@ -26,13 +26,13 @@ impl Tile {
     }
 
     /// The letter of the drawing as text: those of examples/sump.txt, and tenths.
-    pub fn letter(&self, deepest: f32) -> char {
+    pub fn letter(&self, darkest: f32) -> char {
         match *self {
             Tile::Wall => '#',
             Tile::Empty => '.',
             Tile::Interface(fill) => tenth(fill),
             Tile::Fluid => 'w',
-            Tile::Deep(cells) => tenth(cells / deepest),
+            Tile::Deep(cells) => tenth(cells / darkest),
         }
     }
 }

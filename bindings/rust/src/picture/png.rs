@@ -1,28 +1,45 @@
-// A picture as the bytes of a PNG file: each row as its difference from the row above, packed by runs alone.
+// A picture as the bytes of a PNG file: by a palette where 256 colours are enough, packed with the fixed codes of RFC 1951.
+
+use std::collections::BTreeSet;
 
 use super::Colour;
 
 const SIGNATURE: &[u8] = b"\x89PNG\r\n\x1a\n";
-/// Eight bits a channel, red, green and blue, the one packing, the one set of filters, not interlaced.
-const KIND: [u8; 5] = [8, 2, 0, 0, 0];
-/// The filter of a row: what it holds is to be added to the row above.
-const UP: u8 = 2;
+/// The kinds of picture: three channels, or a place in the palette, a byte each.
+const CHANNELS: u8 = 2;
+const PALETTE: u8 = 3;
+/// The filter of a row that is as it is.
+const PLAIN: u8 = 0;
 
 /// The file of a picture, its rows from the top; notes are a keyword and a text each, in ASCII.
-pub fn file(width: usize, pixels: &[Colour], notes: &[(&str, &str)]) -> Vec<u8> {
-    let height = pixels.len().checked_div(width).unwrap_or(0);
-    let mut head = Vec::new();
-    for side in [width, height] {
-        head.extend((side as u32).to_be_bytes());
+pub fn file(width: usize, pixels: &[Colour], notes: &[(String, String)]) -> Vec<u8> {
+    let colours: Vec<Colour> = pixels.iter().copied().collect::<BTreeSet<_>>().into_iter().collect();
+    let few = colours.len() <= 256;
+    let mut rows = Vec::new();
+    for row in pixels.chunks_exact(width.max(1)) {
+        rows.push(PLAIN);
+        match few {
+            true => {
+                rows.extend(row.iter().map(|colour| colours.partition_point(|other| other < colour) as u8))
+            }
+            false => rows.extend(row.iter().flatten()),
+        }
     }
-    head.extend(KIND);
+
+    let height = pixels.len().checked_div(width).unwrap_or(0);
+    let mut head = [width, height].map(|side| (side as u32).to_be_bytes()).concat();
+    // Eight bits, the kind, the one packing, the one set of filters, not interlaced.
+    head.extend([8, if few { PALETTE } else { CHANNELS }, 0, 0, 0]);
 
     let mut bytes = SIGNATURE.to_vec();
     chunk(&mut bytes, b"IHDR", &head);
     for (keyword, text) in notes {
         chunk(&mut bytes, b"tEXt", &[keyword.as_bytes(), &[0], text.as_bytes()].concat());
     }
-    chunk(&mut bytes, b"IDAT", &packed(&rows(width, pixels)));
+    if few {
+        chunk(&mut bytes, b"PLTE", colours.as_flattened());
+    }
+    chunk(&mut bytes, b"IDAT", &packed(&rows, rows.len().checked_div(height).unwrap_or(1)));
     chunk(&mut bytes, b"IEND", &[]);
     bytes
 }
@@ -37,35 +54,40 @@ fn chunk(bytes: &mut Vec<u8>, name: &[u8; 4], contents: &[u8]) {
     bytes.extend(check.to_be_bytes());
 }
 
-/// The rows as a PNG has them, each behind its filter; above the first there is black.
-fn rows(width: usize, pixels: &[Colour]) -> Vec<u8> {
-    let mut bytes = Vec::with_capacity(3 * pixels.len() + pixels.len().checked_div(width).unwrap_or(0));
-    let mut above = vec![[0; 3]; width];
-    for row in pixels.chunks_exact(width.max(1)) {
-        bytes.push(UP);
-        for (colour, over) in row.iter().zip(&above) {
-            bytes.extend((0..3).map(|channel| colour[channel].wrapping_sub(over[channel])));
-        }
-        above.copy_from_slice(row);
-    }
-    bytes
-}
+/// What ends a block.
+const END: u32 = 256;
+/// Lengths of a repetition, and how far back it may begin.
+const SHORTEST: usize = 3;
+const LONGEST: usize = 258;
+const FARTHEST: usize = 32_768;
 
-/// The stream of RFC 1950 around one block of RFC 1951 with its fixed codes. Rows that are like the one above are all 0, so that a
-/// byte and "the same again, so many times" are all that is looked for.
-fn packed(bytes: &[u8]) -> Vec<u8> {
+/// The stream of RFC 1950 around one block of RFC 1951: bytes, and repetitions of the byte before, of the row above, or of where the
+/// next bytes were last seen, whichever is longest.
+fn packed(bytes: &[u8], row: usize) -> Vec<u8> {
     let mut bits = Bits { bytes: vec![0x78, 0x01], held: 0, count: 0 };
     bits.put(1, 1); // the last block
     bits.put(1, 2); // with the fixed codes
+    let mut seen = Seen::new();
     let mut at = 0;
     while at < bytes.len() {
-        bits.literal(bytes[at].into());
-        let same = bytes[at + 1..].iter().take(LONGEST).take_while(|&&next| next == bytes[at]).count();
-        at += 1;
-        if same >= SHORTEST {
-            bits.again(same);
-            at += same;
+        let backs = [1, row, at - seen.last(bytes, at).unwrap_or(at)];
+        let backs = backs.into_iter().filter(|&back| 0 < back && back <= at.min(FARTHEST));
+        let alike = |back: usize| {
+            let pairs = bytes[at..].iter().zip(&bytes[at - back..]).take(LONGEST);
+            pairs.take_while(|(one, other)| one == other).count()
+        };
+        let (length, back) = backs.map(|back| (alike(back), back)).max().unwrap_or((0, 0));
+        let taken = if length < SHORTEST {
+            bits.literal(bytes[at].into());
+            1
+        } else {
+            bits.again(length, back);
+            length
+        };
+        for place in at..at + taken {
+            seen.put(bytes, place);
         }
+        at += taken;
     }
     bits.literal(END);
     bits.flush();
@@ -73,11 +95,29 @@ fn packed(bytes: &[u8]) -> Vec<u8> {
     bits.bytes
 }
 
-/// What ends a block.
-const END: u32 = 256;
-/// Lengths of a repetition.
-const SHORTEST: usize = 3;
-const LONGEST: usize = 258;
+/// Where four bytes were last seen; another four may have taken their place.
+struct Seen(Vec<Option<usize>>);
+
+impl Seen {
+    fn new() -> Seen {
+        Seen(vec![None; 1 << 14])
+    }
+
+    fn slot(bytes: &[u8], at: usize) -> Option<usize> {
+        let four = bytes.get(at..at + 4)?.try_into().ok()?;
+        Some((u32::from_le_bytes(four).wrapping_mul(0x9e37_79b1) >> 18) as usize)
+    }
+
+    fn last(&self, bytes: &[u8], at: usize) -> Option<usize> {
+        self.0[Seen::slot(bytes, at)?]
+    }
+
+    fn put(&mut self, bytes: &[u8], at: usize) {
+        if let Some(slot) = Seen::slot(bytes, at) {
+            self.0[slot] = Some(at);
+        }
+    }
+}
 
 /// Bits put one behind the other, from the lowest of each byte on.
 struct Bits {
@@ -118,8 +158,8 @@ impl Bits {
         }
     }
 
-    /// The byte before, so many times more.
-    fn again(&mut self, length: usize) {
+    /// So many bytes as they were so far back.
+    fn again(&mut self, length: usize, back: usize) {
         let over = (length - SHORTEST) as u32;
         if length == LONGEST {
             self.literal(285);
@@ -131,7 +171,15 @@ impl Bits {
             self.literal(257 + 4 * further + (over >> further));
             self.put(over & ((1 << further) - 1), further);
         }
-        self.code(0, 5); // one byte back
+        let over = (back - 1) as u32;
+        if over < 4 {
+            self.code(over, 5);
+        } else {
+            // Two classes to each.
+            let further = over.ilog2() - 1;
+            self.code(2 * further + (over >> further), 5);
+            self.put(over & ((1 << further) - 1), further);
+        }
     }
 }
 

@@ -25,7 +25,7 @@ pub const OUTPUT: Choice = Choice {
     name: "output",
     letter: Some('o'),
     value: Some("FILE"),
-    help: "write there, beside the file first and then in its place; it may be the file that is read",
+    help: "write it there; this may be the file that is read",
 };
 pub const QUIET: Choice =
     Choice { name: "quiet", letter: Some('q'), value: None, help: "say nothing but what is refused" };

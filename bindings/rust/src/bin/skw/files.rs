@@ -121,7 +121,11 @@ impl Place {
     fn of(path: &Path) -> io::Result<Place> {
         match fs::metadata(path) {
             Ok(found) if found.is_dir() => Err(ErrorKind::IsADirectory.into()),
-            Ok(found) if found.is_file() => Ok(Place::Regular(fs::canonicalize(path)?)),
+            Ok(found) if found.is_file() => {
+                // What may not be written is not replaced either.
+                OpenOptions::new().write(true).open(path)?;
+                Ok(Place::Regular(fs::canonicalize(path)?))
+            }
             Ok(_) => Ok(Place::Device),
             // A link to nothing stays a link, and what it names is made.
             Err(error) if error.kind() == ErrorKind::NotFound => match fs::read_link(path) {

@@ -8,10 +8,13 @@ use crate::failure::Failure;
 
 const ABOUT: &str = "skw: water in a grid of cells, by the proved library, to the unit";
 const FILES: &str = "\
-A record is read from FILE, or from standard input where there is none or a dash. A record or picture that comes of it goes to
-standard output, or by -o FILE to a file, which is whole or as it was. What is refused is told on standard error.
+A record is read from FILE, or from standard input where there is none or a dash.
+A record or picture goes to standard output, or with -o to a file, which is then
+whole or as it was. What is refused is told on standard error.
 
-status   0 accepted   1 refused   2 usage   3 a file cannot be read or written   130 interrupted, what was reached is written";
+status  0 accepted          1 refused, by the library
+        2 usage             3 a file cannot be read or written
+        130 interrupted: what was reached is written";
 
 pub fn version() -> String {
     format!("skw {}\n", env!("CARGO_PKG_VERSION"))
@@ -31,15 +34,15 @@ pub fn unknown(word: &OsStr) -> String {
     format!("skw: there is no command '{}'\n{}", word.to_string_lossy(), short())
 }
 
-/// All commands, a line each.
+/// All commands, a line each, with the words that they must have.
 pub fn all() -> String {
-    let widest = COMMANDS.iter().map(|command| command.name.len() + command.usage.len()).max().unwrap_or(0);
     let mut text = format!("{ABOUT}\n\n");
     for command in COMMANDS {
-        let call = format!("{} {}", command.name, command.usage);
-        text += &format!("    skw {call:<width$}   {}\n", command.summary, width = widest + 1);
+        let needed = command.usage.split('[').next().unwrap_or("").trim_end();
+        text += &format!("    skw {:<14} {}\n", format!("{} {needed}", command.name), command.summary);
     }
-    text + "    skw help COMMAND, skw COMMAND --help, skw --version\n\n" + FILES + "\n"
+    text += "\n    skw help COMMAND, skw COMMAND --help, skw --version\n\n";
+    text + FILES + "\n"
 }
 
 /// One command.
@@ -51,7 +54,7 @@ pub fn of(command: &Command) -> String {
     for Choice { name, letter, value, help } in command.choices {
         let letter = letter.map(|letter| format!("-{letter}, ")).unwrap_or_default();
         let value = value.map(|value| format!(" {value}")).unwrap_or_default();
-        text += &format!("    {:<22} {help}\n", format!("{letter}--{name}{value}"));
+        text += &format!("    {:<24} {help}\n", format!("{letter}--{name}{value}"));
     }
     text + "\n" + FILES + "\n"
 }

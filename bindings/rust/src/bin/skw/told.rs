@@ -26,6 +26,9 @@ pub fn in_grid(refusal: Refusal, sides: Sides) -> String {
             format!("refusal {number}: {words}, at {at}, which stands for the carry")
         }
         Place::Cell(at) | Place::CellOrCarry(at) => format!("refusal {number}: {words}, {}", cell(at)),
+        Place::None if number == Refusal::OUTSIDE => {
+            format!("{refusal}: the grid has {} x {} x {} cells", sides.nx, sides.ny, sides.nz)
+        }
         _ => refusal.to_string(),
     }
 }
@@ -37,7 +40,7 @@ pub fn in_record(refusal: Refusal, record: &[u8]) -> String {
         Place::Byte(byte) => match numbers.section_from(byte) {
             Some(section) => {
                 let rest = record.len().saturating_sub(byte);
-                format!(": {} begins there and is not whole, as {rest} bytes follow", named(section))
+                format!(": {} begins there and is not whole, {rest} bytes being left", named(section))
             }
             None => ": the record should end there, and does not".to_string(),
         },

@@ -9,13 +9,14 @@ use crate::{files, records};
 
 pub const COMMAND: Command = Command {
     name: "check",
-    usage: "[FILE]",
+    usage: "[FILE] [-q]",
     summary: "whether a record is accepted; if so, its sides and settings",
     help: "\
-Reads a record, which the library tests to the last byte, and tells its sides and settings. A refused one is told by number and place.
+Reads a record, which the library tests to the last byte, and tells its sides
+and settings. What is refused is told by number and place.
 
-    skw check sump.rec                  accepted, or why not
-    skw check -q sump.rec && echo good  by the status alone",
+    skw check sump.rec
+    skw check -q sump.rec && echo good      by the status alone",
     choices: &[QUIET],
     act,
 };

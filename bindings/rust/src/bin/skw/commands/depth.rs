@@ -13,9 +13,11 @@ pub const COMMAND: Command = Command {
     usage: "X Y [FILE]",
     summary: "the depth of the water in column X Y",
     help: "\
-Tells whether column X Y is solid, dry or how deep its water is, in cells (exactly as 65,536ths) and in millimetres.
+Tells whether column X Y is solid or dry or how deep its water is: in cells, as
+65,536ths, which is exact, and in millimetres.
 
-    skw depth 20 3 sump.rec",
+    skw depth 20 3 sump.rec
+    2.5000 cells, 163840/65536, 125.0 mm",
     choices: &[],
     act,
 };

@@ -12,7 +12,7 @@ const SECTION: Choice = Choice {
     name: "section",
     letter: Some('s'),
     value: Some("AXIS=N"),
-    help: "the cells with number N along x, y or z, in place of the depths from above",
+    help: "the cells with number N along x, y or z",
 };
 const TEXT: Choice = Choice {
     name: "text",
@@ -24,16 +24,17 @@ const DEEPEST: Choice = Choice {
     name: "deepest",
     letter: None,
     value: Some("CELLS"),
-    help: "the depth that is darkest, so that pictures can be compared",
+    help: "the depth that is darkest, to compare pictures",
 };
 
 pub const COMMAND: Command = Command {
     name: "draw",
-    usage: "[FILE] [-o FILE] [-s AXIS=N] [--text]",
+    usage: "[FILE] [-o FILE] [-s AXIS=N] [-t]",
     summary: "a picture (PNG): depths from above, or a section",
     help: "\
-Draws the depth of every column from above, or the cells of a section by kind and fill, with legend, scale and the water balance to
-the unit: as a PNG file, or as text.
+Draws the depth of every column from above, or the cells of a section by kind
+and fill, with legend, scale and the water balance to the unit: as a PNG file, or
+as text.
 
     skw draw sump.rec -o sump.png
     skw draw sump.rec -s y=3 -o section.png

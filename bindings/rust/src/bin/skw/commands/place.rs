@@ -12,9 +12,11 @@ pub const COMMAND: Command = Command {
     usage: "X Y Z [FILE]",
     summary: "the cell that holds a survey point in millimetres",
     help: "\
-Answers the number of the cell that holds the survey point, and where in the grid it lies. Coordinates are whole millimetres.
+Answers the number of the cell that holds the survey point, and where in the
+grid that cell lies. Coordinates are whole millimetres.
 
-    skw place 5200000149 5400000000 118050 sump.rec   cell 34: x 2, y 0, z 1",
+    skw place 5200000149 5400000000 118050 sump.rec
+    cell 194: x 2, y 0, z 1",
     choices: &[],
     act,
 };

@@ -11,11 +11,12 @@ use crate::{files, records};
 pub const COMMAND: Command = Command {
     name: "point",
     usage: "C [FILE]",
-    summary: "the kind, centre, fill and water of cell C",
+    summary: "where cell C lies, its kind, fill and water",
     help: "\
-Tells of cell C where it lies, what it is, its centre in cells from the grid's corner, its fill and its water.
+Tells where cell C lies, what it is, its centre in cells from the grid's corner,
+its fill and its water.
 
-    skw point 34 sump.rec",
+    skw point 194 sump.rec",
     choices: &[],
     act,
 };

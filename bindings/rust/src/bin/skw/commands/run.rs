@@ -16,13 +16,17 @@ pub const COMMAND: Command = Command {
     usage: "K [FILE] [-o FILE] [-q]",
     summary: "make K steps, any number of them",
     help: "\
-Makes K steps with the record's own settings and writes the record of the state reached. Where a step is refused (7 or 8) that is the
-state before it: it is written, count and refusal are told, and the status is 1. Ctrl-C ends the run after the steps under way: the
-state reached is written, the count is told, and the status is 130; a second one ends it at once and writes nothing. On a terminal a
-line shows the steps made, their rate and the time left.
+Makes K steps with the record's own settings and writes the record of the state
+reached. Where a step is refused (7 or 8) that is the state before it: it is
+written, count and refusal are told, and the status is 1.
+
+Ctrl-C ends the run after the steps under way: the state reached is written, the
+count is told, and the status is 130. A second one ends it at once, and the file
+is as it was. On a terminal a line shows the steps made, their rate and the time
+left.
 
     skw run 100000 sump.rec -o later.rec
-    skw run 100000 sump.rec -o sump.rec   from the state that it left
+    skw run 100000 sump.rec -o sump.rec     and so on from there
     skw run 500 < sump.rec | skw draw -o later.png",
     choices: &[OUTPUT, QUIET],
     act,

@@ -9,7 +9,8 @@ pub const COMMAND: Command = Command {
     usage: "[FILE] [-o FILE] [-q]",
     summary: "make one step with the record's own settings",
     help: "\
-Makes one step and writes the record of the state reached. A refused step (7 or 8) leaves the state as it was: it is written, the
+Makes one step with the record's own settings and writes the record of the state
+reached. A refused step (7 or 8) leaves the state as it was: that is written, the
 refusal is told, and the status is 1.
 
     skw step sump.rec -o next.rec

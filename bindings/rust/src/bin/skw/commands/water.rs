@@ -12,11 +12,12 @@ pub const COMMAND: Command = Command {
     usage: "[FILE]",
     summary: "the water balance, to the unit and in litres",
     help: "\
-Counts fluid, interface, empty and wall cells, and the water in fluid cells, in interface cells and in the carry: together the
-total, which no step changes by one unit. Litres are by the cell's edge, to the nearest millilitre.
+Counts the cells of each kind, and the water in fluid cells, in interface cells
+and in the carry: together the total, which no step changes by one unit. Litres
+are by the edge of a cell, to the nearest millilitre.
 
     skw water sump.rec
-    skw run 1000 sump.rec | skw water   the same total",
+    skw run 1000 sump.rec | skw water       the same total",
     choices: &[],
     act,
 };

@@ -10,11 +10,12 @@ pub const COMMAND: Command = Command {
     usage: "[FILE] [-o FILE]",
     summary: "read a record and write it back: the same bytes",
     help: "\
-Reads a record and writes what was read. An accepted record comes back as the same bytes, and a refused one not at all, so that what
-lies behind this in a pipe gets whole records only.
+Reads a record and writes what was read. An accepted record comes back as the
+same bytes and a refused one not at all, so that what lies behind this in a pipe
+gets whole records only.
 
     skw write sump.rec | cmp - sump.rec
-    fetch-record | skw write -o sump.rec   only if it is accepted",
+    skw write arriving.rec -o sump.rec      only if it is accepted",
     choices: &[OUTPUT],
     act,
 };
