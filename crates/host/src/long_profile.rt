@@ -35,7 +35,11 @@ pub extern "C" fn skw_profile(
         y: oy,
         z: oz,
     };
-    let f = Frame { sides, edge, origin };
+    let f = Frame {
+        sides,
+        edge,
+        origin,
+    };
     let a = asking::profile(f, flags, fills, chainages, points, kinds, depths);
     *wet = answers::wet(a);
     *deepest = answers::deepest(a);
