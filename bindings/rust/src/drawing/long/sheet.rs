@@ -22,8 +22,9 @@ const UP: usize = 44;
 const HEIGHT_NAME: &str = "height/m";
 /// A square of the legend.
 const SWATCH: usize = 26;
-/// Points closer than this are drawn without their dots.
+/// Points closer than this are drawn without their dots, and closer than that without their ticks.
 const APART: usize = 9;
+const CROWDED: usize = 4;
 
 const GROUND: Colour = WALL;
 const WATER: Colour = [112, 176, 222];
@@ -164,11 +165,11 @@ fn heading(profile: &LongProfile, plan: &Plan) -> [String; 2] {
     let kinds = kinds.into_iter().filter(|(_, count)| *count > 0);
     let kinds: Vec<String> = kinds.map(|(name, count)| format!("{} {name}", counted(count))).collect();
     let (from, to) = (thousandths(plan.chainages.0), thousandths(plan.chainages.1));
-    let many = if points == 1 { "point" } else { "points" };
-    [
-        format!("{} {many} from {from} m to {to} m: {}", counted(points), kinds.join(", ")),
-        profile.deepest_line(),
-    ]
+    let list = match points {
+        1 => format!("1 point at {from} m"),
+        _ => format!("{} points from {from} m to {to} m", counted(points)),
+    };
+    [format!("{list}: {}", kinds.join(", ")), profile.deepest_line()]
 }
 
 /// Light lines at the marks of both scales.
@@ -252,13 +253,15 @@ fn stripes(picture: &mut Picture, x: usize, plan: &Plan, ground: Colour, stripe:
     }
 }
 
-/// A dot at the invert for each point, and a tick at the foot of the plot; where points are close, ticks alone.
+/// A dot at the invert for each point, and a tick at the foot of the plot, where there is room for them.
 fn dots(picture: &mut Picture, profile: &LongProfile, plan: &Plan) {
     let places: Vec<usize> = profile.spots.iter().map(|spot| plan.x(spot.chainage)).collect();
-    let close = places.windows(2).any(|pair| pair[1] < pair[0] + APART);
+    let nearest = places.windows(2).map(|pair| pair[1] - pair[0]).min().unwrap_or(WIDTH);
     for (spot, x) in profile.spots.iter().zip(places) {
-        picture.fill(x, plan.bottom() - TICK, 1, TICK, INK);
-        if let (Some(invert), false) = (spot.invert, close) {
+        if nearest >= CROWDED {
+            picture.fill(x, plan.bottom() - TICK, 1, TICK, INK);
+        }
+        if let (Some(invert), true) = (spot.invert, nearest >= APART) {
             let y = plan.y(invert as f64);
             picture.fill(x.saturating_sub(3), y.saturating_sub(2), 7, 7, INK);
             picture.fill(x.saturating_sub(2), y.saturating_sub(1), 5, 5, WHITE);
