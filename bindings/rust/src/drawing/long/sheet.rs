@@ -51,7 +51,8 @@ struct Plan {
     left: usize,
     top: usize,
     chainages: (i64, i64),
-    heights: (i64, i64),
+    /// None where no point has an invert.
+    heights: Option<(i64, i64)>,
 }
 
 impl Plan {
@@ -61,10 +62,9 @@ impl Plan {
         let open = || profile.spots.iter().filter_map(|spot| level(spot, profile.edge));
         let low = open().map(|(invert, _)| invert).fold(f64::INFINITY, f64::min);
         let high = open().map(|(_, water)| water).fold(f64::NEG_INFINITY, f64::max);
-        // Room below the invert for the ground, above the water for the label of the deepest; none of it open: a metre.
-        let (low, high) = if low <= high { (low, high) } else { (0.0, 1000.0) };
+        // Room below the invert for the ground, above the water for the label of the deepest.
         let height = (high - low).max(profile.edge as f64);
-        let heights = ((low - 0.18 * height) as i64, (high + 0.32 * height) as i64);
+        let heights = (low <= high).then(|| ((low - 0.18 * height) as i64, (high + 0.32 * height) as i64));
         let labels = height_marks(heights).into_iter().map(|(_, label)| PLAIN.width(&label));
         Plan {
             left: MARGIN + labels.max().unwrap_or(0).max(PLAIN.width(HEIGHT_NAME)) + GAP + TICK,
@@ -95,15 +95,20 @@ impl Plan {
 
     /// The pixel of a height.
     fn y(&self, height: f64) -> usize {
-        let (low, high) = self.heights;
+        let (low, high) = self.heights.unwrap_or((0, 1));
         let share = (height - low as f64) / (high - low).max(1) as f64;
         self.bottom() - 1 - (share.clamp(0.0, 1.0) * (HEIGHT - 1) as f64).round() as usize
     }
 
-    /// How many times larger heights are drawn than lengths.
-    fn raised(&self) -> Option<f64> {
-        let height = (self.heights.1 - self.heights.0) as f64;
-        (self.length() > 0.0).then(|| self.length() / WIDTH as f64 * HEIGHT as f64 / height)
+    /// How heights are drawn beside lengths.
+    fn raised(&self) -> Option<String> {
+        let (low, high) = self.heights?;
+        let raised = self.length() / WIDTH as f64 * HEIGHT as f64 / (high - low) as f64;
+        match raised {
+            _ if self.length() == 0.0 => None,
+            _ if raised >= 1.0 => Some(format!("heights drawn {raised:.1} times larger")),
+            _ => Some(format!("lengths drawn {:.1} times larger", 1.0 / raised)),
+        }
     }
 }
 
@@ -182,8 +187,8 @@ fn rules(picture: &mut Picture, plan: &Plan) {
     }
 }
 
-fn height_marks((low, high): (i64, i64)) -> Vec<(i64, String)> {
-    scale::between(low, high, HEIGHT / UP)
+fn height_marks(heights: Option<(i64, i64)>) -> Vec<(i64, String)> {
+    heights.map_or(Vec::new(), |(low, high)| scale::between(low, high, HEIGHT / UP))
 }
 
 /// As many as have room for their labels.
@@ -283,11 +288,13 @@ fn scales(picture: &mut Picture, plan: &Plan) {
         picture.fill(x, plan.bottom(), 1, TICK, INK);
         picture.centred(x, foot, &label, PLAIN, INK);
     }
-    picture.ending(plan.left - TICK - GAP, plan.top - PLAIN.line() - GAP, HEIGHT_NAME, PLAIN, PALE_INK);
+    if plan.heights.is_some() {
+        let above = plan.top - PLAIN.line() - GAP;
+        picture.ending(plan.left - TICK - GAP, above, HEIGHT_NAME, PLAIN, PALE_INK);
+    }
     let names = foot + PLAIN.line() + GAP;
     picture.centred(plan.left + WIDTH / 2, names, "chainage in m", PLAIN, PALE_INK);
-    if let Some(raised) = plan.raised() {
-        let text = format!("heights drawn {raised:.1} times larger");
+    if let Some(text) = plan.raised() {
         picture.ending(plan.right(), plan.top - PLAIN.line() - GAP, &text, PLAIN, PALE_INK);
     }
 }
@@ -317,7 +324,7 @@ fn legend(picture: &mut Picture, profile: &LongProfile, plan: &Plan, top: usize)
     let [_, deep, _, solid, outside] = profile.counts().map(|(_, count)| count > 0);
     let kinds = [
         (deep, "water", WATER, WATER),
-        (true, "invert", GROUND, GROUND),
+        (plan.heights.is_some(), "invert", GROUND, GROUND),
         (solid, "solid", GROUND, SOLID_STRIPE),
         (outside, "outside", OUTSIDE, STRIPE),
         (profile.deepest.is_some(), "deepest", DEEPEST, DEEPEST),
