@@ -93,6 +93,20 @@ fn every_list_can_be_drawn() {
 }
 
 #[test]
+fn a_dry_invert_of_one_millimetre_at_height_0() {
+    let site = Site { edge: 1, origin: Point::new(0, 0, -1) };
+    let stations: Vec<Station> =
+        (0..38).map(|i| Station { chainage: i, point: Point::new(1 + i, 1, 0) }).collect();
+    let profile = LongProfile::new(&trough(false), site, &stations).unwrap();
+    assert!(!columns(&profile.picture(), GROUND, PLOT).is_empty());
+    assert!(
+        profile.text().contains("     0            0.000            0.000        dry\n"),
+        "{}",
+        profile.text()
+    );
+}
+
+#[test]
 fn heights_at_the_ends_of_the_range() {
     let grid = trough(true);
     for z in [-10_000_000_000, 10_000_000_000 - 6_000] {

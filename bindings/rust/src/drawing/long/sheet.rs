@@ -64,7 +64,8 @@ impl Plan {
         let high = open().map(|(_, water)| water).fold(f64::NEG_INFINITY, f64::max);
         // Room below the invert for the ground, above the water for the label of the deepest.
         let height = (high - low).max(profile.edge as f64);
-        let heights = (low <= high).then(|| ((low - 0.18 * height) as i64, (high + 0.32 * height) as i64));
+        let heights = (low <= high)
+            .then(|| ((low - 0.18 * height).floor() as i64, (high + 0.32 * height).ceil() as i64));
         let labels = height_marks(heights).into_iter().map(|(_, label)| PLAIN.width(&label));
         Plan {
             left: MARGIN + labels.max().unwrap_or(0).max(PLAIN.width(HEIGHT_NAME)) + GAP + TICK,
