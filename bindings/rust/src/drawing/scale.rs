@@ -14,7 +14,7 @@ fn steps() -> impl Iterator<Item = f64> {
 pub fn marks(end: f64, most: usize) -> Vec<Mark> {
     let fits = |step: &f64| end / step <= most as f64;
     let step = steps().find(fits).unwrap_or(end);
-    let decimals = (0.001 - step.log10()).ceil().max(0.0) as usize;
+    let decimals = (-step.log10() - 0.001).ceil().max(0.0) as usize;
     // A little more than the end, so that rounding does not lose the last.
     let count = (end / step * (1.0 + 1e-9)) as usize;
     (0..=count).map(|k| (k as f64 * step, format!("{:.decimals$}", k as f64 * step))).collect()

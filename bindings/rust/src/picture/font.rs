@@ -1,5 +1,7 @@
 // The letters of pictures: the printable characters of ASCII as a sheet that one can read here, five dots wide and nine high.
 
+use std::sync::OnceLock;
+
 /// Dots of a letter, of the step from letter to letter, and of the rows above the baseline.
 pub const WIDTH: usize = 5;
 pub const ADVANCE: usize = 6;
@@ -8,7 +10,7 @@ pub const CAPITAL: usize = 7;
 
 /// Letters in a row of the sheet, from the space on.
 const ROW: usize = 16;
-/// Lines from one row of the sheet to the next, and bytes from one line to the next.
+/// Lines from one row of the sheet to the next.
 const BAND: usize = HEIGHT + 1;
 
 /// Whether a letter has a dot at column x of row y. What is not in the sheet is drawn as a question mark.
@@ -17,8 +19,14 @@ pub fn dot(letter: char, x: usize, y: usize) -> bool {
         ' '..='~' => letter as usize - ' ' as usize,
         _ => '?' as usize - ' ' as usize,
     };
-    let line = SHEET.lines().nth(1 + BAND * (place / ROW) + y).unwrap_or("");
+    let line = lines().get(1 + BAND * (place / ROW) + y).copied().unwrap_or("");
     x < WIDTH && y < HEIGHT && line.as_bytes().get(ADVANCE * (place % ROW) + x) == Some(&b'#')
+}
+
+/// The sheet's lines, looked for once.
+fn lines() -> &'static [&'static str] {
+    static LINES: OnceLock<Vec<&str>> = OnceLock::new();
+    LINES.get_or_init(|| SHEET.lines().collect())
 }
 
 const SHEET: &str = "
