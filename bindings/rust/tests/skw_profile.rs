@@ -1,6 +1,7 @@
 // skw profile: what it prints and draws of good lists and records, and what it says of those that cannot be read or are refused.
 
 use std::ffi::OsStr;
+use std::fs::File;
 use std::path::{Path, PathBuf};
 use std::process::{id, Command, Output, Stdio};
 use std::{env, fs};
@@ -201,6 +202,33 @@ fn files_and_words_that_are_not_there() {
         assert!(text(&said.stderr).contains(why), "{words:?}: {}", text(&said.stderr));
         assert_eq!(text(&said.stdout), "");
     }
+}
+
+#[test]
+fn the_record_may_come_from_standard_input() {
+    let folder = Folder::new("input");
+    let by_file = folder.profile(LIST, &[]);
+    let given = |words: &[&str]| {
+        let mut command = Command::new(env!("CARGO_BIN_EXE_skw"));
+        let record = File::open(folder.path("gutter.rec")).unwrap();
+        command.current_dir(&folder.0).args(words).stdin(record).output().unwrap()
+    };
+    assert_eq!(given(&["profile", "list"]), by_file);
+    assert_eq!(given(&["profile", "list", "-"]), by_file);
+    // A list where the record should be.
+    let turned = given(&["profile", "gutter.rec", "list"]);
+    assert_eq!((turned.status.code(), text(&turned.stdout)), (Some(2), ""));
+}
+
+#[test]
+fn help_says_what_a_list_is() {
+    let folder = Folder::new("help");
+    let help = skw(&folder.0, ["profile", "--help"].map(OsStr::new).to_vec());
+    let all = skw(&folder.0, vec![OsStr::new("help")]);
+    assert!(text(&all.stdout).contains("    skw profile POINTS"));
+    assert!(text(&help.stdout).contains("chainage, x, y and z in whole millimetres"));
+    // As wide as a terminal is.
+    assert!(text(&help.stdout).lines().chain(text(&all.stdout).lines()).all(|line| line.len() <= 82));
 }
 
 #[test]

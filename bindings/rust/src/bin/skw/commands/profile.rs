@@ -13,19 +13,21 @@ const PICTURE: Choice = Choice {
     name: "picture",
     letter: Some('p'),
     value: Some("FILE"),
-    help: "draw the profile there too (PNG): the invert, the water on it, the deepest point",
+    help: "draw it there too, as a PNG file",
 };
 
 pub const COMMAND: Command = Command {
     name: "profile",
     usage: "POINTS [FILE] [-p PICTURE]",
-    summary: "a long profile: the depth at each point of a list, and the deepest",
+    summary: "the depth along a list of points, and the deepest",
     help: "\
-Tells for each survey point of the list POINTS whether it lies outside the grid, in a solid or a dry column, or how deep the water
-is there, in millimetres and in cells (exactly, as 65,536ths); then the deepest point, the first among equals.
+Tells for each survey point of the list POINTS whether it is outside the grid, in
+a solid or a dry column, or how deep the water is there: in millimetres, and in
+cells as 65,536ths, which is exact. Then the deepest, the first among equals.
 
-A line of the list is a point: chainage, x, y and z in whole millimetres, parted by blanks. Chainages rise. Blank lines, and what
-stands behind a #, are passed over. A line that cannot be read is told by its number, with status 2.
+A line of the list is a point: chainage, x, y and z in whole millimetres, parted
+by blanks. Chainages rise. Blank lines, and what stands behind a #, are passed
+over. A line that cannot be read is told by its number, with status 2.
 
     skw profile gutter.points gutter.rec
     skw profile gutter.points gutter.rec -p gutter.png",
