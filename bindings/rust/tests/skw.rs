@@ -230,7 +230,16 @@ fn a_file_is_answered_as_standard_input_is() {
             if words[0] != "draw" {
                 assert_eq!(by_input.out, by_file.out, "{words:?}");
             }
+            let output = folder.path("output");
+            let into_file = fed(&[&quiet[..], &["-o", &output]].concat(), &bytes);
+            assert_eq!((into_file.status, &into_file.out[..]), (by_input.status, &[][..]), "{words:?}");
+            // The record of a refused step is written too, what else is refused is not.
+            if !by_input.out.is_empty() {
+                assert_eq!(fs::read(&output).unwrap(), by_input.out, "{words:?}");
+                fs::remove_file(&output).unwrap();
+            }
             assert_eq!(fs::read(&file).unwrap(), bytes);
+            assert_eq!(folder.names(), ["record"]);
         }
     }
 }
@@ -245,10 +254,7 @@ fn damaged_records_are_refused_by_every_command() {
         numbers.push(refusal.number);
         let output = folder.path("output");
         for words in CALLS {
-            let mut words = words.to_vec();
-            if ["step", "run", "write", "draw"].contains(&words[0]) {
-                words.extend(["-o", &output]);
-            }
+            let words = [words, &["-o", &output]].concat();
             let called = fed(&words, &bytes);
             assert_eq!((called.status, &called.out[..]), (Some(1), &[][..]), "{words:?} {}", called.err);
             let told =
@@ -383,10 +389,17 @@ fn a_file_is_whole_or_as_it_was() {
     assert_eq!(fed(&["write", "-o", &dangling], CASE_T).status, Some(0));
     assert_eq!(fs::read(folder.path("made")).unwrap(), CASE_T);
 
+    // It is not written over but replaced: by another name the old one can still be read.
+    let old = folder.path("old");
+    fs::hard_link(&file, &old).unwrap();
+    assert_eq!(called(&["step", &file, "-o", &file, "-q"]).status, Some(0));
+    assert_eq!(fs::read(&file).unwrap(), advanced(CASE_T, 8));
+    assert_eq!(fs::read(&old).unwrap(), advanced(CASE_T, 7));
+
     // A refused record leaves what stands there.
     assert_eq!(fed(&["write", "-o", &file], &CASE_T[1..]).status, Some(1));
-    assert_eq!(fs::read(&file).unwrap(), advanced(CASE_T, 7));
-    assert_eq!(folder.names(), ["dangling", "link", "made", "record"]);
+    assert_eq!(fs::read(&file).unwrap(), advanced(CASE_T, 8));
+    assert_eq!(folder.names(), ["dangling", "link", "made", "old", "record"]);
 
     // What is no file is written to and stays what it is.
     assert_eq!(fed(&["draw", "-o", "/dev/null"], CASE_T).status, Some(0));
@@ -409,9 +422,18 @@ fn what_cannot_be_read_or_written_is_told() {
         assert_eq!((called.status, &called.out[..]), (Some(3), &[][..]), "{words:?}");
         assert!(called.err.starts_with(&told) && called.err.lines().count() == 1, "{}", called.err);
     }
-    // Before the work, so that no work is lost: of these steps none could be made in time.
-    let called = called(&["run", &u64::MAX.to_string(), &good, "-o", &nowhere]);
-    assert_eq!(called.status, Some(3));
+    // Before the work, so that no work is lost: these steps would never be made.
+    let mut child = started(&["run", &u64::MAX.to_string(), &good, "-o", &nowhere]);
+    let mut status = None;
+    for _ in 0..600 {
+        status = child.try_wait().unwrap();
+        if status.is_some() {
+            break;
+        }
+        sleep(Duration::from_millis(100));
+    }
+    let _ = child.kill();
+    assert_eq!(status.expect("it runs first").code(), Some(3));
     assert_eq!(folder.names(), ["good"]);
 }
 
@@ -489,8 +511,9 @@ fn an_interrupted_run_leaves_a_whole_record() {
     };
     let bytes = scenes::good((0..500).find(lasting).expect("no scene lasts")).record();
     let record = folder.put("record", &bytes);
-    for (number, name) in [(INTERRUPT, "interrupted: "), (TERMINATE, "interrupted: ")] {
+    for number in [INTERRUPT, TERMINATE] {
         // Where the machine is so busy that the run had not yet begun, it is cut off as any command, and nothing is written.
+        let mut reached = false;
         for wait in [300, 1000, 3000, 10_000] {
             let (child, output) = cut_off(&folder, &record, number, Duration::from_millis(wait));
             let output_of = child.wait_with_output().unwrap();
@@ -500,14 +523,16 @@ fn an_interrupted_run_leaves_a_whole_record() {
             }
             let err = String::from_utf8(output_of.stderr).unwrap();
             assert_eq!(output_of.status.code(), Some(128 + number), "{err}");
-            let told = err.strip_prefix("skw run: ").and_then(|rest| rest.strip_prefix(name)).unwrap();
+            let told = err.strip_prefix("skw run: interrupted: ").unwrap();
             let count: u64 = told.split(" of ").next().unwrap().replace(',', "").parse().unwrap();
             assert!(count > 0 && told.ends_with(&format!("the state reached is in {output}\n")), "{err}");
             assert_eq!(fs::read(&output).unwrap(), advanced(&bytes, count));
             assert_eq!(folder.names(), ["output", "record"]);
             fs::remove_file(&output).unwrap();
+            reached = true;
             break;
         }
+        assert!(reached, "signal {number} is not heeded");
     }
     // Killed outright there is no last word, and the file is as it was.
     fs::copy(&record, folder.path("output")).unwrap();

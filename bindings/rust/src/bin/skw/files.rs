@@ -74,7 +74,8 @@ impl Output {
     pub fn ready(&self) -> Result<(), Failure> {
         let Output::File(path) = self else { return Ok(()) };
         let tried = Place::of(path).and_then(|place| match place {
-            Place::Device => OpenOptions::new().write(true).open(path).map(drop),
+            // To open a pipe and close it again would be its end.
+            Place::Device => Ok(()),
             Place::Regular(file) => {
                 let beside = beside(&file);
                 OpenOptions::new().write(true).create_new(true).open(&beside)?;
@@ -99,6 +100,10 @@ impl Output {
         put.map_err(|error| self.trouble(error))
     }
 
+    pub fn print(&self, text: &str) -> Result<(), Failure> {
+        self.put(text.as_bytes())
+    }
+
     fn trouble(&self, error: io::Error) -> Failure {
         Failure::Trouble(format!("{} cannot be written: {error}", self.name()))
     }
@@ -106,7 +111,7 @@ impl Output {
 
 /// Text on standard output.
 pub fn print(text: &str) -> Result<(), Failure> {
-    Output::Standard.put(text.as_bytes())
+    Output::Standard.print(text)
 }
 
 /// What stands, or is to stand, where a result goes.

@@ -5,7 +5,7 @@ use std::time::{Duration, Instant};
 
 use skwarzyna::spelling::grouped;
 
-/// Runs that are shorter than this show nothing; the line is written anew after as long again.
+/// Runs that are shorter than the first show nothing; the line is written anew after the second.
 const FIRST: Duration = Duration::from_millis(500);
 const NEXT: Duration = Duration::from_millis(200);
 
@@ -56,22 +56,10 @@ impl Progress {
 
 fn line(made: u64, steps: u64, seconds: f64) -> String {
     let rate = made as f64 / seconds;
-    let left = (steps - made) as f64 / rate;
     let percent = made as f64 / steps.max(1) as f64 * 100.0;
-    format!(
-        "{} of {} steps ({percent:.0} %), {} left",
-        grouped(made),
-        grouped(steps),
-        format!("{} steps/s, {}", rated(rate), lasting(left))
-    )
-}
-
-pub fn rated(rate: f64) -> String {
-    if rate < 10.0 {
-        format!("{rate:.1}")
-    } else {
-        grouped(rate as u64)
-    }
+    let rated = if rate < 10.0 { format!("{rate:.1}") } else { grouped(rate as u64) };
+    let left = lasting((steps - made) as f64 / rate);
+    format!("{} of {} steps ({percent:.0} %), {rated} steps/s, {left} left", grouped(made), grouped(steps))
 }
 
 /// A time in its two largest units.

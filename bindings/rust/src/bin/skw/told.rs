@@ -49,11 +49,11 @@ pub fn in_record(refusal: Refusal, record: &[u8]) -> String {
             None => String::new(),
         },
         Place::None => match refusal.number {
-            Refusal::SIDES => format!(": its sides are {}", numbers.list(1, "x")),
+            Refusal::SIDES => format!(": its sides are {}", numbers.list(1, " x ")),
             Refusal::SETTING => format!(
                 ": its p, gravity and edge are {}, its origin is {}",
-                numbers.list(2, ","),
-                numbers.list(3, ",")
+                numbers.list(2, ", "),
+                numbers.list(3, ", ")
             ),
             _ => String::new(),
         },
@@ -108,8 +108,7 @@ impl Numbers<'_> {
             (_, &[a, b, c, d]) => i32::from_le_bytes([a, b, c, d]).to_string(),
             (_, bytes) => i64::from_le_bytes(bytes.try_into().unwrap_or([0; 8])).to_string(),
         });
-        let between = if between == "x" { " x ".into() } else { format!("{between} ") };
-        spelled.collect::<Vec<_>>().join(&between)
+        spelled.collect::<Vec<_>>().join(between)
     }
 
     fn sides(&self) -> Option<Sides> {

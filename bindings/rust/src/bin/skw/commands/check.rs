@@ -3,13 +3,13 @@
 use skwarzyna::spelling::{counted, thousandths};
 
 use super::Command;
-use crate::arguments::{Arguments, QUIET};
+use crate::arguments::{Arguments, OUTPUT, QUIET};
 use crate::failure::Failure;
-use crate::{files, records};
+use crate::records;
 
 pub const COMMAND: Command = Command {
     name: "check",
-    usage: "[FILE] [-q]",
+    usage: "[FILE] [-o FILE] [-q]",
     summary: "whether a record is accepted; if so, its sides and settings",
     help: "\
 Reads a record, which the library tests to the last byte, and tells its sides
@@ -17,13 +17,14 @@ and settings. What is refused is told by number and place.
 
     skw check sump.rec
     skw check -q sump.rec && echo good      by the status alone",
-    choices: &[QUIET],
+    choices: &[OUTPUT, QUIET],
     act,
 };
 
 fn act(mut arguments: Arguments) -> Result<(), Failure> {
     let quiet = arguments.has(&QUIET);
-    let (record, bytes) = records::read(&arguments.input()?)?;
+    let (input, output) = (arguments.input()?, arguments.output(false)?);
+    let (record, bytes) = records::read(&input)?;
     let check = record.grid.check();
     check.map_err(|refusal| records::refused(&record, refusal))?;
     if quiet {
@@ -31,7 +32,7 @@ fn act(mut arguments: Arguments) -> Result<(), Failure> {
     }
     let (sides, settings, site) = (record.grid.sides(), record.settings, record.site);
     let [x, y, z] = [site.origin.x, site.origin.y, site.origin.z].map(thousandths);
-    files::print(&format!(
+    output.print(&format!(
         "accepted: a good state in {} bytes\n\
          sides    {} x {} x {}, {} cells\n\
          edge     {} mm\n\

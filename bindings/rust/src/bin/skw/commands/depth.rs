@@ -4,13 +4,13 @@ use skwarzyna::spelling::grouped;
 use skwarzyna::{Depth, FULL};
 
 use super::Command;
-use crate::arguments::Arguments;
+use crate::arguments::{Arguments, OUTPUT};
 use crate::failure::Failure;
-use crate::{files, records};
+use crate::records;
 
 pub const COMMAND: Command = Command {
     name: "depth",
-    usage: "X Y [FILE]",
+    usage: "X Y [FILE] [-o FILE]",
     summary: "the depth of the water in column X Y",
     help: "\
 Tells whether column X Y is solid or dry or how deep its water is: in cells, as
@@ -18,15 +18,16 @@ Tells whether column X Y is solid or dry or how deep its water is: in cells, as
 
     skw depth 20 3 sump.rec
     2.5000 cells, 163840/65536, 125.0 mm",
-    choices: &[],
+    choices: &[OUTPUT],
     act,
 };
 
 fn act(mut arguments: Arguments) -> Result<(), Failure> {
     let (x, y) = (arguments.number("X")?, arguments.number("Y")?);
-    let (record, _) = records::read(&arguments.input()?)?;
+    let (input, output) = (arguments.input()?, arguments.output(false)?);
+    let (record, _) = records::read(&input)?;
     let depth = record.grid.depth(x, y).map_err(|refusal| records::refused(&record, refusal))?;
-    files::print(&match depth {
+    output.print(&match depth {
         Depth::Solid => "solid\n".to_string(),
         Depth::Dry => "dry\n".to_string(),
         Depth::Deep(cells) => {

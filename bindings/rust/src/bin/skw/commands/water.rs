@@ -3,13 +3,13 @@
 use skwarzyna::drawing::{balance, table};
 
 use super::Command;
-use crate::arguments::Arguments;
+use crate::arguments::{Arguments, OUTPUT};
 use crate::failure::Failure;
-use crate::{files, records};
+use crate::records;
 
 pub const COMMAND: Command = Command {
     name: "water",
-    usage: "[FILE]",
+    usage: "[FILE] [-o FILE]",
     summary: "the water balance, to the unit and in litres",
     help: "\
 Counts the cells of each kind, and the water in fluid cells, in interface cells
@@ -18,11 +18,12 @@ are by the edge of a cell, to the nearest millilitre.
 
     skw water sump.rec
     skw run 1000 sump.rec | skw water       the same total",
-    choices: &[],
+    choices: &[OUTPUT],
     act,
 };
 
 fn act(mut arguments: Arguments) -> Result<(), Failure> {
-    let (record, _) = records::read(&arguments.input()?)?;
-    files::print(&table(&balance(&record.grid, record.site.edge)))
+    let (input, output) = (arguments.input()?, arguments.output(false)?);
+    let (record, _) = records::read(&input)?;
+    output.print(&table(&balance(&record.grid, record.site.edge)))
 }
