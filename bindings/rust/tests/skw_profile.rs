@@ -114,6 +114,13 @@ fn a_picture_is_drawn_beside_the_lines() {
     let said = |words: &[u8]| bytes.windows(words.len()).any(|part| part == words);
     assert!(said(b"gutter.rec: Long profile") && said(b"deepest: 50.0 mm at chainage 1.000 m, point 1"));
 
+    // Lines and picture each to where they are wanted, but not both to standard output.
+    let piped = folder.profile(LIST, &["-o", "lines", "-p", "-"]);
+    assert_eq!((piped.status.code(), &piped.stdout), (Some(0), &bytes));
+    assert_eq!(fs::read(folder.path("lines")).unwrap(), plain.stdout);
+    let both = folder.profile(LIST, &["-p", "-"]);
+    assert_eq!((both.status.code(), text(&both.stdout)), (Some(2), ""));
+
     // What is refused leaves an old picture alone.
     let refused = folder.profile("0 25 5200000075 10000000001", &["-p", "gutter.png"]);
     assert_eq!(refused.status.code(), Some(1));

@@ -4,9 +4,9 @@ use skwarzyna::drawing::long::LongProfile;
 use skwarzyna::{Place, Point, Refusal, Station};
 
 use super::Command;
-use crate::arguments::{Arguments, Choice};
+use crate::arguments::{Arguments, Choice, OUTPUT};
 use crate::failure::Failure;
-use crate::files::{self, Input, Output};
+use crate::files::{Input, Output};
 use crate::records;
 
 const PICTURE: Choice = Choice {
@@ -18,7 +18,7 @@ const PICTURE: Choice = Choice {
 
 pub const COMMAND: Command = Command {
     name: "profile",
-    usage: "POINTS [FILE] [-p PICTURE]",
+    usage: "POINTS [FILE] [-o FILE] [-p PICTURE]",
     summary: "the depth along a list of points, and the deepest",
     help: "\
 Tells for each survey point of the list POINTS whether it is outside the grid, in
@@ -31,7 +31,7 @@ over. A line that cannot be read is told by its number, with status 2.
 
     skw profile gutter.points gutter.rec
     skw profile gutter.points gutter.rec -p gutter.png",
-    choices: &[PICTURE],
+    choices: &[OUTPUT, PICTURE],
     act,
 };
 
@@ -97,14 +97,18 @@ impl List {
 
 fn act(mut arguments: Arguments) -> Result<(), Failure> {
     let points = arguments.file("POINTS")?;
-    let input = arguments.input()?;
+    let (input, output) = (arguments.input()?, arguments.output(false)?);
     let picture = arguments.value(&PICTURE).map(|file| Output::of(Some(file)));
     if matches!((&points, &input), (Input::Standard, Input::Standard)) {
         return Err(arguments.wrong("points and record cannot both come from standard input"));
     }
     if let Some(picture) = &picture {
+        if matches!((&output, picture), (Output::Standard, Output::Standard)) || picture.is_terminal() {
+            return Err(arguments.wrong("a picture goes to a file, or with -o for the lines to a pipe"));
+        }
         picture.ready()?;
     }
+    output.ready()?;
     let list = List::read(&points)?;
     let (record, _) = records::read(&input)?;
     let profile = LongProfile::new(&record.grid, record.site, &list.stations);
@@ -113,7 +117,7 @@ fn act(mut arguments: Arguments) -> Result<(), Failure> {
     if let Input::File(path) = &input {
         profile = profile.named(&path.file_name().unwrap_or_default().to_string_lossy());
     }
-    files::print(&profile.text())?;
+    output.print(&profile.text())?;
     match picture {
         Some(picture) => picture.put(&profile.picture().png()),
         None => Ok(()),
