@@ -235,14 +235,15 @@ fn nothing_is_cut_off() {
         {
             let far = Point::new(-9_999_999_999, -9_999_999_999, -9_999_999_999);
             let drawing = Drawing::new(&grid, Site { edge: 1000, origin: far }, view).unwrap();
-            let picture =
-                drawing.named("a name of a record that is longer than any name should be").picture();
-            let (width, height) = (picture.width(), picture.height());
-            let edge = |x: usize, y: usize| x < 12 || y < 12 || x + 12 >= width || y + 12 >= height;
-            for (x, y) in (0..height).flat_map(|y| (0..width).map(move |x| (x, y))) {
-                assert!(!edge(x, y) || picture.pixel(x, y) == Some(WHITE), "{sides:?} {view:?} {x} {y}");
+            let long = drawing.clone().named("a name of a record that is longer than any name should be");
+            for picture in [drawing.picture(), long.picture()] {
+                let (width, height) = (picture.width(), picture.height());
+                let edge = |x: usize, y: usize| x < 20 || y < 20 || x + 20 >= width || y + 20 >= height;
+                for (x, y) in (0..height).flat_map(|y| (0..width).map(move |x| (x, y))) {
+                    assert!(!edge(x, y) || picture.pixel(x, y) == Some(WHITE), "{sides:?} {view:?} {x} {y}");
+                }
+                assert!(width < 1400 && height < 1400, "{sides:?} {view:?} {width} {height}");
             }
-            assert!(width < 1400 && height < 1400, "{sides:?} {view:?} {width} {height}");
         }
     }
 }
@@ -287,9 +288,13 @@ fn a_fuller_interface_cell_shows_more_water() {
         grid.set_interface(17, mass).unwrap();
         count(&drawn(&grid, View::Section(Axis::Y, 1)), SURFACE)
     };
+    // The legend shows a little as well. A square of 64 has two edges, the upper one above the water.
     let legend = water(0);
-    assert!(water(ONE / 4) > legend && water(ONE / 2) > water(ONE / 4) && water(ONE) > water(ONE / 2));
-    assert_eq!(water(ONE), water(2 * ONE));
+    for quarters in 1..4 {
+        assert_eq!(water(ONE / 4 * quarters) - legend, 63 * 16 * quarters as usize);
+    }
+    assert_eq!(water(ONE) - legend, 63 * 63);
+    assert_eq!(water(2 * ONE), water(ONE));
 }
 
 #[test]
@@ -357,7 +362,13 @@ metres from the origin, x 5,200,000.000, y -1.500, z 0.000
 fn skw_draws_the_same() {
     let bytes = scenes::good(5).record();
     let record = Grid::read(&bytes).unwrap();
-    for (words, view) in [(&["draw"][..], View::Above), (&["draw", "-s", "x=1"], View::Section(Axis::X, 1))] {
+    let section = View::Section(Axis::X, 1);
+    for (words, view, darkest) in [
+        (&["draw"][..], View::Above, None),
+        (&["draw", "--deepest", "20"], View::Above, Some(20.0)),
+        (&["draw", "-s", "x=1"], section, None),
+        (&["draw", "--section=x=1", "--deepest=20"], section, Some(20.0)),
+    ] {
         let mut child = Command::new(env!("CARGO_BIN_EXE_skw"))
             .args(words)
             .stdin(Stdio::piped())
@@ -367,10 +378,16 @@ fn skw_draws_the_same() {
         child.stdin.take().unwrap().write_all(&bytes).unwrap();
         let output = child.wait_with_output().unwrap();
         assert!(output.status.success());
-        let (ours, read) =
-            (Drawing::new(&record.grid, record.site, view).unwrap().picture(), png::read(&output.stdout));
+        let mut drawing = Drawing::new(&record.grid, record.site, view).unwrap();
+        if let Some(cells) = darkest {
+            let plain = drawing.picture();
+            drawing = drawing.darkest_at(cells);
+            // From above the blues are others; a section has none.
+            assert_eq!(drawing.picture() == plain, view == section);
+        }
+        let (ours, read) = (drawing.picture(), png::read(&output.stdout));
         assert_eq!((ours.width(), ours.height()), (read.width, read.height));
-        assert!((0..read.pixels.len())
-            .all(|at| ours.pixel(at % read.width, at / read.width) == Some(read.pixels[at])));
+        let all = (0..read.pixels.len()).map(|at| (at % read.width, at / read.width));
+        assert!(all.zip(&read.pixels).all(|((x, y), colour)| ours.pixel(x, y) == Some(*colour)), "{words:?}");
     }
 }

@@ -439,7 +439,7 @@ fn what_cannot_be_read_or_written_is_told() {
 
 #[test]
 fn what_cannot_be_understood_is_told() {
-    let lists: [&[&str]; 24] = [
+    let lists: [&[&str]; 26] = [
         &[],
         &["chekc"],
         &["check", "one", "two"],
@@ -463,6 +463,8 @@ fn what_cannot_be_understood_is_told() {
         &["draw", "--section", "y"],
         &["draw", "--section=w=3"],
         &["draw", "--deepest", "0"],
+        &["draw", "--deepest", "129"],
+        &["draw", "--deepest", "nan"],
         &["help", "one", "two"],
     ];
     for words in lists {
@@ -490,6 +492,35 @@ fn help_says_what_there_is() {
         assert!(widest <= Some(82), "{name} {widest:?}");
     }
     assert_eq!(called(&["--version"]).text(), concat!("skw ", env!("CARGO_PKG_VERSION"), "\n"));
+}
+
+#[test]
+fn the_largest_record_is_read_and_what_never_ends_is_not() {
+    // As many interface cells as there can be, at rest: no record is longer.
+    let sides = Sides::new(64, 64, 64);
+    let mut grid = Grid::new(sides).unwrap();
+    for cell in (0..sides.cells().unwrap()).filter(|&cell| !sides.is_outer(cell)) {
+        grid.set_interface(cell, ONE / 3).unwrap();
+    }
+    let Record { settings, site, .. } = Grid::read(CASE_T).unwrap();
+    let largest = grid.write(settings, site).unwrap();
+    assert_eq!(largest.len(), 92 + 64 * 64 * 64 + 80 * 62 * 62 * 62);
+    assert_eq!(
+        fed(&["write"], &largest),
+        Called { status: Some(0), out: largest.clone(), err: String::new() }
+    );
+    let stepped = fed(&["step", "-q"], &largest);
+    assert_eq!((stepped.status, stepped.out == advanced(&largest, 1)), (Some(0), true), "{}", stepped.err);
+
+    let zeros = Stdio::from(fs::File::open("/dev/zero").unwrap());
+    let output = Command::new(env!("CARGO_BIN_EXE_skw")).arg("check").stdin(zeros).output().unwrap();
+    assert_eq!(
+        (output.status.code(), String::from_utf8(output.stderr).unwrap().as_str()),
+        (
+            Some(1),
+            "skw check: standard input: refusal 11: a section's count is wrong, in section 1 (sides): it is 0\n"
+        )
+    );
 }
 
 /// A run of more steps than can be made, cut off by a signal after a while: its end, and the file that it wrote, if it did.

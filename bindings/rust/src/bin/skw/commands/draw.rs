@@ -27,6 +27,9 @@ const DEEPEST: Choice = Choice {
     help: "the depth that is darkest, to compare pictures",
 };
 
+/// No grid has more cells one upon another.
+const DEEPEST_OF_ALL: f32 = 128.0;
+
 pub const COMMAND: Command = Command {
     name: "draw",
     usage: "[FILE] [-o FILE] [-s AXIS=N] [-t]",
@@ -63,8 +66,11 @@ fn act(mut arguments: Arguments) -> Result<(), Failure> {
         None => None,
         Some(asked) => {
             let cells = asked.to_str().and_then(|text| text.parse::<f32>().ok());
-            let cells = cells.filter(|cells| *cells > 0.0 && cells.is_finite());
-            Some(cells.ok_or_else(|| arguments.wrong("the deepest is to be a number of cells above 0"))?)
+            let cells = cells.filter(|cells| *cells > 0.0 && *cells <= DEEPEST_OF_ALL);
+            let wrong = || {
+                arguments.wrong(format!("the deepest is to be above 0 and at most {DEEPEST_OF_ALL} cells"))
+            };
+            Some(cells.ok_or_else(wrong)?)
         }
     };
     let (input, output) = (arguments.input()?, arguments.output(!text)?);
