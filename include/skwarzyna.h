@@ -52,6 +52,9 @@ enum { SKW_EMPTY = 0, SKW_INTERFACE = 1, SKW_FLUID = 2, SKW_WALL = 3 };
 /* Kinds of depth. */
 enum { SKW_DEPTH_REFUSED = 0, SKW_DEPTH_SOLID = 1, SKW_DEPTH_DRY = 2, SKW_DEPTH_DEEP = 3 };
 
+/* Kinds of line in a profile. */
+enum { SKW_LINE_SOLID = 1, SKW_LINE_DRY = 2, SKW_LINE_DEEP = 3, SKW_LINE_OUTSIDE = 4 };
+
 /* One density unit, 36*16,384: the water of a full cell under no pressure. */
 #define SKW_ONE 589824
 /* The fill of a full cell. */
@@ -74,6 +77,7 @@ enum { SKW_DEPTH_REFUSED = 0, SKW_DEPTH_SOLID = 1, SKW_DEPTH_DRY = 2, SKW_DEPTH_
 #define SKW_DENSITY_LEAST 294912
 #define SKW_DENSITY_MOST 1179648
 #define SKW_MASS_MOST 2359296
+#define SKW_POINTS_MOST 2000
 #define SKW_CARRY_MOST ((int64_t)1000000 * 1000000)
 
 /* Length in bytes of the record of a grid with so many cells, interface cells and liquid cells (fluid and interface). */
@@ -92,7 +96,7 @@ enum {
     SKW_BAD_SIDES = 1,
     /* a lent slice is not of its exact length (record and room have none); place 0 */
     SKW_BAD_LENGTH = 2,
-    /* a setting, origin or point coordinate is out of range; place 0 */
+    /* a setting, origin or point coordinate is out of range; place 0, but for a profile's points the first such point */
     SKW_BAD_SETTING = 3,
     /* a flag is above 3, or an outer cell is not wall; place: the lowest such cell */
     SKW_BAD_FLAG = 4,
@@ -113,7 +117,11 @@ enum {
     /* room for the record is too small (tested last); place: the bytes needed */
     SKW_BAD_ROOM = 12,
     /* column, cell or point outside the grid; place 0 */
-    SKW_OUTSIDE = 13
+    SKW_OUTSIDE = 13,
+    /* a profile's list has not 1 to 2,000 points; place 0 */
+    SKW_BAD_LIST = 22,
+    /* a profile's chainage is not above the one before; place: the first such point, from 0 */
+    SKW_BAD_CHAINAGE = 23
 };
 
 /*
@@ -258,6 +266,34 @@ uint8_t skw_depth(size_t nx, size_t ny, size_t nz,
                   size_t x, size_t y,
                   uint8_t *kind, float *depth,
                   size_t *place);
+
+/*
+ * PROFILE: the depth at each point of a list of survey points along the gutter, and the deepest of them. The list has M points, 1 to
+ * 2,000: M chainages in mm, which rise strictly, and 3*M coordinates in mm, x, y and z of point i at [3*i], [3*i + 1] and [3*i + 2].
+ * Into kinds and depths, M each, goes a line for each point:
+ *
+ *     kinds[i]              when                                                            depths[i]
+ *     SKW_LINE_OUTSIDE      skw_place answers SKW_OUTSIDE for the point                     0
+ *     SKW_LINE_SOLID        else, and skw_depth finds the column of its cell solid          0
+ *     SKW_LINE_DRY          the same, dry                                                   0
+ *     SKW_LINE_DEEP         the same, deep                                                  the depth in cells, exact, above 0
+ *
+ * *wet is 1 if a point is deep, and *deepest then the deepest point, the first in the list among equals; both are 0 if none is.
+ *
+ * Tests, in this order: 1; 2 (flags, fills, points, kinds, depths); 22; 3 of edge and origin, place 0; 23 over the whole list; 3 of
+ * the points, place the first such point; then point by point, where the point is in a cell, 4 and 6 of that cell's column as
+ * skw_depth gives them. Beside a refusal kinds and depths are as they were, and *wet and *deepest 0.
+ */
+uint8_t skw_profile(size_t nx, size_t ny, size_t nz,
+                    int64_t edge, int64_t ox, int64_t oy, int64_t oz,
+                    const uint8_t *flags, size_t flags_len,
+                    const uint32_t *fills, size_t fills_len,
+                    const int64_t *chainages, size_t chainages_len,
+                    const int64_t *points, size_t points_len,
+                    uint8_t *kinds, size_t kinds_len,
+                    float *depths, size_t depths_len,
+                    uint8_t *wet, size_t *deepest,
+                    size_t *place);
 
 #ifdef __cplusplus
 }

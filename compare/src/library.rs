@@ -3,9 +3,6 @@
 
 mod calls;
 mod cases;
-// One extern block for all who call the library.
-#[path = "../../bindings/rust/src/raw.rs"]
-mod raw;
 mod reference;
 
 use std::fmt::{Display, Formatter};

@@ -1,7 +1,11 @@
 // The comparison: the proved programs and the proved library beside the independent program, by seed. Status 1 if anything differs.
 
 mod library;
+mod profile;
 mod programs;
+// One extern block for all who call the library.
+#[path = "../../bindings/rust/src/raw.rs"]
+mod raw;
 mod report;
 mod small;
 mod source;
@@ -12,29 +16,29 @@ use programs::{gridread, gridrun, gridstep, Starter};
 use report::{Total, Wish};
 
 const USAGE: &str = "compare [--from SEED] [--first] [PART...], from the top of the repository
-  PART      gridstep, gridrun, gridread or library; all if not said
+  PART      gridstep, gridrun, gridread, library or profile; all if not said
   --from    the first seed, 0 if not said
   --first   stop at the first difference";
 
-/// A program by its name, or the library.
+/// A program or a part of the library, by its name.
 #[derive(Clone, Copy)]
 enum Part {
     Program(&'static str, fn(&Starter, &Wish, &mut Total)),
-    Library,
+    Library(&'static str, fn(&Wish, &mut Total)),
 }
 
-const PARTS: [Part; 4] = [
+const PARTS: [Part; 5] = [
     Part::Program("gridstep", gridstep::compare),
     Part::Program("gridrun", gridrun::compare),
     Part::Program("gridread", gridread::compare),
-    Part::Library,
+    Part::Library("library", library::compare),
+    Part::Library("profile", profile::compare),
 ];
 
 impl Part {
     fn name(self) -> &'static str {
         match self {
-            Part::Program(name, _) => name,
-            Part::Library => "library",
+            Part::Program(name, _) | Part::Library(name, _) => name,
         }
     }
 }
@@ -67,7 +71,7 @@ fn compare(wish: &Wish, parts: &[Part]) -> Result<Total, String> {
     for part in parts {
         match part {
             Part::Program(_, compare) => compare(&starter, wish, &mut total),
-            Part::Library => library::compare(wish, &mut total),
+            Part::Library(_, compare) => compare(wish, &mut total),
         }
     }
     Ok(total)

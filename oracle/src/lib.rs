@@ -5,6 +5,7 @@ pub mod drawing;
 pub mod grid;
 pub mod hunt;
 pub mod lattice;
+pub mod profile;
 pub mod random;
 pub mod readings;
 pub mod record;
@@ -17,6 +18,7 @@ pub mod step;
 pub mod text;
 
 pub use grid::Refusal;
+pub use profile::profile;
 pub use readings::{cell_point, depth, place};
 pub use record::{read, write};
 pub use run::run;

@@ -655,6 +655,134 @@ static void test_depth(void)
     EXPECT(depth(s, &a, 60, 60, 1, 1, &kind, &deep) == ACCEPTED && kind == SKW_DEPTH_SOLID && deep == 0);
 }
 
+/* A list of seven points over a grid of 5 by 4 by 4 cells, as document 01's figures of the profile have it. */
+#define POINTS 7
+#define GUTTER 80
+
+struct list {
+    uint8_t flags[GUTTER + 1];
+    uint32_t fills[GUTTER + 1];
+    int64_t chainages[SKW_POINTS_MOST + 1];
+    int64_t points[3 * (SKW_POINTS_MOST + 1)];
+    uint8_t kinds[SKW_POINTS_MOST + 1];
+    float depths[SKW_POINTS_MOST + 1];
+    struct site site;
+    size_t ny;
+    /* Under which lengths these are lent. */
+    size_t flags_len, fills_len, chainages_len, points_len, kinds_len, depths_len;
+};
+
+static void gutter(struct list *l)
+{
+    static const int low[4] = {26, 27, 28, 32};
+    static const uint32_t fill[4] = {32768, 65536, 0, 49152};
+    static const int at[POINTS][3] = {{25, 75, 60}, {50, 50, 0}, {60, 99, 199}, {60, 99, 200}, {0, 100, 0}, {125, 125, 0}, {75, 120, 10}};
+    const int64_t north = (int64_t)52 * 100000000;
+    int i;
+    memset(l, 0, sizeof *l), memset(l->flags, SKW_WALL, GUTTER);
+    for (i = 0; i < 4; i += 1) {
+        l->flags[low[i]] = SKW_INTERFACE, l->fills[low[i]] = fill[i], l->flags[low[i] + 20] = SKW_EMPTY;
+    }
+    l->flags[33] = l->flags[53] = SKW_EMPTY;
+    for (i = 0; i < POINTS; i += 1) {
+        l->chainages[i] = 1000 * i;
+        l->points[3 * i] = at[i][0], l->points[3 * i + 1] = north + at[i][1], l->points[3 * i + 2] = at[i][2];
+    }
+    for (i = 0; i <= SKW_POINTS_MOST; i += 1) {
+        l->kinds[i] = 77, l->depths[i] = -7.5f;
+    }
+    l->site.edge = 50, l->site.ox = -50, l->site.oy = north, l->ny = 4;
+    l->flags_len = l->fills_len = GUTTER, l->points_len = 3 * POINTS, l->chainages_len = l->kinds_len = l->depths_len = POINTS;
+}
+
+/* So many points, all at the place of the first. */
+static void long_gutter(struct list *l, size_t points)
+{
+    size_t i;
+    gutter(l);
+    for (i = 0; i < points; i += 1) {
+        l->chainages[i] = (int64_t)i;
+        memcpy(l->points + 3 * i, l->points, 3 * sizeof l->points[0]);
+    }
+    l->points_len = 3 * points, l->chainages_len = l->kinds_len = l->depths_len = points;
+}
+
+/* The answer: number and place; the deepest point, or -1 if none is wet. */
+static long profile(struct list *l, long *deepest_wet)
+{
+    size_t place = unset(), deepest = unset();
+    uint8_t wet = 255;
+    const uint8_t number = skw_profile(5, l->ny, 4, l->site.edge, l->site.ox, l->site.oy, l->site.oz, l->flags, l->flags_len, l->fills,
+                                       l->fills_len, l->chainages, l->chainages_len, l->points, l->points_len, l->kinds, l->kinds_len,
+                                       l->depths, l->depths_len, &wet, &deepest, &place);
+    EXPECT(wet <= 1 && (wet == 1 || deepest == 0) && (number == SKW_ACCEPTED || wet == 0));
+    *deepest_wet = wet ? (long)deepest : -1;
+    return REFUSED(number, place);
+}
+
+/* That it is refused so, and has written nothing. */
+static int refused_profile(struct list *l, long answer)
+{
+    static struct list before;
+    long deepest;
+    before = *l;
+    return profile(l, &deepest) == answer && deepest == -1 && memcmp(l->kinds, before.kinds, sizeof before.kinds) == 0
+           && memcmp(l->depths, before.depths, sizeof before.depths) == 0;
+}
+
+static void test_profile(void)
+{
+    static const uint8_t kinds[POINTS] = {SKW_LINE_DEEP,  SKW_LINE_DEEP, SKW_LINE_DEEP, SKW_LINE_OUTSIDE,
+                                          SKW_LINE_SOLID, SKW_LINE_DRY,  SKW_LINE_DEEP};
+    static const float depths[POINTS] = {0.5f, 1, 1, 0, 0, 0, 0.75f};
+    static struct list l;
+    long deepest;
+    gutter(&l);
+
+    EXPECT(profile(&l, &deepest) == ACCEPTED && deepest == 1);
+    EXPECT(memcmp(l.kinds, kinds, sizeof kinds) == 0 && l.kinds[POINTS] == 77);
+    EXPECT(memcmp(l.depths, depths, sizeof depths) == 0 && l.depths[POINTS] == -7.5f);
+
+    /* each fault is added to those before it, and is found before them */
+    gutter(&l), l.fills[32] = SKW_FULL + 1;
+    EXPECT(refused_profile(&l, REFUSED(SKW_BAD_STATE, 32)));
+    l.flags[67] = 4;
+    EXPECT(refused_profile(&l, REFUSED(SKW_BAD_FLAG, 67)));
+    l.points[3] = SKW_COORDINATE_MOST + 1;
+    EXPECT(refused_profile(&l, REFUSED(SKW_BAD_SETTING, 1)));
+    l.chainages[3] = l.chainages[2];
+    EXPECT(refused_profile(&l, REFUSED(SKW_BAD_CHAINAGE, 3)));
+    l.site.edge = 0;
+    EXPECT(refused_profile(&l, REFUSED(SKW_BAD_SETTING, 0)));
+    l.kinds_len -= 1;
+    EXPECT(refused_profile(&l, REFUSED(SKW_BAD_LENGTH, 0)));
+    l.ny = 2;
+    EXPECT(refused_profile(&l, REFUSED(SKW_BAD_SIDES, 0)));
+
+    gutter(&l), l.flags_len += 1;
+    EXPECT(refused_profile(&l, REFUSED(SKW_BAD_LENGTH, 0)));
+    gutter(&l), l.fills_len -= 1;
+    EXPECT(refused_profile(&l, REFUSED(SKW_BAD_LENGTH, 0)));
+    gutter(&l), l.points_len -= 1;
+    EXPECT(refused_profile(&l, REFUSED(SKW_BAD_LENGTH, 0)));
+    gutter(&l), l.depths_len += 1;
+    EXPECT(refused_profile(&l, REFUSED(SKW_BAD_LENGTH, 0)));
+    gutter(&l), l.site.oz = -SKW_COORDINATE_MOST - 1;
+    EXPECT(refused_profile(&l, REFUSED(SKW_BAD_SETTING, 0)));
+
+    long_gutter(&l, 0);
+    EXPECT(refused_profile(&l, REFUSED(SKW_BAD_LIST, 0)));
+    long_gutter(&l, 1);
+    EXPECT(profile(&l, &deepest) == ACCEPTED && deepest == 0 && l.kinds[0] == SKW_LINE_DEEP && l.kinds[1] == 77);
+    long_gutter(&l, SKW_POINTS_MOST);
+    EXPECT(profile(&l, &deepest) == ACCEPTED && deepest == 0 && l.depths[SKW_POINTS_MOST - 1] == 0.5f);
+    long_gutter(&l, SKW_POINTS_MOST + 1);
+    EXPECT(refused_profile(&l, REFUSED(SKW_BAD_LIST, 0)));
+
+    gutter(&l), memset(l.fills, 0, sizeof l.fills);
+    EXPECT(profile(&l, &deepest) == ACCEPTED && deepest == -1 && l.kinds[1] == SKW_LINE_DRY && l.depths[1] == 0);
+}
+
 /* A file of at most so many bytes; its length, or one more than fits. */
 static size_t contents(const char *name, void *bytes, size_t room)
 {
@@ -694,6 +822,7 @@ int main(int count, char **words)
     test_place();
     test_point();
     test_depth();
+    test_profile();
     printf("header (%s): %d expectations, %d failed\n", LANGUAGE, tried, failed);
     return failed != 0;
 }

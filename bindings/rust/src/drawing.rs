@@ -1,6 +1,7 @@
 //! A grid as a picture or as text: its depths from above, or the cells of a section, with legend, scale and water balance.
 
 mod colours;
+pub mod long;
 mod scale;
 mod sheet;
 mod tiles;

@@ -6,7 +6,8 @@ use std::mem::swap;
 use crate::lent;
 use crate::state::Buffers;
 use crate::{
-    CellPoint, Counts, Depth, Point, Refusal, Settings, Sides, Site, State, StateMut, Stopped, Water, WALL,
+    CellPoint, Counts, Depth, Line, Point, Profile, Refusal, Settings, Sides, Site, State, StateMut, Station,
+    Stopped, Water, WALL,
 };
 
 /// A grid of cells with its water.
@@ -127,6 +128,26 @@ impl Grid {
     /// The depth of the water in column (x, y), or refusal 13; 4 or 6 for a flag above 3 or a fill above 65,536 in that column.
     pub fn depth(&self, x: usize, y: usize) -> Result<Depth, Refusal> {
         lent::depth(self.sides, &self.first.flags, &self.first.fills, x, y)
+    }
+
+    /// The long profile along these points. Refusals 22, 3 of the site, 23, 3 of a point; 4 or 6 as [`depth`](Grid::depth) gives
+    /// them, by list order.
+    pub fn profile(&self, site: Site, stations: &[Station]) -> Result<Profile, Refusal> {
+        let chainages: Vec<i64> = stations.iter().map(|station| station.chainage).collect();
+        let points: Vec<i64> =
+            stations.iter().flat_map(|Station { point, .. }| [point.x, point.y, point.z]).collect();
+        let (mut kinds, mut depths) = (vec![0; stations.len()], vec![0.0; stations.len()]);
+        let State { flags, fills, .. } = self.state();
+        let deepest =
+            lent::profile(self.sides, site, flags, fills, &chainages, &points, &mut kinds, &mut depths)?;
+        // As include/skwarzyna.h numbers the kinds.
+        let line = |(kind, depth): (u8, f32)| match kind {
+            1 => Line::Inside(Depth::Solid),
+            2 => Line::Inside(Depth::Dry),
+            3 => Line::Inside(Depth::Deep(depth)),
+            _ => Line::Outside,
+        };
+        Ok(Profile { lines: kinds.into_iter().zip(depths).map(line).collect(), deepest })
     }
 
     /// How many cells there are of each flag.

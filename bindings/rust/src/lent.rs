@@ -1,4 +1,4 @@
-//! The library's eight calls over slices that the caller lends: any lengths, any contents.
+//! The library's nine calls over slices that the caller lends: any lengths, any contents.
 //!
 //! [`Grid`](crate::Grid) makes the same calls over buffers of its own. These are for a host that has its own buffers, or wants to
 //! be refused.
@@ -313,4 +313,50 @@ pub fn depth(sides: Sides, flags: &[u8], fills: &[u32], x: usize, y: usize) -> R
         2 => Depth::Dry,
         _ => Depth::Deep(depth),
     })
+}
+
+/// The profile along a list of points: a kind and a depth for each, and the deepest point, if one is wet.
+///
+/// `chainages` rise strictly; `points` holds x, y and z of each; kinds are 1 solid, 2 dry, 3 deep and 4 outside, and a depth is 0
+/// unless deep. Refusals 1, 2, 22, 3 of the site, 23, 3 of a point, then 4 and 6 of the points' columns by list order write nothing.
+#[allow(clippy::too_many_arguments)]
+pub fn profile(
+    sides: Sides,
+    site: Site,
+    flags: &[u8],
+    fills: &[u32],
+    chainages: &[i64],
+    points: &[i64],
+    kinds: &mut [u8],
+    depths: &mut [f32],
+) -> Result<Option<usize>, Refusal> {
+    let (mut wet, mut deepest, mut place) = (0, 0, 0);
+    let number = unsafe {
+        raw::skw_profile(
+            sides.nx,
+            sides.ny,
+            sides.nz,
+            site.edge,
+            site.origin.x,
+            site.origin.y,
+            site.origin.z,
+            flags.as_ptr(),
+            flags.len(),
+            fills.as_ptr(),
+            fills.len(),
+            chainages.as_ptr(),
+            chainages.len(),
+            points.as_ptr(),
+            points.len(),
+            kinds.as_mut_ptr(),
+            kinds.len(),
+            depths.as_mut_ptr(),
+            depths.len(),
+            &mut wet,
+            &mut deepest,
+            &mut place,
+        )
+    };
+    answered(number, place)?;
+    Ok((wet == 1).then_some(deepest))
 }

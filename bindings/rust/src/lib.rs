@@ -42,7 +42,7 @@ pub mod spelling;
 mod state;
 
 pub use grid::{Grid, Record};
-pub use readings::{CellPoint, Depth};
+pub use readings::{CellPoint, Depth, Line, Profile, Station};
 pub use refusal::{Place, Refusal, Stopped};
 pub use settings::{Point, Settings, Site};
 pub use sides::Sides;

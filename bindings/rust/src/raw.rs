@@ -184,4 +184,29 @@ extern "C" {
         depth: *mut f32,
         place: *mut usize,
     ) -> u8;
+
+    pub fn skw_profile(
+        nx: usize,
+        ny: usize,
+        nz: usize,
+        edge: i64,
+        ox: i64,
+        oy: i64,
+        oz: i64,
+        flags: *const u8,
+        flags_len: usize,
+        fills: *const u32,
+        fills_len: usize,
+        chainages: *const i64,
+        chainages_len: usize,
+        points: *const i64,
+        points_len: usize,
+        kinds: *mut u8,
+        kinds_len: usize,
+        depths: *mut f32,
+        depths_len: usize,
+        wet: *mut u8,
+        deepest: *mut usize,
+        place: *mut usize,
+    ) -> u8;
 }

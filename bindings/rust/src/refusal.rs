@@ -6,9 +6,9 @@ use std::fmt::{Display, Formatter, Result as Written};
 /// Why a call was refused. Nothing is written then, but as each call says for 7 and 8.
 #[derive(Clone, Copy, Debug, PartialEq, Eq, Hash)]
 pub struct Refusal {
-    /// 1 to 13; [`SIDES`](Refusal::SIDES) and so on.
+    /// 1 to 13, 22 or 23; [`SIDES`](Refusal::SIDES) and so on.
     pub number: u8,
-    /// A cell, a byte, a section, a number of bytes, or 0, by the number.
+    /// A cell, a byte, a section, a number of bytes, a point of a list, or 0, by the number.
     pub place: usize,
 }
 
@@ -26,6 +26,8 @@ pub enum Place {
     Section(usize),
     /// The bytes that the record needs.
     Room(usize),
+    /// A point of a profile's list, from 0.
+    Point(usize),
 }
 
 impl Refusal {
@@ -33,7 +35,7 @@ impl Refusal {
     pub const SIDES: u8 = 1;
     /// A lent slice is not of its exact length.
     pub const LENGTH: u8 = 2;
-    /// A setting, origin or point coordinate is out of range.
+    /// A setting, origin or point coordinate is out of range. Place: of a profile's points the first such point, else 0.
     pub const SETTING: u8 = 3;
     /// A flag is above 3, or an outer cell is not wall. Place: the lowest such cell.
     pub const FLAG: u8 = 4;
@@ -55,6 +57,10 @@ impl Refusal {
     pub const ROOM: u8 = 12;
     /// Column, cell or point outside.
     pub const OUTSIDE: u8 = 13;
+    /// A profile's list has not 1 to 2,000 points.
+    pub const LIST: u8 = 22;
+    /// A profile's chainage is not above the one before. Place: the first such point.
+    pub const CHAINAGE: u8 = 23;
 
     pub(crate) fn new(number: u8, place: usize) -> Refusal {
         Refusal { number, place }
@@ -76,6 +82,8 @@ impl Refusal {
             Refusal::COUNT => "a section's count is wrong",
             Refusal::ROOM => "room for the record too small",
             Refusal::OUTSIDE => "column, cell or point outside",
+            Refusal::LIST => "the list has not 1 to 2,000 points",
+            Refusal::CHAINAGE => "a chainage is not above the one before",
             _ => "no number of document 01",
         }
     }
@@ -88,6 +96,9 @@ impl Refusal {
             Refusal::END => Place::Byte(self.place),
             Refusal::COUNT => Place::Section(self.place),
             Refusal::ROOM => Place::Room(self.place),
+            Refusal::CHAINAGE => Place::Point(self.place),
+            // 0 may be the edge or the origin as well.
+            Refusal::SETTING if self.place > 0 => Place::Point(self.place),
             _ => Place::None,
         }
     }
@@ -105,6 +116,7 @@ impl Display for Refusal {
             Place::Byte(byte) => write!(text, ", at byte {byte}"),
             Place::Section(section) => write!(text, ", in section {section}"),
             Place::Room(bytes) => write!(text, ", {bytes} bytes needed"),
+            Place::Point(point) => write!(text, ", at point {point}"),
         }
     }
 }

@@ -1,8 +1,8 @@
 // The proved library's functions, each on what a case lends. Every number that a call answers holds something else before.
 
 use super::cases::Case;
-use super::raw;
 use super::Reply;
+use crate::raw;
 
 const BEFORE: usize = 77;
 const BEFORE_SIGNED: i64 = -77;

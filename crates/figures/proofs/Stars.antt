@@ -10,8 +10,11 @@ use Rattle.grid.specs.Step.{open-step}
 use Rattle.grid.specs.Good.{open-good}
 use Rattle.grid.specs.Outcome.{open-outcome}
 use Rattle.tunnel.specs.Place.{open-place}
+use Rattle.tunnel.specs.Depth.{open-depth}
+use Rattle.profile.specs.Profile.{open-profile}
+use Rattle.profile.specs.Outcome.{open-answer}
 use Rattle.figures.specs.Table.{figures, hold}
 
 pub stars : T (hold figures)
-unfolding open-fold open-lattice open-cell open-body open-grid open-state open-step open-good open-outcome open-place
+unfolding open-fold open-lattice open-cell open-body open-grid open-state open-step open-good open-outcome open-place open-depth open-profile open-answer
 stars = tt

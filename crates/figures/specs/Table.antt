@@ -4,6 +4,7 @@ use mathlib.Core.List.{List, [], _∷_, _++_, map}
 use Prim.Native.Nat.{ℕ}
 use lib.IntN.{ℤ, pos, negsuc}
 use lib.ListN.{getD}
+use Rattle.whole.specs.Fold.{tab}
 use Rattle.lattice.specs.Cell.{fillOf, exchange, over, under, share, gravityGood}
 use Rattle.grid.specs.State.{Lent, Scene}
 use Rattle.grid.specs.Step.{newFlag, excess, normal, gift}
@@ -12,7 +13,12 @@ use Rattle.grid.specs.Outcome.{numberOf, placeOf, checkAnswer, sceneOf, stepAns
 use Rattle.tunnel.specs.declared.Placed.{Placed}
 use Rattle.tunnel.specs.Place.{refusalNumber, axisOf}
 use Rattle.tunnel.specs.Place as placing
+use Rattle.profile.specs.declared.Profiled.{Profiled}
+use Rattle.profile.specs.Kinds.{lineKind}
+use Rattle.profile.specs.Profile.{seen, depthAt}
+use Rattle.profile.specs.Outcome.{profileAnswer, profiledNumber, profiledPlace, wetOf, deepestOf}
 use Rattle.figures.specs.Cases.{sides, settings, falling, single, rest, fallen, caseT, marks, calm, rowSides, row, poolSides, pool}
+use Rattle.figures.specs.Gutter.{points, chainages, along}
 
 -- a figure: what the definitions give, and what the document says
 pub record Figure : Type 0 where
@@ -42,11 +48,19 @@ placed point =
     placing.placeOf (record { nx = 10; ny = 3; nz = 3 }) (pos 50) (record { x = pos 5200000000; y = pos 0; z = pos 0 }) (record { x = point; y = pos 0; z = pos 0 })
 
 -- P6's two grids as a step reads them
-abbrev along : Scene
-along = sceneOf rowSides calm row
+abbrev aRow : Scene
+aRow = sceneOf rowSides calm row
 
-abbrev beside : Scene
-beside = sceneOf poolSides calm pool
+abbrev aPool : Scene
+aPool = sceneOf poolSides calm pool
+
+-- a profile's answer as number, place, whether a point is wet, and the deepest point
+abbrev answered : Profiled → List ℤ
+answered a = pos (profiledNumber a) ∷ pos (profiledPlace a) ∷ pos (wetOf a) ∷ pos (deepestOf a) ∷ []
+
+abbrev profiled : Profiled → ℕ → ℕ → ℕ → ℕ → Figure
+profiled a number place wet deepest =
+    record { worked = answered a; said = pos number ∷ pos place ∷ pos wet ∷ pos deepest ∷ [] }
 
 abbrev ONE : ℤ
 ONE = pos 589824
@@ -89,11 +103,29 @@ figures =
     -- P6: fills 54,613, 33,333, 11,299 in a row; both sets are good; nx at 21, 22, 23 is 21,280, 43,314, 22,034
     ∷ one (pos (numberOf (checkAnswer rowSides row))) (pos 0)
     ∷ one (pos (numberOf (checkAnswer poolSides pool))) (pos 0)
-    ∷ record { worked = normal along 21 .x ∷ normal along 22 .x ∷ normal along 23 .x ∷ []; said = pos 21280 ∷ pos 43314 ∷ pos 22034 ∷ [] }
+    ∷ record { worked = normal aRow 21 .x ∷ normal aRow 22 .x ∷ normal aRow 23 .x ∷ []; said = pos 21280 ∷ pos 43314 ∷ pos 22034 ∷ [] }
     -- P6: cell 21 becomes fluid, its excess is 1,600, n = (49,152, 16,384, 0), and 22, 25, 26 get 600, 200, 800
-    ∷ record { worked = pos (newFlag beside 21) ∷ excess beside 21 ∷ []; said = pos 2 ∷ pos 1600 ∷ [] }
-    ∷ record { worked = normal beside 21 .x ∷ normal beside 21 .y ∷ normal beside 21 .z ∷ []; said = pos 49152 ∷ pos 16384 ∷ pos 0 ∷ [] }
-    ∷ record { worked = gift beside 21 1 ∷ gift beside 21 3 ∷ gift beside 21 7 ∷ []; said = pos 600 ∷ pos 200 ∷ pos 800 ∷ [] }
+    ∷ record { worked = pos (newFlag aPool 21) ∷ excess aPool 21 ∷ []; said = pos 2 ∷ pos 1600 ∷ [] }
+    ∷ record { worked = normal aPool 21 .x ∷ normal aPool 21 .y ∷ normal aPool 21 .z ∷ []; said = pos 49152 ∷ pos 16384 ∷ pos 0 ∷ [] }
+    ∷ record { worked = gift aPool 21 1 ∷ gift aPool 21 3 ∷ gift aPool 21 7 ∷ []; said = pos 600 ∷ pos 200 ∷ pos 800 ∷ [] }
+    -- the profile of the gutter's seven points: deep 0.5, 1 and 1, outside, solid, dry, deep 0.75; in 65,536ths
+    ∷ record {
+      worked = map pos (tab 7 (λ i. lineKind (seen (along (pos 50) (points 50)) i)));
+      said = pos 3 ∷ pos 3 ∷ pos 3 ∷ pos 4 ∷ pos 1 ∷ pos 2 ∷ pos 3 ∷ [];
+    }
+    ∷ record {
+      worked = map pos (tab 7 (λ i. depthAt (along (pos 50) (points 50)) i));
+      said = pos 32768 ∷ pos 65536 ∷ pos 65536 ∷ pos 0 ∷ pos 0 ∷ pos 0 ∷ pos 49152 ∷ [];
+    }
+    -- its deepest is point 1, the first among equals
+    ∷ profiled (profileAnswer (along (pos 50) (points 50)) (chainages 3000) 7 7) 0 0 1 1
+    -- x of point 1 made 10,000,000,001: 3 at 1; chainage 3 equal to chainage 2 as well: 23 at 3; edge 0 as well: 3 at 0; room for six kinds as well: 2 at 0
+    ∷ profiled (profileAnswer (along (pos 50) (points 10000000001)) (chainages 3000) 7 7) 3 1 0 0
+    ∷ profiled (profileAnswer (along (pos 50) (points 10000000001)) (chainages 2000) 7 7) 23 3 0 0
+    ∷ profiled (profileAnswer (along (pos 0) (points 10000000001)) (chainages 2000) 7 7) 3 0 0 0
+    ∷ profiled (profileAnswer (along (pos 0) (points 10000000001)) (chainages 2000) 6 7) 2 0 0 0
+    -- no points: 22 at 0
+    ∷ profiled (profileAnswer (along (pos 50) []) [] 0 0) 22 0 0 0
     ∷ []
 
 -- two lists of numbers are the same

@@ -1,31 +1,26 @@
--- Every figure of a cell point and every depth is a whole number of parts below 2^24: a centre lies below 128 cells, a fill is at most 65,536, and so is
--- each of the at most 128 fills of a column. Assumes nothing.
-use mathlib.Core.Path.{_≡_, refl, sym, ap, _∙_, subst}
-use mathlib.Core.Bool.{Bool, true, false, _&&_, cond}
+-- Every figure of a cell point and every depth is a whole number of parts below 2^24: a centre lies below 128 cells, a fill is at most 65,536, and a depth
+-- is as tunnel has it. Assumes nothing.
+use mathlib.Core.Path.{_≡_, refl, subst}
+use mathlib.Core.Bool.{Bool, true, false}
 use mathlib.Core.List.{List}
-use Prim.Native.Nat.{ℕ, _*_, _≤_, _<_}
-use native.Mathlib.Nat.{mul-le-mul}
+use Prim.Native.Nat.{ℕ, _≤_, _<_}
 use native.Mathlib.Omega.{arith}
 use borrow.Author.Tests.{leb-true, ltb-true}
 use lib.Dec.{eqb, leb, ltb}
 use lib.Ieee.{Float}
 use lib.ListN.{length, getD}
-use Rattle.whole.specs.Fold.{first, all, total}
-use Rattle.whole.specs.Sums.{total-le}
 use Rattle.grid.specs.declared.Sides.{Sides}
-use Rattle.grid.specs.Grid.{sidesGood, cellsOf, cellAt}
-use Rattle.grid.proofs.GoodSides.{good-sides}
+use Rattle.grid.specs.Grid.{sidesGood, cellsOf}
 use Rattle.tunnel.specs.declared.CellPoint.{CellPoint}
 use Rattle.tunnel.specs.declared.Depth.{Depth}
 use Rattle.tunnel.specs.declared.Depth.the-variants.{Deep}
 use Rattle.tunnel.specs.Refusal.{orElse}
-use Rattle.tunnel.specs.Exact.{Exactly}
+use Rattle.tunnel.specs.Exact.{Exactly, Parts}
 use Rattle.tunnel.specs.Point.{WholePoint, PointIs, refused, centreOf, pointOf}
-use Rattle.tunnel.specs.Depth.{Reading, deep, DepthIs, is-refused, is-solid, is-dry, is-deep, flagBad, fillBad, isWall, openFill, readingOf, measuredOf, depthOf}
-use Rattle.tunnel.specs.Depth as depths
+use Rattle.tunnel.specs.Depth.{Reading, DepthIs, is-refused, is-solid, is-dry, is-deep, depthOf}
+use Rattle.tunnel.specs.Kinds.{readingSum}
 use Rattle.tunnel.proofs.Cells.{coordinates}
-use Rattle.tunnel.proofs.Columns.{open-le}
-use Rattle.gridread.specs.Fraction.{Parts}
+use Rattle.tunnel.proofs.Few.{few-depth}
 
 -- ---- cell point
 record Few (w : WholePoint) : Type 0 where
@@ -73,50 +68,13 @@ point-parts s fills c i =
     }
 
 -- ---- depth
--- where a reading is a depth, it is below 2^24
-abbrev FewDeep : Reading → Type 0
-FewDeep w = (sum : ℕ) → w ≡ deep sum → sum < 16777216
-
-deep-total : (walls : Bool) (none : Bool) (n : ℕ) → n < 16777216 → FewDeep (cond walls depths.solid (cond none depths.dry (deep n)))
-deep-total true none n h sum e = absurd (let z : _≡_ {A = ℕ} 0 1 = cc in omega arith)
-deep-total false true n h sum e = absurd (let z : _≡_ {A = ℕ} 0 1 = cc in omega arith)
-deep-total false false n h sum e = let i : n ≡ sum = cc in omega arith
-
-deep-or : (t : Bool) (number place : ℕ) (w : Reading) → (t ≡ true → FewDeep w) → FewDeep (orElse t (depths.refused number place) w)
-deep-or true number place w f = f refl
-deep-or false number place w f = λ sum e. absurd (let z : _≡_ {A = ℕ} 0 1 = cc in omega arith)
-
-few-total : (s : Sides) (flags fills : List ℕ) (x y : ℕ) → sidesGood s ≡ true → s .nz ≤ first (s .nz) (fillBad s fills x y)
-    → total (s .nz) (openFill s flags fills x y) < 16777216
-few-total s flags fills x y g h =
-    let l : total (s .nz) (openFill s flags fills x y) ≤ s .nz * 65536 =
-    total-le (s .nz) (openFill s flags fills x y) 65536 (λ z k. open-le s flags fills x y z h k) in
-    omega (arith, good-sides s g .z .high)
-
-few-measured : (s : Sides) (flags fills : List ℕ) (x y : ℕ) → sidesGood s ≡ true → FewDeep (measuredOf s flags fills x y)
-unfolding measuredOf readingOf
-few-measured s flags fills x y g =
-    let f = first (s .nz) (flagBad s flags x y) in
-    let b = first (s .nz) (fillBad s fills x y) in
-    deep-or (leb (s .nz) f) 4 (cellAt (s .nx) (s .ny) x y f) _
-    (λ p. deep-or (leb (s .nz) b) 6 (cellAt (s .nx) (s .ny) x y b) _
-    (λ q. deep-total (all (s .nz) (isWall s flags x y)) (eqb (total (s .nz) (openFill s flags fills x y)) 0)
-    (total (s .nz) (openFill s flags fills x y)) (few-total s flags fills x y g (leb-true (s .nz) b q))))
-
-few-depth : (s : Sides) (flags fills : List ℕ) (x y : ℕ) → FewDeep (depthOf s flags fills x y)
-unfolding depthOf
-few-depth s flags fills x y =
-    deep-or (sidesGood s) 1 0 _
-    (λ g. deep-or (eqb (length flags) (cellsOf s) && eqb (length fills) (cellsOf s)) 2 0 _
-    (λ p. deep-or (ltb x (s .nx) && ltb y (s .ny)) 13 0 _ (λ q. few-measured s flags fills x y g)))
-
-deep-parts : {r : Depth} {w : Reading} (d : Float) → FewDeep w → DepthIs r w → r ≡ Deep d → Parts d 65536
+deep-parts : {r : Depth} {w : Reading} (d : Float) → readingSum w < 16777216 → DepthIs r w → r ≡ Deep d → Parts d 65536
 deep-parts d f is-refused e = absurd (let z : _≡_ {A = ℕ} 0 1 = cc in omega arith)
 deep-parts d f is-solid e = absurd (let z : _≡_ {A = ℕ} 0 1 = cc in omega arith)
 deep-parts d f is-dry e = absurd (let z : _≡_ {A = ℕ} 0 1 = cc in omega arith)
 deep-parts d f (is-deep {depth = x} {sum = n} h) e =
     let i : x ≡ d = cc in
-    record { count = n; few = f n refl; is = subst (λ (y : Float). Exactly y n 65536) i h }
+    record { count = n; few = f; is = subst (λ (y : Float). Exactly y n 65536) i h }
 
 pub depth-parts : (s : Sides) (flags fills : List ℕ) (x y : ℕ) {r : Depth} (d : Float) → DepthIs r (depthOf s flags fills x y) → r ≡ Deep d → Parts d 65536
 depth-parts s flags fills x y d i e = deep-parts d (few-depth s flags fills x y) i e

@@ -1,3 +1,2 @@
 pub mod Asks
 pub mod Few
-pub mod Fractions

@@ -11,7 +11,6 @@
 //
 // All requests are read before the record is: if one cannot be, or there is none, standard error says so and nothing else is written.
 mod asking;
-mod fraction;
 mod playing;
 mod telling;
 

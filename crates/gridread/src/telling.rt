@@ -1,7 +1,5 @@
 // A line for each request.
 use crate::asking::Request;
-use crate::fraction::halves;
-use crate::fraction::shares;
 use columns::column::column_depth;
 use console::line;
 use grid::Sides;
@@ -10,6 +8,8 @@ use tunnel::Depth;
 use tunnel::Placed;
 use tunnel::Point;
 use tunnel::cell::cell_point;
+use tunnel::exact::halves;
+use tunnel::exact::shares;
 use tunnel::placing::place;
 
 fn tell_place(s: Sides, t: Site, p: Point) {

@@ -3,6 +3,7 @@ use mathlib.Core.Path.{_≡_, ap, _∙_, subst}
 use mathlib.Core.List.{List}
 use Prim.Native.Nat.{ℕ, _-_}
 use lib.IntN.{ℤ}
+use lib.Ieee.{Float}
 use lib.ListN.{length, take, drop}
 use Rattle.lattice.specs.declared.Settings.{Settings}
 use Rattle.grid.specs.declared.Sides.{Sides}
@@ -20,7 +21,11 @@ use Rattle.tunnel.specs.declared.Placed.{Placed}
 use Rattle.tunnel.specs.declared.Point.{Point}
 use Rattle.tunnel.specs.Place as placing
 use Rattle.tunnel.specs.Place.{refusalNumber, refusalPlace, cellNumber}
-use Rattle.host.specs.Promise.{StepTold, RunTold, ReadTold, WriteTold, PlaceTold}
+use Rattle.profile.specs.declared.Frame.{Frame}
+use Rattle.profile.specs.declared.Profiled.{Profiled}
+use Rattle.profile.specs.Profile.{survey}
+use Rattle.profile.specs.Outcome.{profiledNumber, profiledPlace, wetOf, deepestOf, Told}
+use Rattle.host.specs.Promise.{StepTold, RunTold, ReadTold, WriteTold, PlaceTold, ProfileTold}
 use Rattle.host.proofs.Spans.{span-end}
 
 -- the settings k that the layer was given are the call's own, g
@@ -81,3 +86,19 @@ read-told {r} {a} h f n p es eg et =
       fills-are = h .fills-are;
       carry-is = h .carry-is;
     }
+
+-- and so is the frame
+pub profile-told : {f g : Frame} {flags fills : List ℕ} {points chainages : List ℤ} {kinds : List ℕ} {depths : List Float} {r : Profiled} {number place wet deepest : ℕ} {kindsAfter : List ℕ} {depthsAfter : List Float}
+    → g ≡ f → Told (survey g flags fills points) chainages kinds depths r kindsAfter depthsAfter
+    → number ≡ profiledNumber r → place ≡ profiledPlace r → wet ≡ wetOf r → deepest ≡ deepestOf r
+    → ProfileTold (survey f flags fills points) chainages kinds depths number place wet deepest kindsAfter depthsAfter
+profile-told {flags = flags} {fills = fills} {points = points} {chainages = chainages} {kinds = kinds} {depths = depths} {number = number} {place = place} {wet = wet} {deepest = deepest} {kindsAfter = ks} {depthsAfter = ds} e h n p w d =
+    subst (λ (x : Frame). ProfileTold (survey x flags fills points) chainages kinds depths number place wet deepest ks ds) e
+    (record {
+      number-is = n ∙ ap profiledNumber (h .answer-is);
+      place-is = p ∙ ap profiledPlace (h .answer-is);
+      wet-is = w ∙ ap wetOf (h .answer-is);
+      deepest-is = d ∙ ap deepestOf (h .answer-is);
+      kinds-are = h .kinds-are;
+      depths-are = h .depths-are;
+    })

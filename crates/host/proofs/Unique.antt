@@ -5,6 +5,7 @@ use Prim.Native.Nat.{ℕ}
 use lib.Dec.{lit<}
 use lib.IntN.{ℤ}
 use lib.Ieee.{Float}
+use lib.ListN.{length}
 use Rattle.lattice.specs.declared.Settings.{Settings}
 use Rattle.grid.specs.declared.Sides.{Sides}
 use Rattle.grid.specs.State.{Lent}
@@ -13,8 +14,11 @@ use Rattle.tunnel.specs.declared.Point.{Point}
 use Rattle.tunnel.specs.Point.{WholePoint}
 use Rattle.tunnel.specs.Depth.{Reading}
 use Rattle.tunnel.proofs.Floats.{exactly-one}
-use Rattle.host.specs.Kinds.{readingSum}
-use Rattle.host.specs.Promise.{CheckTold, StepTold, RunTold, ReadTold, WriteTold, PlaceTold, PointTold, DepthTold}
+use Rattle.tunnel.specs.Kinds.{readingSum}
+use Rattle.profile.specs.Profile.{Survey}
+use Rattle.profile.specs.Outcome.{testsAnswer}
+use Rattle.profile.proofs.Telling.{by-one}
+use Rattle.host.specs.Promise.{CheckTold, StepTold, RunTold, ReadTold, WriteTold, PlaceTold, PointTold, DepthTold, ProfileTold}
 
 pub check-unique : (s : Sides) (a : Lent) {n m p q : ℕ} → CheckTold s a n p → CheckTold s a m q → (n ≡ m) × (p ≡ q)
 check-unique s a x y = (x .number-is ∙ sym (y .number-is), x .place-is ∙ sym (y .place-is))
@@ -54,3 +58,10 @@ point-unique {w = w} x y =
 pub depth-unique : {w : Reading} {n m p q i j : ℕ} {d e : Float} → DepthTold w n p i d → DepthTold w m q j e → (n ≡ m) × (p ≡ q) × (i ≡ j) × (d ≡ e)
 depth-unique {w = w} x y =
     (x .number-is ∙ sym (y .number-is), x .place-is ∙ sym (y .place-is), x .kind-is ∙ sym (y .kind-is), exactly-one _ _ (readingSum w) 65536 (lit< tt) (x .depth-is) (y .depth-is))
+
+-- every `f32` of the lines
+pub profile-unique : (v : Survey) (chainages : List ℤ) (kinds : List ℕ) (depths : List Float) {n m p q w u i j : ℕ} {k l : List ℕ} {d e : List Float}
+    → ProfileTold v chainages kinds depths n p w i k d → ProfileTold v chainages kinds depths m q u j l e
+    → (n ≡ m) × (p ≡ q) × (w ≡ u) × (i ≡ j) × (k ≡ l) × (d ≡ e)
+profile-unique v chainages kinds depths {d = d} {e = e} x y =
+    (x .number-is ∙ sym (y .number-is), x .place-is ∙ sym (y .place-is), x .wet-is ∙ sym (y .wet-is), x .deepest-is ∙ sym (y .deepest-is), x .kinds-are ∙ sym (y .kinds-are), by-one (testsAnswer v chainages (length kinds) (length depths)) v (length chainages) depths d e (x .depths-are) (y .depths-are))

@@ -18,7 +18,10 @@ use Rattle.tunnel.specs.Place.{refusalNumber, refusalPlace, cellNumber}
 use Rattle.tunnel.specs.Exact.{Exactly}
 use Rattle.tunnel.specs.Point.{WholePoint}
 use Rattle.tunnel.specs.Depth.{Reading}
-use Rattle.host.specs.Kinds.{readingNumber, readingPlace, readingKind, readingSum}
+use Rattle.tunnel.specs.Kinds.{readingNumber, readingPlace, readingKind, readingSum}
+use Rattle.profile.specs.declared.Frame.{Frame}
+use Rattle.profile.specs.Profile.{Survey}
+use Rattle.profile.specs.Outcome.{profileAnswer, profiledNumber, profiledPlace, wetOf, deepestOf, testsAnswer, kindsBy, DepthsBy}
 
 -- ---- what the layers take, from the numbers that a call is given
 
@@ -34,7 +37,10 @@ siteOf edge x y z = record { edge = edge; x = x; y = y; z = z }
 abbrev pub millimetres : ℤ → ℤ → ℤ → Point
 millimetres x y z = record { x = x; y = y; z = z }
 
--- ---- the eight calls
+abbrev pub frameOf : ℕ → ℕ → ℕ → ℤ → ℤ → ℤ → ℤ → Frame
+frameOf nx ny nz edge x y z = record { sides = sidesOf nx ny nz; edge = edge; origin = millimetres x y z }
+
+-- ---- the nine calls
 
 -- the check: number and place, 0 0 if accepted
 pub record CheckTold (s : Sides) (a : Lent) (number place : ℕ) : Type 0 where
@@ -100,3 +106,12 @@ pub record DepthTold (w : Reading) (number place kind : ℕ) (depth : Float) : T
   pub place-is : place ≡ readingPlace w
   pub kind-is : kind ≡ readingKind w
   pub depth-is : Exactly depth (readingSum w) 65536
+
+-- the profile: number, place, whether a point is wet, the deepest point, and the lines: kinds, and `f32`, each exact
+pub record ProfileTold (v : Survey) (chainages : List ℤ) (kinds : List ℕ) (depths : List Float) (number place wet deepest : ℕ) (kindsAfter : List ℕ) (depthsAfter : List Float) : Type 0 where
+  pub number-is : number ≡ profiledNumber (profileAnswer v chainages (length kinds) (length depths))
+  pub place-is : place ≡ profiledPlace (profileAnswer v chainages (length kinds) (length depths))
+  pub wet-is : wet ≡ wetOf (profileAnswer v chainages (length kinds) (length depths))
+  pub deepest-is : deepest ≡ deepestOf (profileAnswer v chainages (length kinds) (length depths))
+  pub kinds-are : kindsAfter ≡ kindsBy (testsAnswer v chainages (length kinds) (length depths)) v (length chainages) kinds
+  pub depths-are : DepthsBy (testsAnswer v chainages (length kinds) (length depths)) v (length chainages) depths depthsAfter

@@ -1,38 +1,9 @@
 // Placing.
 use grid::Sides;
-use tunnel::Placed;
 use tunnel::Point;
+use tunnel::answers;
 use tunnel::placing;
-ghost use mathlib.Core.Path.{_≡_};
-ghost use Rattle.tunnel.specs.Place.{refusalNumber, refusalPlace, cellNumber};
 ghost use Rattle.host.specs.Promise.{sidesOf, millimetres, PlaceTold};
-
-fn refusal_number(a: Placed) -> u8
-    ensures { λ r. ⌜ r ≡ refusalNumber a ⌝ }
-{
-    match a {
-        Placed::Refused(number, _) => number,
-        Placed::Cell(_) => 0,
-    }
-}
-
-fn refusal_place(a: Placed) -> usize
-    ensures { λ r. ⌜ r ≡ refusalPlace a ⌝ }
-{
-    match a {
-        Placed::Refused(_, place) => place,
-        Placed::Cell(_) => 0,
-    }
-}
-
-fn cell_number(a: Placed) -> usize
-    ensures { λ r. ⌜ r ≡ cellNumber a ⌝ }
-{
-    match a {
-        Placed::Refused(_, _) => 0,
-        Placed::Cell(c) => c,
-    }
-}
 
 // The cell that holds a survey point.
 #[no_mangle]
@@ -60,7 +31,7 @@ pub extern "C" fn skw_place(
     };
     let point = Point { x, y, z };
     let a = placing::place(s, edge, origin, point);
-    *cell = cell_number(a);
-    *place = refusal_place(a);
-    refusal_number(a)
+    *cell = answers::cell_number(a);
+    *place = answers::refusal_place(a);
+    answers::refusal_number(a)
 }

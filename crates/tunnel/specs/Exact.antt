@@ -1,6 +1,6 @@
 -- When an `f32` is a fraction exactly. Assumes nothing.
 use mathlib.Core.Bool.{false}
-use Prim.Native.Nat.{ℕ}
+use Prim.Native.Nat.{ℕ, _<_}
 use lib.Dec.{T}
 use lib.Ieee.{Float, binary32, fits}
 use lib.Ieee.Exact.{HasValue}
@@ -9,3 +9,9 @@ use lib.Ieee.Exact.{HasValue}
 pub record Exactly (x : Float) (n d : ℕ) : Type 0 where
   pub holds : T (fits binary32 x)
   pub value : HasValue x false n d
+
+-- x is n/d exactly, for some n below 2^24
+pub record Parts (x : Float) (d : ℕ) : Type 0 where
+  pub count : ℕ
+  pub few : count < 16777216
+  pub is : Exactly x count d

@@ -1,4 +1,5 @@
 // Layer 3, tunnel readings: placing and cell point. Knows the promises of grid and lattice.
+pub mod answers;
 pub mod cell;
 pub mod exact;
 pub mod placing;

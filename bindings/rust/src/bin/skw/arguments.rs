@@ -127,6 +127,15 @@ impl Arguments {
         })
     }
 
+    /// The next word as a file to read, or a dash as standard input.
+    pub fn file(&mut self, called: &str) -> Result<Input, Failure> {
+        let Some(word) = self.words.pop_front() else {
+            return Err(self.wrong(format!("{called} is missing")));
+        };
+        Input::of(Some(word))
+            .ok_or_else(|| self.wrong(format!("standard input is a terminal: give {called}")))
+    }
+
     /// The last word, if there is one: the file to read, else standard input.
     pub fn input(&mut self) -> Result<Input, Failure> {
         let file = self.words.pop_front();

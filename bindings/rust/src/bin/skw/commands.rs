@@ -5,6 +5,7 @@ mod depth;
 mod draw;
 mod place;
 mod point;
+mod profile;
 mod run;
 mod step;
 mod water;
@@ -36,5 +37,6 @@ pub const COMMANDS: &[Command] = &[
     place::COMMAND,
     point::COMMAND,
     depth::COMMAND,
+    profile::COMMAND,
     draw::COMMAND,
 ];

@@ -1,0 +1,5 @@
+pub mod Deepest
+pub mod Written
+pub mod Passed
+pub mod Telling
+pub mod Answered

@@ -1,0 +1,82 @@
+-- The lines below i are written, one more, and all. Assumes nothing.
+use mathlib.Core.Path.{_≡_, refl, sym, _∙_, subst}
+use mathlib.Core.List.{List}
+use Prim.Native.Nat.{ℕ, _+_, _/_, _%_, _<_}
+use native.Mathlib.Nat.{not-suc-le-zero}
+use native.Mathlib.Omega.{arith}
+use borrow.Author.Count.{below-more}
+use lib.Ieee.{Float}
+use lib.ListN.{length, getD, set, length-set}
+use lib.Seq.{getD-set-same, getD-set-other}
+use Rattle.whole.specs.Fold.{tab}
+use Rattle.whole.specs.Tab.{upto-more, upto-all}
+use Rattle.grid.specs.declared.Sides.{Sides}
+use Rattle.tunnel.specs.declared.Placed.{Placed}
+use Rattle.tunnel.specs.declared.Placed.the-variants.{Refused, Cell}
+use Rattle.tunnel.specs.Exact.{Exactly, Parts}
+use Rattle.tunnel.specs.declared.Depth.{Depth}
+use Rattle.tunnel.specs.Depth.{Reading, DepthIs, is-refused, is-solid, is-dry, is-deep}
+use Rattle.tunnel.specs.Kinds.{readingSum, depthValue, zeroFloat}
+use Rattle.tunnel.proofs.Shown.{shows}
+use Rattle.tunnel.proofs.Fractions.{exactly-number}
+use Rattle.tunnel.proofs.Few.{few-depth}
+use Rattle.profile.specs.Kinds.{lineKind, depthLine}
+use Rattle.profile.specs.Profile.{Survey, placedAt, columnOf, shownBy, seen, depthAt}
+use Rattle.profile.specs.Outcome.{DepthsOf}
+use Rattle.profile.specs.Lines.{LinesTo}
+
+-- a depth is below 2^24 65,536ths
+few-shown : (s : Sides) (flags fills : List ℕ) (p : Placed) → readingSum (shownBy s flags fills p) < 16777216
+unfolding columnOf
+few-shown s flags fills (Refused number place) = omega arith
+few-shown s flags fills (Cell c) = few-depth s flags fills (c % s .nx) (c / s .nx % s .ny)
+
+few-seen : (v : Survey) (i : ℕ) → depthAt v i < 16777216
+unfolding depthAt seen
+few-seen v i = few-shown (v .frame .sides) (v .flags) (v .fills) (placedAt (v .frame) (v .points) i)
+
+-- the kind of the code's depth is that of the reading that it stands for
+kind-is : {a : Depth} {w : Reading} → DepthIs a w → depthLine a ≡ lineKind w
+kind-is is-refused = refl
+kind-is is-solid = refl
+kind-is is-dry = refl
+kind-is (is-deep h) = refl
+
+-- what the code's depth of point i is
+module _ (v : Survey) (i : ℕ) {a : Depth} (h : DepthIs a (seen v i)) where
+  pub value-exact : Exactly (depthValue a) (depthAt v i) 65536
+  unfolding depthAt
+  value-exact = shows h .value-is
+
+  pub value-parts : Parts (depthValue a) 65536
+  value-parts = record { count = depthAt v i; few = few-seen v i; is = value-exact }
+
+-- the number that the value is
+pub number-of : (v : Survey) (i : ℕ) {a : Depth} {x : Float} (n : ℕ) → DepthIs a (seen v i) → x ≡ depthValue a → Exactly x n 65536 → n ≡ depthAt v i
+number-of v i {a} {x} n h e k = exactly-number (depthValue a) n (depthAt v i) 65536 (subst (λ (y : Float). Exactly y n 65536) e k) (value-exact v i h)
+
+pub lines-none : (v : Survey) (m : ℕ) (kinds : List ℕ) (depths : List Float) → length kinds ≡ m → length depths ≡ m → LinesTo v m 0 kinds depths
+lines-none v m kinds depths k d =
+    record { kinds-size = k; depths-size = d; kind = λ j h. absurd (not-suc-le-zero h); depth = λ j h. absurd (not-suc-le-zero h) }
+
+pub lines-more : (v : Survey) (m i : ℕ) (kinds : List ℕ) (depths : List Float) {a : Depth} {k : ℕ} {x : Float} → i < m → DepthIs a (seen v i) → k ≡ depthLine a → x ≡ depthValue a
+    → LinesTo v m i kinds depths → LinesTo v m (i + 1) (set kinds i k) (set depths i x)
+lines-more v m i kinds depths {a} {k} {x} l h ek ex t =
+    let ik : i < length kinds = omega (arith, t .kinds-size) in
+    let id : i < length depths = omega (arith, t .depths-size) in
+    record {
+      kinds-size = length-set kinds i k ∙ t .kinds-size;
+      depths-size = length-set depths i x ∙ t .depths-size;
+      kind = upto-more 0 (λ j. lineKind (seen v j)) kinds i k ik (t .kind) (ek ∙ kind-is h);
+      depth =
+          below-more (λ (j : ℕ). Exactly (getD (set depths i x) j zeroFloat) (depthAt v j) 65536) i
+          (λ j b. subst (λ (y : Float). Exactly y (depthAt v j) 65536) (sym (getD-set-other depths i j x zeroFloat (λ e. omega arith))) (t .depth j b))
+          (subst (λ (y : Float). Exactly y (depthAt v i) 65536) (sym (getD-set-same depths i x zeroFloat id ∙ ex)) (value-exact v i h));
+    }
+
+-- all lines
+pub lines-kinds : {v : Survey} {m : ℕ} {kinds : List ℕ} {depths : List Float} → LinesTo v m m kinds depths → kinds ≡ tab m (λ i. lineKind (seen v i))
+lines-kinds {v} {m} {kinds} t = upto-all 0 (λ i. lineKind (seen v i)) kinds m (t .kinds-size) (t .kind)
+
+pub lines-depths : {v : Survey} {m : ℕ} {kinds : List ℕ} {depths : List Float} → LinesTo v m m kinds depths → DepthsOf v m depths
+lines-depths t = record { size = t .depths-size; each = t .depth }
