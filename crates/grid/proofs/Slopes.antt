@@ -1,16 +1,13 @@
 -- Whose fill counts for a cell, by cases of the flag; and a fill as a signed number. Assumes nothing.
 use mathlib.Core.Path.{_≡_, refl, subst}
 use mathlib.Core.List.{List}
-use Prim.Native.Nat.{ℕ, zero, suc, _+_, _≤_, _<_, _^_}
-use native.Mathlib.Nat.{lt-of-le-of-lt}
+use Prim.Native.Nat.{ℕ, zero, suc, _+_, _≤_, _<_}
 use native.Mathlib.Omega.{arith}
 use lib.IntN.{ℤ, pos}
-use lib.Dec.{T, ltb, ltb→lt}
 use lib.ListN.{length, getD}
 use mir.Syntax.{w32}
-use mir.Val.{SFits, toZ}
-use mir.Facts.{toZ-pos}
-use Rattle.whole.specs.Machine.{Val, does-fit, known}
+use mir.Val.{SFits}
+use Rattle.whole.specs.Machine.{does-fit, known}
 use Rattle.lattice.specs.Lattice.{V3}
 use Rattle.grid.specs.State.{byFlag}
 use Rattle.grid.specs.Passes.{seenAt, Sloping}
@@ -55,13 +52,7 @@ pub falls : {flags fills off : List ℕ} {k : ℕ} → Sloping flags fills off k
     × ((c : ℕ) → c < length flags → getD fills c 0 ≤ 65536)
 falls s i j h l = (s .reach 0 (omega arith), s .reach i h, s .reach j l, s .count, s .low)
 
--- ---- `n as i32`
-pub n32-is : (n k : ℕ) → n ≤ k → T (ltb k (2 ^ 31)) → toZ w32 n ≡ pos n
-n32-is n k h t = toZ-pos w32 (lt-of-le-of-lt h (ltb→lt k (2 ^ 31) t))
-
-abbrev pub n32 : {n k : ℕ} → n ≤ k → Val (toZ w32 n)
-n32 {n} {k} h = record { z = pos n; n = k; ok = ltb k (2 ^ 31); is = λ t. record { is = n32-is n k h t; abs = h } }
-
+-- ---- a fill as `n as i32`
 pub fill-fits : {n : ℕ} → n ≤ 65536 → SFits w32 (pos n)
 fill-fits {n} h = does-fit {w = w32} (known (pos n) 65536 h) tt
 

@@ -1,15 +1,14 @@
 -- `collision::landing::settled`: the sum fits, and the two ways out are the definition's. Assumes nothing.
 use mathlib.Core.Path.{_≡_, sym, _∙_, ap₂}
 use mathlib.Core.Bool.{true, false}
-use Prim.Native.Nat.{ℕ, _/_, _≤_, _^_}
-use native.Mathlib.Nat.{div-add-mod, lt-of-le-of-lt}
+use Prim.Native.Nat.{_/_, _≤_}
+use native.Mathlib.Nat.{div-add-mod}
 use native.Mathlib.Omega.{arith}
-use lib.Dec.{ltb, ltb→lt}
 use lib.IntN.{pos, _+ℤ_, _*ℤ_}
 use lib.Signed.{ltZ, shrZ}
 use mir.Syntax.{w32}
 use mir.Val.{toZ, ofZ}
-use mir.Facts.{toZ-pos}
+use Rattle.whole.specs.Casts.{n32}
 use Rattle.whole.specs.Machine.{Val, known, v+, v*, v32, within-by, does-fit, reads-as}
 use Rattle.lattice.proofs.Reading.{inside}
 use Rattle.collision.proofs.Loss.{shifting, vshr, by}
@@ -18,14 +17,11 @@ use Rattle.collision.proofs.landing.settled.Statement.{statement}
 use Rattle.collision.proofs.landing.settled.Tie as tie
 
 -- the high word, and the part's own share
-abbrev word : {n k : ℕ} → n ≤ k → Val (toZ w32 n)
-word {n} {k} h = record { z = pos n; n = k; ok = ltb k (2 ^ 31); is = λ t. record { is = toZ-pos w32 (lt-of-le-of-lt h (ltb→lt k (2 ^ 31) t)); abs = h } }
-
 high-in : (c : tie.Start) → c .args .e / 4294967296 ≤ 536870911
 high-in c = omega (arith, div-add-mod (c .args .e) 4294967296, c .pre .0)
 
 abbrev word-is : (c : tie.Start) → Val (toZ w32 (c .args .e / 4294967296))
-word-is c = word {n = c .args .e / 4294967296} {k = 536870911} (high-in c)
+word-is c = n32 {n = c .args .e / 4294967296} {k = 536870911} (high-in c)
 
 abbrev own-is : (c : tie.Start) → Val (toZ w32 (ofZ w32 (c .args .c)) *ℤ toZ w32 (ofZ w32 (c .args .f)))
 own-is c = v* (v32 (inside (c .pre .2))) (v32 (inside (c .pre .1)))

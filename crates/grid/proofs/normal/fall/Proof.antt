@@ -6,7 +6,8 @@ use native.Mathlib.Omega.{arith}
 use lib.IntN.{pos, _-ℤ_}
 use lib.ListN.{length, getD}
 use Rattle.whole.specs.Machine.{does-fit, reads-as, v+, vneg, v32}
-use Rattle.grid.proofs.Slopes.{seen-in, n32, fill-fits}
+use Rattle.whole.specs.Casts.{n32}
+use Rattle.grid.proofs.Slopes.{seen-in, fill-fits}
 use Rattle.grid.proofs.normal.fall.Statement.{statement}
 use Rattle.grid.proofs.normal.fall.Tie as tie
 
