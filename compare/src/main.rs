@@ -1,5 +1,6 @@
 // The comparison: the proved programs and the proved library beside the independent program, by seed. Status 1 if anything differs.
 
+mod lengths;
 mod library;
 mod profile;
 mod programs;

@@ -111,17 +111,12 @@ impl Drop for Folder {
 /// A record whose water is thrown back by the walls at every step: gravity, hardly taken over with p 1, brakes it at the first and
 /// pushes it past the limit at the second, which is refused with 7.
 fn refused_at_second() -> Vec<u8> {
-    let along = [0, 1, -1, 0, 0, 0, 0, 1, -1, 1, -1, 0, 0, 0, 0, 1, -1, 1, -1];
-    let (rho, j) = (i64::from(ONE), 196_300);
     let mut grid = Grid::new(Sides::new(3, 3, 3)).unwrap();
     grid.set_interface(MIDDLE, ONE / 2).unwrap();
     let parts = &mut grid.state_mut().parts[PARTS * MIDDLE..PARTS * (MIDDLE + 1)];
-    for (k, e) in along.into_iter().enumerate().skip(1) {
-        let weight = if k < 7 { 2 } else { 1 };
-        let q = 2 * rho * rho + 6 * rho * e * j + 9 * e * e * j * j - 3 * j * j;
-        parts[k] = (weight * q / (72 * rho)) as i32;
+    for (part, moving) in parts.iter_mut().zip(scenes::parts_at(ONE.into(), &[196_300, 0, 0])) {
+        *part = moving as i32;
     }
-    parts[0] = ONE - parts[1..].iter().sum::<i32>();
     let settings = Settings { p: 1, gx: 1048, gy: 0, gz: 0 };
     grid.write(settings, Site { edge: 50, origin: Point::new(0, 0, 0) }).unwrap()
 }

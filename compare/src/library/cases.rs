@@ -10,6 +10,7 @@ use oracle::state::{CARRY_LIMIT, FLUID, INTERFACE, MASS_LIMIT, PART_LIMIT, WALL}
 use oracle::Store;
 
 use super::Reply;
+use crate::lengths::{changed, CHANGES};
 
 /// What the eight functions are lent; sides and lengths may be wrong.
 #[derive(Clone)]
@@ -262,15 +263,7 @@ impl Case {
 
     /// Another length for one of the lent slices.
     fn resize(&mut self, random: &mut Random) {
-        let change = random.below(4);
-        fn changed<T: Copy + Default>(slice: &mut Vec<T>, change: usize) {
-            match change {
-                0 => slice.truncate(slice.len().saturating_sub(1)),
-                1 => slice.push(T::default()),
-                2 => slice.clear(),
-                _ => slice.extend_from_within(..),
-            }
-        }
+        let change = random.below(CHANGES);
         let set = if random.percent(50) { &mut self.first } else { &mut self.second };
         match random.below(6) {
             0 => changed(&mut set.flags, change),

@@ -5,6 +5,8 @@ use oracle::scenes::good;
 use oracle::state::WALL;
 use oracle::Store;
 
+use crate::lengths::{changed, CHANGES};
+
 /// What the profile is lent and given; sides and lengths may be wrong.
 #[derive(Clone)]
 pub struct List {
@@ -163,15 +165,7 @@ impl List {
 
     /// Another length for one of the slices.
     fn resize(&mut self, random: &mut Random) {
-        fn changed<T: Copy + Default>(slice: &mut Vec<T>, change: usize) {
-            match change {
-                0 => slice.truncate(slice.len().saturating_sub(1)),
-                1 => slice.push(T::default()),
-                2 => slice.clear(),
-                _ => slice.extend_from_within(..),
-            }
-        }
-        let change = random.below(4);
+        let change = random.below(CHANGES);
         match random.below(6) {
             0 => changed(&mut self.flags, change),
             1 => changed(&mut self.fills, change),

@@ -1,5 +1,5 @@
 // Stage 4: collision. The eighteen directions go by pairs: opposite directions share the even part of Q and differ in the sign of the odd one.
-// One division a cell estimates p times every equilibrium part; one or two cells in a thousand, where an estimate does not tell, go by the divider.
+// One division a cell estimates p times every equilibrium part; a few cells in a thousand, where an estimate does not tell, go by the divider.
 use crate::estimate::ends;
 use crate::landing::highest;
 use crate::landing::settled;
