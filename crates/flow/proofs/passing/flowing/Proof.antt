@@ -96,21 +96,6 @@ module _ (d : tie.In-loop Inv-loop μ-loop) where
       subst (λ (n : ℕ). Around n off low cell) (sym (poise .flags))
       (around offs cell (liquid-inner (start .args .s) (start .args .g) _ poise cell is-cell l))
 
-  putting : Putting (start .args .flags .now) (start .args .parts .now) (d .before .loop .parts2) (getD (d .before .loop .marks) cell 0) off (d .before .before .sources .result) low cell (start .args .g)
-  unfolding stateOf
-  putting = record {
-    bodied = poised-bodied (start .args .s) (start .args .g) _ poise;
-    is-cell = d .loop-test .taken;
-    around = around-it;
-    mirrored = mirrored (start .args .s) off low (offs .table) (offs .lowest) small;
-    sources = d .before .before .sources .ensures;
-    marked = λ l e.
-        immersed offs cell (liquid-inner (start .args .s) (start .args .g) _ poise cell is-cell l) (start .args .flags .now)
-        (start .pre .marked cell is-cell l (sym (walked .marks-left cell (le-refl cell)) ∙ e));
-    settings = poise .settings;
-    size = d .before .loop .inv .1 ∙ start .pre .parts-room ∙ sym (poise .parts);
-  }
-
   traders : Traders (start .args .flags .now) (start .args .parts .now) (start .args .mass .now) (start .args .fill .now)
   unfolding stateOf
   traders = record {
@@ -123,6 +108,23 @@ module _ (d : tie.In-loop Inv-loop μ-loop) where
       count = poise .fills ∙ sym (poise .flags);
       low = λ c h. fill-most _ _ _ (poised-fill (start .args .s) (start .args .g) _ poise c (subst (λ (n : ℕ). c < n) (poise .flags) h));
     };
+  }
+
+  putting : Putting (start .args .flags .now) (start .args .parts .now) (start .args .fill .now) (d .before .loop .parts2) (getD (d .before .loop .marks) cell 0) off (d .before .before .sources .result) low cell (start .args .g)
+  unfolding stateOf
+  putting = record {
+    bodied = poised-bodied (start .args .s) (start .args .g) _ poise;
+    filled = traders .fills-good;
+    is-cell = d .loop-test .taken;
+    around = around-it;
+    mirrored = mirrored (start .args .s) off low (offs .table) (offs .lowest) small;
+    sources = d .before .before .sources .ensures;
+    marked = λ l e.
+        let m : getD (start .args .marks .now) cell 0 ≡ 1 = sym (walked .marks-left cell (le-refl cell)) ∙ e in
+        immersed offs cell (liquid-inner (start .args .s) (start .args .g) _ poise cell is-cell l) (start .args .flags .now)
+        (start .pre .marked-fluid cell is-cell l m) (start .pre .marked cell is-cell l m);
+    settings = poise .settings;
+    size = d .before .loop .inv .1 ∙ start .pre .parts-room ∙ sym (poise .parts);
   }
 
 offsets-requires : tie.Need-offsets-requires Inv-loop μ-loop
@@ -207,7 +209,7 @@ loop-again c =
       simp length-set (l .inv .2),
       simp length-set (l .inv .3),
       walked-turn (t .args .flags .now) (t .args .parts .now) (t .args .mass .now) (t .args .fill .now) (off d) (low d) (t .args .g) (t .args .marks .now)
-          (l .parts2) (put .last .1 .1 .0) (l .mass2) (l .marks) (l .fair) (l .still) (l .c) (walked d) (put .result) (put .ensures) (not-false _ (c .before .before .before .before .before .before .before .if1 .left))
+          (l .parts2) (put .last .1 .1 .1 .0) (l .mass2) (l .marks) (l .fair) (l .still) (l .c) (walked d) (put .result) (put .ensures) (not-false _ (c .before .before .before .before .before .before .before .if1 .left))
           (gained .result) _ _ _ _ (mark .result) _ (getD-there (t .args .flags .now) (l .c) 0 3 (d .loop-test .taken))
           (omega (arith, l .inv .1, t .pre .parts-room)) (omega (arith, l .inv .2, t .pre .masses-room)) (omega (arith, l .inv .3, t .pre .marks-room))
           (gained .ensures) (toZ-ofZ {w = w32} (record { sfits = c .before .before .before .before .before .struct-told .given .1 .1 .0 .1 }))
