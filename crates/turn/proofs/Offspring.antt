@@ -35,7 +35,7 @@ use Rattle.grid.proofs.Same.{body-same}
 use Rattle.flow.proofs.Mirrored.{around}
 use Rattle.flow.proofs.Onward.{density-seen, fast-seen}
 use Rattle.flow.proofs.Plain.{axial19, new-momentum-same}
-use Rattle.flow.proofs.Poise.{poised-bodied, poised-inner, liquid-inner}
+use Rattle.flow.proofs.Poise.{poised-bodied, poised-fills, poised-inner, liquid-inner}
 use Rattle.turn.specs.Born.{Tested, Fertile, Peopled, flowSight, newlyBorn, laterPart, laterFair}
 
 -- ---- counts
