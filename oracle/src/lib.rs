@@ -5,6 +5,8 @@ pub mod drawing;
 pub mod grid;
 pub mod hunt;
 pub mod lattice;
+pub mod ponds;
+pub mod pools;
 pub mod profile;
 pub mod random;
 pub mod readings;
@@ -18,6 +20,7 @@ pub mod step;
 pub mod text;
 
 pub use grid::Refusal;
+pub use pools::pools;
 pub use profile::profile;
 pub use readings::{cell_point, depth, place};
 pub use record::{read, write};

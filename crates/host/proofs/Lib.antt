@@ -3,3 +3,4 @@ pub mod Spans
 pub mod Told
 pub mod Depths
 pub mod Unique
+pub mod Pools

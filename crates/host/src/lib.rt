@@ -1,9 +1,10 @@
-// The C interface: check, step, run, reader, writer, placing, cell point, depth and profile, over numbers and slices alone. A slice passes as
+// The C interface: check, step, run, reader, writer, placing, cell point, depth, profile and pools, over numbers and slices alone. A slice passes as
 // pointer, then length; a result as the refusal's number, 0 if accepted, with place and values through the numbers lent for them.
 mod answers;
 pub mod check;
 pub mod depth;
 pub mod long_profile;
+pub mod many_pools;
 pub mod many_steps;
 pub mod one_step;
 pub mod place;
