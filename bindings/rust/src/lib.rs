@@ -32,6 +32,7 @@ mod grid;
 mod laying;
 pub mod lent;
 pub mod picture;
+mod pools;
 #[doc(hidden)]
 pub mod raw;
 mod readings;
@@ -42,6 +43,7 @@ pub mod spelling;
 mod state;
 
 pub use grid::{Grid, Record};
+pub use pools::{Pool, Pools};
 pub use readings::{CellPoint, Depth, Line, Profile, Station};
 pub use refusal::{Place, Refusal, Stopped};
 pub use settings::{Point, Settings, Site};

@@ -134,7 +134,7 @@ fn advanced(record: &[u8], steps: u64) -> Vec<u8> {
 }
 
 /// Every command with what it must have, on the record of standard input.
-const CALLS: [&[&str]; 9] = [
+const CALLS: [&[&str]; 10] = [
     &["check"],
     &["water"],
     &["step"],
@@ -143,6 +143,7 @@ const CALLS: [&[&str]; 9] = [
     &["place", "60", "60", "60"],
     &["point", "13"],
     &["depth", "1", "1"],
+    &["pools"],
     &["draw"],
 ];
 

@@ -1,2 +1,3 @@
+pub mod Lakes
 pub mod Stars
 pub mod RuledOut

@@ -9,3 +9,4 @@ pub mod Scanning
 pub mod Listings
 pub mod Tested
 pub mod Answered
+pub mod Guessed

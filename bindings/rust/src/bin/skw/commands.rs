@@ -5,6 +5,7 @@ mod depth;
 mod draw;
 mod place;
 mod point;
+mod pools;
 mod profile;
 mod run;
 mod step;
@@ -38,5 +39,6 @@ pub const COMMANDS: &[Command] = &[
     point::COMMAND,
     depth::COMMAND,
     profile::COMMAND,
+    pools::COMMAND,
     draw::COMMAND,
 ];

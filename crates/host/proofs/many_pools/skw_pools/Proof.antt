@@ -29,7 +29,7 @@ same-length-4 : tie.Need-same-length-4
 same-length-4 c = search needs
 
 returns : tie.Need-returns
-returns c = pools-told (c .before .before .before .before .before .before .before .before .pools .ensures) (c .number .ensures) (c .before .place .ensures) (c .before .before .pools2 .ensures)
+returns c = pools-told (c .before .before .before .before .before .before .before .before .before .before .pools .ensures) (c .number .ensures) (c .before .place .ensures) (c .before .before .pools2 .ensures)
 
 pub skw-pools-spec : {M : Type 1} → statement M
 skw-pools-spec =
