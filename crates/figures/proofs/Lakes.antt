@@ -13,6 +13,7 @@ use Rattle.grid.specs.declared.Answer.{Answer}
 use Rattle.grid.specs.declared.Answer.the-variants.{Done, Refused}
 use Rattle.grid.specs.Grid.{gridOf, open-grid}
 use Rattle.grid.specs.State.{open-state}
+use Rattle.grid.specs.Step.{open-step}
 use Rattle.grid.specs.Good.{open-good}
 use Rattle.grid.specs.Outcome.{accepted, open-outcome}
 use Rattle.grid.specs.Passes.{flagOf}
@@ -37,15 +38,15 @@ and-T false b s t = s
 
 -- ---- the tests, computed
 passes-two : T (accepted (tested lakeSides (lake false) (space 3)))
-unfolding open-fold open-lattice open-cell open-grid open-state open-good open-outcome open-three pools.open-outcome
+unfolding open-fold open-lattice open-cell open-grid open-state open-step open-good open-outcome open-three pools.open-outcome
 passes-two = tt
 
 passes-short : T (accepted (tested lakeSides (lake false) (space 1)))
-unfolding open-fold open-lattice open-cell open-grid open-state open-good open-outcome open-three pools.open-outcome
+unfolding open-fold open-lattice open-cell open-grid open-state open-step open-good open-outcome open-three pools.open-outcome
 passes-short = tt
 
 passes-one : T (accepted (tested lakeSides (lake true) (space 1)))
-unfolding open-fold open-lattice open-cell open-grid open-state open-good open-outcome open-three pools.open-outcome
+unfolding open-fold open-lattice open-cell open-grid open-state open-step open-good open-outcome open-three pools.open-outcome
 passes-one = tt
 
 guess-two : T (guessed 18 (gridOf lakeSides) (flagOf (lake false .flags)) (low false))
@@ -58,15 +59,15 @@ guess-one = tt
 
 -- ---- what the guess gives, computed
 told-two : T (sameZ (toldList (toldGuess lakeSides (lake false) (space 3) (low false)) (roomGuess lakeSides (lake false) (space 3) (low false))) twoPools)
-unfolding open-fold open-lattice open-cell open-grid open-state open-good open-outcome open-three pools.open-outcome open-guess toldGuess roomGuess
+unfolding open-fold open-lattice open-cell open-grid open-state open-step open-good open-outcome open-three pools.open-outcome open-guess toldGuess roomGuess
 told-two = tt
 
 told-short : T (sameZ (toldList (toldGuess lakeSides (lake false) (space 1) (low false)) (roomGuess lakeSides (lake false) (space 1) (low false))) noRoom)
-unfolding open-fold open-lattice open-cell open-grid open-state open-good open-outcome open-three pools.open-outcome open-guess toldGuess roomGuess
+unfolding open-fold open-lattice open-cell open-grid open-state open-step open-good open-outcome open-three pools.open-outcome open-guess toldGuess roomGuess
 told-short = tt
 
 told-one : T (sameZ (toldList (toldGuess lakeSides (lake true) (space 1) (low true)) (roomGuess lakeSides (lake true) (space 1) (low true))) onePool)
-unfolding open-fold open-lattice open-cell open-grid open-state open-good open-outcome open-three pools.open-outcome open-guess toldGuess roomGuess
+unfolding open-fold open-lattice open-cell open-grid open-state open-step open-good open-outcome open-three pools.open-outcome open-guess toldGuess roomGuess
 told-one = tt
 
 -- ---- and so is the outcome
