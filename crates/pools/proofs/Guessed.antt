@@ -202,12 +202,12 @@ module _ (s : Sides) (a : Lent) (r : Room) (low : ℕ → ℕ) where
       let n = counts d3q19 (gridOf s) flag low paired19 (grid-laid s) outer passes in
       let m : tab (cellsOf s) (markOf s (a .flags)) ≡ tab (cellsOf s) (markGuess 18 (gridOf s) flag low)
       = tab-cong (cellsOf s) (markOf s (a .flags)) (markGuess 18 (gridOf s) flag low) 0
-          (λ c h. marks d3q19 (gridOf s) flag low paired19 (grid-laid s) outer passes c (subst (λ (k : ℕ). c < k) (sym (cells-are s)) h)) in
+      (λ c h. marks d3q19 (gridOf s) flag low paired19 (grid-laid s) outer passes c (subst (λ (k : ℕ). c < k) (sym (cells-are s)) h)) in
       let c : tab number (λ k. cellsIn s (a .flags) (suc k)) ≡ tab number (λ k. cellsGuess 18 (gridOf s) flag low (suc k))
       = tab-cong number (λ k. cellsIn s (a .flags) (suc k)) (λ k. cellsGuess 18 (gridOf s) flag low (suc k)) 0 (λ k h. cells d3q19 (gridOf s) flag low paired19 (grid-laid s) outer passes (suc k)) in
       let w : tab number (λ k. waterIn s a (suc k)) ≡ tab number (λ k. waterGuess 18 (gridOf s) flag low (stateOf 18 a .mass) (suc k))
       = tab-cong number (λ k. waterIn s a (suc k)) (λ k. waterGuess 18 (gridOf s) flag low (stateOf 18 a .mass) (suc k)) (pos 0)
-          (λ k h. waters d3q19 (gridOf s) flag low paired19 (grid-laid s) outer passes (stateOf 18 a .mass) (suc k)) in
+      (λ k h. waters d3q19 (gridOf s) flag low paired19 (grid-laid s) outer passes (stateOf 18 a .mass) (suc k)) in
       record {
         told-is = ap (λ (k : ℕ). byTests (tested s a r) (leb k (length (r .counts))) Refused (Refused 21 k) (Pools k)) n;
         room-is =
