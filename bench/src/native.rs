@@ -1,6 +1,22 @@
 // The proved library's step and run, called as a host calls them: through the Rust wrapper of bindings/rust, over lent slices.
 
+use oracle::Set;
+
 use crate::engine::Engine;
+
+/// How many pools a set with three totals has; none where it is refused.
+pub type Pools = fn([usize; 3], Set, &mut [u32], &mut [i64], &mut [u16], &mut [u32]) -> Option<usize>;
+
+/// The proved question, if bench/run linked the library.
+#[cfg(feature = "library")]
+pub fn pools() -> Option<Pools> {
+    Some(linked::pools)
+}
+
+#[cfg(not(feature = "library"))]
+pub fn pools() -> Option<Pools> {
+    None
+}
 
 /// The proved step and run, if bench/run linked the library.
 #[cfg(feature = "library")]
@@ -28,7 +44,7 @@ pub fn sweep() -> Option<Sweep> {
 
 #[cfg(feature = "library")]
 mod linked {
-    use oracle::{Held, HeldMut};
+    use oracle::{Held, HeldMut, Set};
     use skwarzyna::{lent, Index, IndexMut, Refusal, State, StateMut};
 
     use crate::engine::{Answer, Ran, Settings, ACCEPTED};
@@ -41,17 +57,12 @@ mod linked {
         skwarzyna::Settings { p, gx, gy, gz }
     }
 
+    fn state(set: Set) -> State {
+        State { flags: set.flags, parts: set.parts, masses: set.masses, fills: set.fills, carry: set.carry }
+    }
+
     fn held(Held { set, index }: Held) -> skwarzyna::Held {
-        skwarzyna::Held {
-            state: State {
-                flags: set.flags,
-                parts: set.parts,
-                masses: set.masses,
-                fills: set.fills,
-                carry: set.carry,
-            },
-            index: Index { words: index.words, count: index.count },
-        }
+        skwarzyna::Held { state: state(set), index: Index { words: index.words, count: index.count } }
     }
 
     fn held_mut(HeldMut { set, index }: HeldMut) -> skwarzyna::HeldMut {
@@ -103,5 +114,16 @@ mod linked {
                 None => return read,
             }
         }
+    }
+
+    pub fn pools(
+        size: [usize; 3],
+        set: Set,
+        counts: &mut [u32],
+        waters: &mut [i64],
+        marks: &mut [u16],
+        work: &mut [u32],
+    ) -> Option<usize> {
+        lent::pools(sides(size), state(set), counts, waters, marks, work).ok()
     }
 }

@@ -6,6 +6,8 @@ pub mod grid;
 pub mod hunt;
 pub mod index;
 pub mod lattice;
+pub mod ponds;
+pub mod pools;
 pub mod profile;
 pub mod random;
 pub mod readings;
@@ -20,6 +22,7 @@ pub mod text;
 
 pub use grid::Refusal;
 pub use index::{load, surface_count, surface_next, Held, HeldMut, HeldStore, IndexStore};
+pub use pools::pools;
 pub use profile::profile;
 pub use readings::{cell_point, depth, place};
 pub use record::{read, write};

@@ -5,6 +5,7 @@ mod depth;
 mod draw;
 mod place;
 mod point;
+mod pools;
 mod profile;
 mod run;
 mod step;
@@ -40,5 +41,6 @@ pub const COMMANDS: &[Command] = &[
     depth::COMMAND,
     profile::COMMAND,
     surface::COMMAND,
+    pools::COMMAND,
     draw::COMMAND,
 ];
