@@ -1,0 +1,4 @@
+// The C interface of one set: check and loading, over numbers and slices alone. A slice passes as pointer, then length; a result as the refusal's
+// number, 0 if accepted, with place and values through the numbers lent for them.
+pub mod check;
+pub mod load;
