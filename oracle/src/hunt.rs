@@ -82,11 +82,11 @@ pub struct Tally {
 }
 
 impl Tally {
-    fn add(&mut self, event: &'static str, times: usize) {
+    pub(crate) fn add(&mut self, event: &'static str, times: usize) {
         *self.met.entry(event).or_default() += times as u64;
     }
 
-    fn add_if(&mut self, event: &'static str, happened: bool) {
+    pub(crate) fn add_if(&mut self, event: &'static str, happened: bool) {
         self.add(event, usize::from(happened));
     }
 
@@ -95,9 +95,9 @@ impl Tally {
     }
 }
 
-type Finding = Result<(), String>;
+pub(crate) type Finding = Result<(), String>;
 
-fn ensure(holds: bool, otherwise: &str) -> Finding {
+pub(crate) fn ensure(holds: bool, otherwise: &str) -> Finding {
     if holds {
         Ok(())
     } else {

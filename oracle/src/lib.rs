@@ -2,6 +2,7 @@
 
 pub mod damage;
 pub mod drawing;
+pub mod flume;
 pub mod grid;
 pub mod hunt;
 pub mod index;

@@ -16,19 +16,19 @@ pub struct Reading<'a> {
 }
 
 /// The sections not yet read.
-struct Sections<'a> {
+pub(crate) struct Sections<'a> {
     bytes: &'a [u8],
-    at: usize,
+    pub(crate) at: usize,
     section: usize,
 }
 
 impl<'a> Sections<'a> {
-    fn new(bytes: &'a [u8]) -> Sections<'a> {
+    pub(crate) fn new(bytes: &'a [u8]) -> Sections<'a> {
         Sections { bytes, at: 0, section: 0 }
     }
 
     /// The next section's numbers as bytes. The place of 10 is the byte of the section's count.
-    fn next(&mut self, count: usize, size: usize) -> Result<&'a [u8], Refusal> {
+    pub(crate) fn next(&mut self, count: usize, size: usize) -> Result<&'a [u8], Refusal> {
         self.section += 1;
         let rest = &self.bytes[self.at..];
         let Some((head, body)) = rest.split_first_chunk::<4>() else {
@@ -45,15 +45,15 @@ impl<'a> Sections<'a> {
     }
 }
 
-fn numbers_u32(bytes: &[u8]) -> Vec<u32> {
+pub(crate) fn numbers_u32(bytes: &[u8]) -> Vec<u32> {
     bytes.chunks_exact(4).map(|b| u32::from_le_bytes([b[0], b[1], b[2], b[3]])).collect()
 }
 
-fn numbers_i32(bytes: &[u8]) -> Vec<i32> {
+pub(crate) fn numbers_i32(bytes: &[u8]) -> Vec<i32> {
     numbers_u32(bytes).into_iter().map(|number| number as i32).collect()
 }
 
-fn numbers_i64(bytes: &[u8]) -> Vec<i64> {
+pub(crate) fn numbers_i64(bytes: &[u8]) -> Vec<i64> {
     let halves = numbers_u32(bytes);
     halves.chunks_exact(2).map(|half| (u64::from(half[0]) | u64::from(half[1]) << 32) as i64).collect()
 }
