@@ -153,11 +153,22 @@ unsafe fn straight(grid: &Grid, parts: &[f32], c: usize) -> Parts {
     std::array::from_fn(|k| at(parts, grid.source(c, k)))
 }
 
+/// n·e of the cell's normal, from the old fills; a wall counts with the cell's own.
+#[inline(always)]
+unsafe fn leaning(grid: &Grid, old: &FloatStore, c: usize) -> [f32; 9] {
+    let fill = |i: usize| {
+        let b = grid.near(c, i);
+        at(&old.fills, if at(&old.flags, b) == WALL { c } else { b })
+    };
+    along([fill(2) - fill(1), fill(4) - fill(3), fill(6) - fill(5)])
+}
+
 /// Stage 1 of any liquid cell.
 unsafe fn streamed(grid: &Grid, old: &FloatStore, c: usize) -> Parts {
     let own = own(&old.parts, c);
     let flow = flow_of(&own);
     let dots = along(flow.j);
+    let leans = if at(&old.flags, c) == INTERFACE { leaning(grid, old, c) } else { [0.0; 9] };
     let over = 1.0 / (flow.rho * flow.rho);
     let speed = square(flow.j);
     let mut f = own;
@@ -165,7 +176,7 @@ unsafe fn streamed(grid: &Grid, old: &FloatStore, c: usize) -> Parts {
         let (k, b) = (opposite(i), grid.near(c, i));
         f[k] = match at(&old.flags, b) {
             WALL => own[i],
-            EMPTY => {
+            flag if flag == EMPTY || along_direction(&leans, i) > 0.0 => {
                 let dot = dots[(i - 1) / 2];
                 weight(i) * (2.0 + (9.0 * dot * dot - 3.0 * speed) * over) - own[i]
             }
@@ -290,11 +301,7 @@ unsafe fn born(grid: &Grid, factors: Factors, old: &FloatStore, c: usize) -> Par
 
 /// Stage 6 of one converted cell; sign is 1 for a filled one, −1 for an emptied one.
 unsafe fn give(grid: &Grid, old: &FloatStore, new: &mut FloatStore, c: usize, excess: f32, sign: f32) {
-    let fill = |i: usize| {
-        let b = grid.near(c, i);
-        at(&old.fills, if at(&old.flags, b) == WALL { c } else { b })
-    };
-    let dots = along([fill(2) - fill(1), fill(4) - fill(3), fill(6) - fill(5)]);
+    let dots = leaning(grid, old, c);
     let (mut targets, mut total) = (0.0, 0.0);
     let mut weights = [0.0; 19];
     for i in 1..19 {

@@ -106,18 +106,29 @@ unsafe fn straight(grid: &Grid, parts: &[i32], c: usize) -> Parts {
     std::array::from_fn(|k| i64::from(at(parts, grid.source(c, k))))
 }
 
+/// n·e of the cell's normal, from the old fills; a wall counts with the cell's own.
+#[inline(always)]
+unsafe fn leaning(grid: &Grid, old: &Set, c: usize) -> [i64; 9] {
+    let fill = |i: usize| {
+        let b = grid.near(c, i);
+        i64::from(at(old.fills, if at(old.flags, b) == WALL { c } else { b }))
+    };
+    along([fill(2) - fill(1), fill(4) - fill(3), fill(6) - fill(5)])
+}
+
 /// Stage 1 of any liquid cell.
 unsafe fn streamed(grid: &Grid, old: &Set, c: usize) -> Parts {
     let own = own(old.parts, c);
     let flow = flow_of(&own);
     let dots = along(flow.j);
+    let leans = if at(old.flags, c) == INTERFACE { leaning(grid, old, c) } else { [0; 9] };
     let (density, speed) = (flow.rho * flow.rho, square(flow.j));
     let mut f = own;
     for i in 1..19 {
         let (k, b) = (opposite(i), grid.near(c, i));
         f[k] = match at(old.flags, b) {
             WALL => own[i],
-            EMPTY => {
+            flag if flag == EMPTY || along_direction(&leans, i) > 0 => {
                 let dot = dots[(i - 1) / 2];
                 weight(i) * 16_384 * (2 * density + 9 * dot * dot - 3 * speed) / density - own[i]
             }
@@ -246,12 +257,7 @@ unsafe fn born(grid: &Grid, settings: Settings, old: &Set, c: usize) -> Parts {
 
 /// Stage 6 of one converted cell; sign is 1 for a filled one, −1 for an emptied one.
 unsafe fn give(grid: &Grid, old: &Set, new: &mut SetMut, c: usize, excess: i64, sign: i64) {
-    // A wall counts with the cell's own fill.
-    let fill = |i: usize| {
-        let b = grid.near(c, i);
-        i64::from(at(old.fills, if at(old.flags, b) == WALL { c } else { b }))
-    };
-    let dots = along([fill(2) - fill(1), fill(4) - fill(3), fill(6) - fill(5)]);
+    let dots = leaning(grid, old, c);
     let (mut targets, mut total) = (0, 0);
     let mut weights = [0; 19];
     for i in 1..19 {

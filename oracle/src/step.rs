@@ -30,7 +30,7 @@ pub struct Draft {
     pub fates: Vec<Fate>,
 }
 
-/// Stage 1, an empty neighbour: both equilibrium parts of the axis of direction i at gas density ONE.
+/// Stage 1, what is rebuilt: both equilibrium parts of the axis of direction i at gas density ONE.
 pub fn rebuilt(parts: &Parts, i: usize) -> i128 {
     let (rho, j) = (density(parts), momentum(parts));
     let along = dot(&DIRECTIONS[i], &j);
@@ -41,14 +41,17 @@ pub fn rebuilt(parts: &Parts, i: usize) -> i128 {
 /// Stage 1: the streamed parts of liquid cell c.
 pub fn streamed(grid: &Grid, old: &State, c: usize) -> Parts {
     let own = &old.cells[c].parts;
+    let n = normal(grid, old, c);
     let mut parts = [0; 19];
     parts[0] = own[0];
     for i in 1..19 {
         let k = opposite(i);
         let neighbour = &old.cells[grid.near(c, i)];
+        let leans = old.cells[c].flag == INTERFACE && dot(&n, &DIRECTIONS[i]) > 0;
         parts[k] = match neighbour.flag {
             WALL => own[i],
             EMPTY => rebuilt(own, i) - own[i],
+            _ if leans => rebuilt(own, i) - own[i],
             _ => neighbour.parts[k],
         };
     }
@@ -120,7 +123,7 @@ fn newborn(grid: &Grid, old: &State, flows: &[Option<Flow>], c: usize) -> Parts 
     equilibrium(rho, &j)
 }
 
-/// Stage 6: the normal at c, from the old fills; a wall counts with the fill of c itself.
+/// Stages 1 and 6: the normal at c, from the old fills; a wall counts with the fill of c itself.
 pub fn normal(grid: &Grid, old: &State, c: usize) -> Vector {
     let counted = |neighbour: usize| match old.cells[neighbour].flag {
         WALL => old.cells[c].fill,

@@ -328,6 +328,24 @@ fn a_wall_counts_with_the_cells_own_fill() {
 }
 
 #[test]
+fn interface_cells_rebuild_along_the_normal() {
+    // nx is positive in each of the three: each rebuilds what comes from the next one, the last has a wall there.
+    let at = |rho: i128, mass: i128| {
+        let cell = Cell { parts: equilibrium(rho, &[0; 3]), mass, ..Cell::blank(INTERFACE) };
+        Cell { fill: cell.worked_out_fill(), ..cell }
+    };
+    let (grid, old) = row([at(600_000, 500_000), at(589_824, 300_000), at(580_000, 100_000)]);
+    let next = next_state(&grid, &old, 1024, [0; 3]).unwrap();
+    let seen = |c: usize| {
+        let Cell { mass, parts, fill, .. } = next.cells[c];
+        [mass, parts[0], parts[1], parts[2], fill]
+    };
+    assert_eq!(seen(21), [499_621, 199_617, 33_459, 33_082, 54_674]);
+    assert_eq!(seen(22), [300_194, 196_801, 32_894, 32_706, 33_322]);
+    assert_eq!(seen(23), [100_185, 193_520, 32_344, 32_162, 11_309]);
+}
+
+#[test]
 fn excess_leaves_the_wall_alone() {
     let grid = Grid::new([4, 4, 3]).unwrap();
     let mut old = State { cells: vec![Cell::blank(WALL); grid.n], carry: 0 };

@@ -3,11 +3,11 @@ use mathlib.Core.Bool.{Bool, true, false, _&&_, cond}
 use mathlib.Core.List.{List, [], _∷_, _++_, map}
 use Prim.Native.Nat.{ℕ}
 use lib.IntN.{ℤ, pos, negsuc}
-use lib.ListN.{getD}
+use lib.ListN.{getD, replicate}
 use Rattle.whole.specs.Fold.{tab}
 use Rattle.lattice.specs.Cell.{fillOf, exchange, over, under, share, gravityGood}
 use Rattle.grid.specs.State.{Lent, Scene}
-use Rattle.grid.specs.Step.{newFlag, excess, normal, gift}
+use Rattle.grid.specs.Step.{newFlag, newPart, newMass, newFill, excess, normal, gift}
 use Rattle.lattice.specs.Body.{eqZ}
 use Rattle.grid.specs.Outcome.{numberOf, placeOf, checkAnswer, sceneOf, stepAnswer, stepSecond, stepMarks}
 use Rattle.tunnel.specs.declared.Placed.{Placed}
@@ -47,12 +47,16 @@ abbrev placed : ℤ → Placed
 placed point =
     placing.placeOf (record { nx = 10; ny = 3; nz = 3 }) (pos 50) (record { x = pos 5200000000; y = pos 0; z = pos 0 }) (record { x = point; y = pos 0; z = pos 0 })
 
--- P6's two grids as a step reads them
+-- the two grids of P1 and P6 as a step reads them
 abbrev aRow : Scene
 aRow = sceneOf rowSides calm row
 
 abbrev aPool : Scene
 aPool = sceneOf poolSides calm pool
+
+-- parts 0, 1, 2 and the fill of a cell of the row after one step
+abbrev stepped : ℕ → List ℤ
+stepped c = newPart aRow c 0 ∷ newPart aRow c 1 ∷ newPart aRow c 2 ∷ pos (newFill aRow c) ∷ []
 
 -- a profile's answer as number, place, whether a point is wet, and the deepest point
 abbrev answered : Profiled → List ℤ
@@ -104,6 +108,12 @@ figures =
     ∷ one (pos (numberOf (checkAnswer rowSides row))) (pos 0)
     ∷ one (pos (numberOf (checkAnswer poolSides pool))) (pos 0)
     ∷ record { worked = normal aRow 21 .x ∷ normal aRow 22 .x ∷ normal aRow 23 .x ∷ []; said = pos 21280 ∷ pos 43314 ∷ pos 22034 ∷ [] }
+    -- P1, on the same grid: masses of cells 21, 22, 23 after one step; then of each parts 0, 1, 2 and the fill
+    ∷ one (pos (numberOf (stepAnswer rowSides calm row row (replicate 45 7)))) (pos 0)
+    ∷ record { worked = newMass aRow 21 ∷ newMass aRow 22 ∷ newMass aRow 23 ∷ []; said = pos 499621 ∷ pos 300194 ∷ pos 100185 ∷ [] }
+    ∷ record { worked = stepped 21; said = pos 199617 ∷ pos 33459 ∷ pos 33082 ∷ pos 54674 ∷ [] }
+    ∷ record { worked = stepped 22; said = pos 196801 ∷ pos 32894 ∷ pos 32706 ∷ pos 33322 ∷ [] }
+    ∷ record { worked = stepped 23; said = pos 193520 ∷ pos 32344 ∷ pos 32162 ∷ pos 11309 ∷ [] }
     -- P6: cell 21 becomes fluid, its excess is 1,600, n = (49,152, 16,384, 0), and 22, 25, 26 get 600, 200, 800
     ∷ record { worked = pos (newFlag aPool 21) ∷ excess aPool 21 ∷ []; said = pos 2 ∷ pos 1600 ∷ [] }
     ∷ record { worked = normal aPool 21 .x ∷ normal aPool 21 .y ∷ normal aPool 21 .z ∷ []; said = pos 49152 ∷ pos 16384 ∷ pos 0 ∷ [] }

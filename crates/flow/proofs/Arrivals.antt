@@ -15,7 +15,7 @@ use Rattle.lattice.specs.Lattice.{V3, dot, pairOpp, d3q19, density, momentum}
 use Rattle.lattice.specs.Cell.{gas}
 use Rattle.lattice.specs.declared.Settings.{Settings}
 use Rattle.grid.specs.State.{Scene, byFlag, liquid, stateOf}
-use Rattle.grid.specs.Step.{oldDensity, oldMomentum, rebuilt, rebuild, arrives, streamed}
+use Rattle.grid.specs.Step.{oldDensity, oldMomentum, leansTo, rebuilt, rebuild, arrives, streamed}
 use Rattle.grid.specs.Sight.{flowing, sight, Around}
 use Rattle.flow.specs.Sources.{Mirrored, sourceOf, Immersed}
 
@@ -48,20 +48,31 @@ opposite-most a h = go (eqb (a % 2) 0) refl
 
 -- ---- by the neighbour's flag
 
-wall-case : (f : ℕ) (r a o : ℤ) → 2 < f → cond (byFlag f true false false false) r (byFlag f (pos 0) a a o) ≡ o
-wall-case zero r a o h = absurd (omega arith)
-wall-case (suc zero) r a o h = absurd (omega arith)
-wall-case (suc (suc zero)) r a o h = absurd (omega arith)
-wall-case (suc (suc (suc n))) r a o h = refl
+wall-case : (f : ℕ) (b : Bool) (r a o : ℤ) → 2 < f → cond (byFlag f true b b false) r (byFlag f (pos 0) a a o) ≡ o
+wall-case zero b r a o h = absurd (omega arith)
+wall-case (suc zero) b r a o h = absurd (omega arith)
+wall-case (suc (suc zero)) b r a o h = absurd (omega arith)
+wall-case (suc (suc (suc n))) b r a o h = refl
 
-empty-case : (f : ℕ) (r a o : ℤ) → f ≡ 0 → cond (byFlag f true false false false) r (byFlag f (pos 0) a a o) ≡ r
-empty-case f r a o h = rw h refl
+-- empty, or the cell leans there
+rebuilt-case : (f : ℕ) (b : Bool) (r a o : ℤ) → f ≤ 2 → (eqb f 0 || b) ≡ true → cond (byFlag f true b b false) r (byFlag f (pos 0) a a o) ≡ r
+rebuilt-case zero b r a o h e = refl
+rebuilt-case (suc zero) b r a o h e = rw e refl
+rebuilt-case (suc (suc zero)) b r a o h e = rw e refl
+rebuilt-case (suc (suc (suc n))) b r a o h e = absurd (omega arith)
 
-liquid-case : (f : ℕ) (r a o : ℤ) → liquid f ≡ true → cond (byFlag f true false false false) r (byFlag f (pos 0) a a o) ≡ a
-liquid-case zero r a o h = absurd (false≢true h)
-liquid-case (suc zero) r a o h = refl
-liquid-case (suc (suc zero)) r a o h = refl
-liquid-case (suc (suc (suc n))) r a o h = absurd (false≢true h)
+liquid-case : (f : ℕ) (b : Bool) (r a o : ℤ) → f ≤ 2 → (eqb f 0 || b) ≡ false → cond (byFlag f true b b false) r (byFlag f (pos 0) a a o) ≡ a
+liquid-case zero b r a o h e = absurd (false≢true (sym e))
+liquid-case (suc zero) b r a o h e = rw e refl
+liquid-case (suc (suc zero)) b r a o h e = rw e refl
+liquid-case (suc (suc (suc n))) b r a o h e = absurd (omega arith)
+
+-- a liquid neighbour, to which the cell does not lean
+unleaning : (f : ℕ) (b : Bool) → liquid f ≡ true → b ≡ false → (f ≤ 2) × ((eqb f 0 || b) ≡ false)
+unleaning zero b l e = absurd (false≢true l)
+unleaning (suc zero) b l e = (omega arith, e)
+unleaning (suc (suc zero)) b l e = (omega arith, e)
+unleaning (suc (suc (suc n))) b l e = absurd (false≢true l)
 
 -- the code's test
 pub liquid-test : (f : ℕ) → (eqb f 1 || eqb f 2) ≡ liquid f
@@ -70,16 +81,9 @@ liquid-test (suc zero) = refl
 liquid-test (suc (suc zero)) = refl
 liquid-test (suc (suc (suc n))) = ap₂ (λ (a b : Bool). a || b) (ne-eqb (suc (suc (suc n))) 1 (λ e. omega arith)) (ne-eqb (suc (suc (suc n))) 2 (λ e. omega arith))
 
--- what is neither above 2 nor 0
-pub wet : (f : ℕ) → (2 < f → ⊥) → (f ≡ 0 → ⊥) → liquid f ≡ true
-wet zero h z = absurd (z refl)
-wet (suc zero) h z = refl
-wet (suc (suc zero)) h z = refl
-wet (suc (suc (suc n))) h z = absurd (h (omega arith))
-
-module _ (flags : List ℕ) (parts : List ℤ) (off : List ℕ) (low : ℕ) (g : Settings) where
+module _ (flags : List ℕ) (parts : List ℤ) (fills off : List ℕ) (low : ℕ) (g : Settings) where
   abbrev S : Scene
-  S = sight (flowing flags parts) off low g
+  S = sight (flowing flags parts fills) off low g
 
   -- part k of cell c
   abbrev pub part : ℕ → ℕ → ℤ
@@ -92,19 +96,30 @@ module _ (flags : List ℕ) (parts : List ℤ) (off : List ℕ) (low : ℕ) (g :
   module _ (c b i k : ℕ) (e : b ≡ (c - low) + getD off i 0) where
     pub arrives-wall : 2 < getD flags b 3 → arrives S c i k ≡ part c i
     unfolding arrives rebuilt sight stateOf
-    arrives-wall h = wall-case (getD flags (beside c i) 3) (rebuild S c i) (part (beside c i) k) (part c i) (subst (λ (n : ℕ). 2 < getD flags n 3) e h)
+    arrives-wall h = wall-case (getD flags (beside c i) 3) (leansTo S c i) (rebuild S c i) (part (beside c i) k) (part c i) (subst (λ (n : ℕ). 2 < getD flags n 3) e h)
 
-    pub arrives-empty : getD flags b 3 ≡ 0
+    pub arrives-rebuilt : getD flags b 3 ≤ 2 → (eqb (getD flags b 3) 0 || leansTo S c i) ≡ true
         → arrives S c i k
         ≡ gas (d3q19 .weight i) (density d3q19 (part c)) (dot (d3q19 .e i) (momentum d3q19 (part c))) (dot (momentum d3q19 (part c)) (momentum d3q19 (part c))) -ℤ part c i
     unfolding arrives rebuilt rebuild oldDensity oldMomentum sight stateOf
-    arrives-empty h = empty-case (getD flags (beside c i) 3) (rebuild S c i) (part (beside c i) k) (part c i) (subst (λ (n : ℕ). getD flags n 3 ≡ 0) e h)
+    arrives-rebuilt h l =
+        rebuilt-case (getD flags (beside c i) 3) (leansTo S c i) (rebuild S c i) (part (beside c i) k) (part c i)
+        (subst (λ (n : ℕ). getD flags n 3 ≤ 2) e h) (subst (λ (n : ℕ). (eqb (getD flags n 3) 0 || leansTo S c i) ≡ true) e l)
 
-    pub arrives-liquid : liquid (getD flags b 3) ≡ true → arrives S c i k ≡ part b k
+    pub arrives-liquid : getD flags b 3 ≤ 2 → (eqb (getD flags b 3) 0 || leansTo S c i) ≡ false → arrives S c i k ≡ part b k
     unfolding arrives rebuilt sight stateOf
-    arrives-liquid h =
-        liquid-case (getD flags (beside c i) 3) (rebuild S c i) (part (beside c i) k) (part c i) (subst (λ (n : ℕ). liquid (getD flags n 3) ≡ true) e h)
+    arrives-liquid h l =
+        liquid-case (getD flags (beside c i) 3) (leansTo S c i) (rebuild S c i) (part (beside c i) k) (part c i)
+        (subst (λ (n : ℕ). getD flags n 3 ≤ 2) e h) (subst (λ (n : ℕ). (eqb (getD flags n 3) 0 || leansTo S c i) ≡ false) e l)
         ∙ ap (λ (n : ℕ). part n k) (sym e)
+
+    -- a fluid cell leans nowhere
+    pub arrives-straight : getD flags c 3 ≡ 2 → liquid (getD flags b 3) ≡ true → arrives S c i k ≡ part b k
+    unfolding leansTo sight stateOf
+    arrives-straight f h =
+        let l : leansTo S c i ≡ false = rw f refl in
+        let u = unleaning (getD flags b 3) (leansTo S c i) h l in
+        arrives-liquid (u .0) (u .1)
 
   -- ---- part by part
   pub streamed-rest : (c : ℕ) → streamed S c 0 ≡ getD parts (19 * c) (pos 0)
@@ -129,19 +144,19 @@ unfolding sourceOf
 source-is off low i m h = omega (arith, m .pair i h)
 
 -- with liquid all around, every part is read straight from its source
-module _ (flags : List ℕ) (parts : List ℤ) (off : List ℕ) (low : ℕ) (g : Settings) (m : Mirrored off low) (c : ℕ) (l : low ≤ c) (d : Immersed flags off low c) where
+module _ (flags : List ℕ) (parts : List ℤ) (fills off : List ℕ) (low : ℕ) (g : Settings) (m : Mirrored off low) (c : ℕ) (l : low ≤ c) (d : Immersed flags off low c) where
   at-source : (k : ℕ) → 19 * (c - low) + sourceOf off k ≡ 19 * (c - low + getD off (pairOpp k) 0) + k
   unfolding sourceOf
   at-source k = omega arith
 
-  pub streamed-straight : (k : ℕ) → k < 19 → getD parts (19 * (c - low) + sourceOf off k) (pos 0) ≡ streamed (sight (flowing flags parts) off low g) c k
+  pub streamed-straight : (k : ℕ) → k < 19 → getD parts (19 * (c - low) + sourceOf off k) (pos 0) ≡ streamed (sight (flowing flags parts fills) off low g) c k
   unfolding streamed sight stateOf d3q19
   streamed-straight zero h =
       let z : 19 * (c - low + getD off 0 0) ≡ 19 * c = omega (arith, m .pair 0 h) in
       ap (λ (n : ℕ). getD parts n (pos 0)) (at-source 0 ∙ ap (λ (n : ℕ). n + 0) z)
   streamed-straight (suc a) h =
       ap (λ (n : ℕ). getD parts n (pos 0)) (at-source (suc a))
-      ∙ sym (arrives-liquid flags parts off low g c (c - low + getD off (pairOpp (suc a)) 0) (pairOpp (suc a)) (suc a) refl
+      ∙ sym (arrives-straight flags parts fills off low g c (c - low + getD off (pairOpp (suc a)) 0) (pairOpp (suc a)) (suc a) refl (d .fluid)
       (d .each (pairOpp (suc a)) (opposite-some a) (opposite-most a (omega arith))))
 
 pub opposite-low : (k : ℕ) → k < 19 → pairOpp k < 19

@@ -23,7 +23,7 @@ use Rattle.lattice.proofs.Ranges.{weak-x, weak-y, weak-z}
 use Rattle.lattice.proofs.Tame.{pull-in}
 use Rattle.collision.specs.Post.{Pulled}
 use Rattle.grid.specs.State.{Scene, byFlag, liquid, stateOf}
-use Rattle.grid.specs.Step.{oldDensity, oldMomentum, rebuilt, rebuild, arrives, streamed, newDensity, newMomentum, tooFast, collidedDir, collided}
+use Rattle.grid.specs.Step.{seen, normal, oldDensity, oldMomentum, leansTo, rebuilt, rebuild, arrives, streamed, newDensity, newMomentum, tooFast, collidedDir, collided}
 use Rattle.grid.specs.Between.{movedPart}
 use Rattle.grid.specs.Outcome.{settingsGood}
 use Rattle.grid.specs.Sight.{flowing, noSettings, sight}
@@ -39,13 +39,13 @@ by-liquid (suc zero) d x h = refl
 by-liquid (suc (suc zero)) d x h = refl
 by-liquid (suc (suc (suc n))) d x h = absurd (false≢true h)
 
-module _ (flags : List ℕ) (parts : List ℤ) (off : List ℕ) (low : ℕ) (g : Settings) (c : ℕ) (f : List ℤ) (e : f ≡ tab 19 (streamed (sight (flowing flags parts) off low noSettings) c)) where
+module _ (flags : List ℕ) (parts : List ℤ) (fills off : List ℕ) (low : ℕ) (g : Settings) (c : ℕ) (f : List ℤ) (e : f ≡ tab 19 (streamed (sight (flowing flags parts fills) off low noSettings) c)) where
   abbrev S : Scene
-  S = sight (flowing flags parts) off low g
+  S = sight (flowing flags parts fills) off low g
 
   -- stage 1 turns on no setting
-  unset : (k : ℕ) → streamed (sight (flowing flags parts) off low noSettings) c k ≡ streamed S c k
-  unfolding streamed arrives rebuilt rebuild oldDensity oldMomentum sight
+  unset : (k : ℕ) → streamed (sight (flowing flags parts fills) off low noSettings) c k ≡ streamed S c k
+  unfolding streamed arrives seen normal leansTo rebuilt rebuild oldDensity oldMomentum sight
   unset zero = refl
   unset (suc a) = refl
 
@@ -139,9 +139,9 @@ module _ (flags : List ℕ) (parts : List ℤ) (off : List ℕ) (low : ℕ) (g :
         }
 
 -- ---- a cell that is not liquid
-module _ (flags : List ℕ) (parts : List ℤ) (off : List ℕ) (low : ℕ) (g : Settings) (c : ℕ) (d : liquid (getD flags c 3) ≡ false) where
+module _ (flags : List ℕ) (parts : List ℤ) (fills off : List ℕ) (low : ℕ) (g : Settings) (c : ℕ) (d : liquid (getD flags c 3) ≡ false) where
   abbrev T : Scene
-  T = sight (flowing flags parts) off low g
+  T = sight (flowing flags parts fills) off low g
 
   by-dry {ℓ} : {A : Type ℓ} (f : ℕ) (z x : A) → liquid f ≡ false → byFlag f z x x z ≡ z
   by-dry zero z x h = refl

@@ -2,6 +2,7 @@ pub mod Held
 pub mod Trades
 pub mod Stores
 pub mod Spans
+pub mod Leans
 pub mod Arrivals
 pub mod Mirrored
 pub mod Collisions

@@ -16,6 +16,7 @@ use Rattle.grid.specs.State.{liquid}
 use Rattle.grid.specs.Passes.{Inner, lowOf, offsetOf}
 use Rattle.grid.specs.Sight.{Around}
 use Rattle.grid.proofs.Beside.{Offsets, above, place-is, place-low}
+use Rattle.grid.proofs.Offsets.{near-self}
 use Rattle.grid.proofs.Offsets.{listed}
 use Rattle.flow.specs.Sources.{Mirrored, Immersed}
 use Rattle.flow.proofs.Arrivals.{opposite-low}
@@ -41,10 +42,11 @@ mirrored s off low e l h = record {
 module _ {s : Sides} {off : List ℕ} {low : ℕ} (o : Offsets s off low) (c : ℕ) (g : Inner s c) where
   -- an inner cell has its neighbours around it
   pub around : Around (cellsOf s) off low c
-  around = record { is-cell = omega (arith, g .high); from = above o c g; each = place-low o c g }
+  around = record { is-cell = omega (arith, g .high); from = above o c g; each = place-low o c g; self = place-is o c g 0 (omega arith) ∙ near-self s c }
 
-  -- a cell whose neighbours are all liquid, as pass 0 marks it
-  pub immersed : (flags : List ℕ) → ((i : ℕ) → Dir 18 i → liquid (getD flags (gridOf s .near c i) 3) ≡ true) → Immersed flags off low c
-  immersed flags near = record {
+  -- a fluid cell whose neighbours are all liquid, as pass 0 marks it
+  pub immersed : (flags : List ℕ) → getD flags c 3 ≡ 2 → ((i : ℕ) → Dir 18 i → liquid (getD flags (gridOf s .near c i) 3) ≡ true) → Immersed flags off low c
+  immersed flags fluid near = record {
+    fluid = fluid;
     each = λ i z h. subst (λ (n : ℕ). liquid (getD flags n 3) ≡ true) (sym (place-is o c g i h)) (near i (record { some = z; most = omega arith }));
   }

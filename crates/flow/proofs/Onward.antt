@@ -7,7 +7,6 @@ use Prim.Native.Nat.{ℕ, zero, suc, _+_, _-_, _*_, _≤_, _<_}
 use native.Mathlib.Omega.{arith}
 use lib.IntN.{ℤ, pos}
 use lib.ListN.{length, getD}
-use Rattle.whole.specs.Search.{Dir}
 use Rattle.lattice.specs.Lattice.{d3q19}
 use Rattle.lattice.specs.Cell.{over, under}
 use Rattle.lattice.specs.declared.Settings.{Settings}
@@ -20,7 +19,7 @@ use Rattle.grid.specs.Outcome.{sceneOf}
 use Rattle.grid.specs.Between.{Poised, carried, uncarried, movedPart, movedMass, firstMark}
 use Rattle.grid.specs.Sight.{flowing, noSettings, sight}
 use Rattle.grid.proofs.Beside.{Offsets, place-is}
-use Rattle.flow.proofs.Plain.{new-density-same, too-fast-same, collided-same, traded-mass-same}
+use Rattle.flow.proofs.Plain.{axial19, new-density-same, too-fast-same, collided-same, traded-mass-same}
 use Rattle.flow.proofs.Poise.{liquid-inner}
 
 -- ---- by cases on the flag alone
@@ -50,40 +49,40 @@ module _ (s : Sides) (g : Settings) (flags : List ℕ) (parts masses : List ℤ)
   step = sceneOf s g (carried flags parts masses fills carry)
 
   abbrev seen : Scene
-  seen = sight (flowing flags parts) off low g
+  seen = sight (flowing flags parts fills) off low g
 
   abbrev trader : Scene
   trader = sight (uncarried flags parts masses fills) off low noSettings
 
-  near : liquid (getD flags c 3) ≡ true → (i : ℕ) → Dir (d3q19 .q) i → seen .grid .near c i ≡ step .grid .near c i
+  near : liquid (getD flags c 3) ≡ true → (i : ℕ) → i ≤ d3q19 .q → seen .grid .near c i ≡ step .grid .near c i
   unfolding stateOf sight sceneOf d3q19
-  near l i d = place-is o c (liquid-inner s g (carried flags parts masses fills carry) p c h l) i (omega (arith, d .most))
+  near l i d = place-is o c (liquid-inner s g (carried flags parts masses fills carry) p c h l) i (omega arith)
 
   -- stages 1, 3 and 4
   module _ (l : liquid (getD flags c 3) ≡ true) where
     pub density-seen : newDensity seen c ≡ newDensity step c
     unfolding sight sceneOf stateOf
     density-seen =
-        new-density-same d3q19 paired19 (seen .grid) (step .grid) (step .old .flag) (step .old .part) c (near l)
-        (seen .old .mass) (step .old .mass) (seen .old .fill) (step .old .fill) (seen .old .carry) (step .old .carry) (seen .g) (step .g) (seen .relax) (step .relax)
+        new-density-same d3q19 paired19 axial19 (seen .grid) (step .grid) (step .old .flag) (step .old .part) (step .old .fill) c (near l)
+        (seen .old .mass) (step .old .mass) (seen .old .carry) (step .old .carry) (seen .g) (step .g) (seen .relax) (step .relax)
 
     wet-fast : tooFast seen c ≡ tooFast step c
     unfolding sight sceneOf stateOf
     wet-fast =
-        too-fast-same d3q19 paired19 (seen .grid) (step .grid) (step .old .flag) (step .old .part) c (near l)
-        (seen .old .mass) (step .old .mass) (seen .old .fill) (step .old .fill) (seen .old .carry) (step .old .carry) (step .g) (step .relax)
+        too-fast-same d3q19 paired19 axial19 (seen .grid) (step .grid) (step .old .flag) (step .old .part) (step .old .fill) c (near l)
+        (seen .old .mass) (step .old .mass) (seen .old .carry) (step .old .carry) (step .g) (step .relax)
 
     pub collided-seen : (k : ℕ) → k ≤ 18 → collided seen c k ≡ collided step c k
     unfolding sight sceneOf stateOf d3q19
     collided-seen =
-        collided-same d3q19 paired19 (seen .grid) (step .grid) (step .old .flag) (step .old .part) c (near l)
-        (seen .old .mass) (step .old .mass) (seen .old .fill) (step .old .fill) (seen .old .carry) (step .old .carry) (step .g) (step .relax)
+        collided-same d3q19 paired19 axial19 (seen .grid) (step .grid) (step .old .flag) (step .old .part) (step .old .fill) c (near l)
+        (seen .old .mass) (step .old .mass) (seen .old .carry) (step .old .carry) (step .g) (step .relax)
 
     traded-seen : tradedMass trader c ≡ tradedMass step c
     unfolding sight sceneOf stateOf
     traded-seen =
-        traded-mass-same d3q19 paired19 (trader .grid) (step .grid) (step .old .flag) (step .old .part) c (near l)
-        (step .old .mass) (step .old .fill) (trader .old .carry) (step .old .carry) (trader .g) (step .g) (trader .relax) (step .relax)
+        traded-mass-same d3q19 paired19 axial19 (trader .grid) (step .grid) (step .old .flag) (step .old .part) (step .old .fill) c (near l)
+        (step .old .mass) (trader .old .carry) (step .old .carry) (trader .g) (step .g) (trader .relax) (step .relax)
 
   pub fast-seen : tooFast seen c ≡ tooFast step c
   unfolding tooFast sight sceneOf stateOf

@@ -1,43 +1,70 @@
--- A cell's stages turn on nothing but flags, parts, fills and masses, and on where its own neighbours lie: two scenes that agree in these agree in what
+-- A cell's stages turn on nothing but flags, parts, fills and masses, and on where it and its neighbours lie: two scenes that agree in these agree in what
 -- they make of the cell. So what a function of one cell promises of its sight is what the step's scene has. Assumes nothing.
 use mathlib.Core.Path.{_≡_, refl, sym, ap, ap₂, _∙_}
 use mathlib.Core.Bool.{Bool, true, false, _&&_, not, cond}
 use Prim.Native.Nat.{ℕ, zero, suc, _+_, _≤_, _<_}
 use native.Mathlib.Omega.{arith}
+use lib.Dec.{eqb}
 use lib.IntN.{ℤ, pos, _+ℤ_, _-ℤ_, _*ℤ_}
 use Rattle.whole.specs.Fold.{sum, dirs}
 use Rattle.whole.specs.Search.{Dir, as-dir}
 use Rattle.whole.specs.Sums.{sum-cong}
-use Rattle.lattice.specs.Lattice.{V3, dot, Lattice, density, momentum}
-use Rattle.lattice.specs.Cell.{dense, slow, gas, exchange, pull, quad, relaxed, over, under}
+use Rattle.lattice.specs.Lattice.{V3, dot, Lattice, d3q19, density, momentum}
+use Rattle.lattice.specs.Cell.{dense, slow, gas, exchange, isPositive, pull, quad, relaxed, over, under}
 use Rattle.lattice.proofs.Paired.{Paired}
 use Rattle.grid.specs.Grid.{Grid}
 use Rattle.grid.specs.State.{State, Scene, byFlag, liquid}
-use Rattle.grid.specs.Step.{oldDensity, oldMomentum, rebuilt, rebuild, arrives, streamed, difference, traded, tradedMass, newDensity, newMomentum, tooFast, collidedDir, collided}
+use Rattle.grid.specs.Step.{seen, normal, oldDensity, oldMomentum, leansTo, rebuilt, rebuild, arrives, streamed, difference, traded, tradedMass, newDensity, newMomentum, tooFast, collidedDir, collided}
 use Rattle.grid.specs.Between.{movedPart, movedMass, firstMark}
 use Rattle.grid.proofs.Same.{density-same, momentum-same}
+
+-- the directions of the axes, or rest where there is no axis
+pub record Axial (L : Lattice) : Type 0 where
+  pub xp : L .xp ≤ L .q
+  pub xm : L .xm ≤ L .q
+  pub yp : L .yp ≤ L .q
+  pub ym : L .ym ≤ L .q
+  pub zp : L .zp ≤ L .q
+  pub zm : L .zm ≤ L .q
+
+pub axial19 : Axial d3q19
+unfolding d3q19
+axial19 = record { xp = omega arith; xm = omega arith; yp = omega arith; ym = omega arith; zp = omega arith; zm = omega arith }
 
 -- two scenes with the same lattice, flags and parts
 abbrev with-flow : Lattice → Grid → (ℕ → ℕ) → (ℕ → ℕ → ℤ) → (ℕ → ℤ) → (ℕ → ℕ) → ℤ → V3 → (ℕ → ℤ) → Scene
 with-flow L G flag part mass fill carry g p =
     record { lat = L; grid = G; old = record { flag = flag; part = part; mass = mass; fill = fill; carry = carry }; g = g; relax = p }
 
-module _ (L : Lattice) (pair : Paired L) (G H : Grid) (flag : ℕ → ℕ) (part : ℕ → ℕ → ℤ) (c : ℕ) (near : (i : ℕ) → Dir (L .q) i → G .near c i ≡ H .near c i) where
-  -- stage 1 turns on flags and parts alone
-  module _ (mass mass′ : ℕ → ℤ) (fill fill′ : ℕ → ℕ) (carry carry′ : ℤ) (g g′ : V3) (p p′ : ℕ → ℤ) where
+module _ (L : Lattice) (pair : Paired L) (axes : Axial L) (G H : Grid) (flag : ℕ → ℕ) (part : ℕ → ℕ → ℤ) (fill : ℕ → ℕ) (c : ℕ)
+    (near : (i : ℕ) → i ≤ L .q → G .near c i ≡ H .near c i) where
+  -- stage 1 turns on flags, parts and fills alone
+  module _ (mass mass′ : ℕ → ℤ) (carry carry′ : ℤ) (g g′ : V3) (p p′ : ℕ → ℤ) where
     abbrev S : Scene
     S = with-flow L G flag part mass fill carry g p
 
     abbrev S′ : Scene
-    S′ = with-flow L H flag part mass′ fill′ carry′ g′ p′
+    S′ = with-flow L H flag part mass′ fill carry′ g′ p′
+
+    seen-same : (i : ℕ) → i ≤ L .q → seen S c (G .near c i) ≡ seen S′ c (H .near c i)
+    unfolding seen
+    seen-same i h = ap (λ (n : ℕ). byFlag (flag n) (pos (fill n)) (pos (fill n)) (pos (fill n)) (pos (fill c))) (near i h)
+
+    normal-same : normal S c ≡ normal S′ c
+    unfolding normal
+    normal-same i = record {
+      x = seen-same (L .xm) (axes .xm) i -ℤ seen-same (L .xp) (axes .xp) i;
+      y = seen-same (L .ym) (axes .ym) i -ℤ seen-same (L .yp) (axes .yp) i;
+      z = seen-same (L .zm) (axes .zm) i -ℤ seen-same (L .zp) (axes .zp) i;
+    }
 
     arrives-same : (i k : ℕ) → Dir (L .q) i → arrives S c i k ≡ arrives S′ c i k
-    unfolding arrives rebuilt rebuild oldDensity oldMomentum
+    unfolding arrives leansTo rebuilt rebuild oldDensity oldMomentum
     arrives-same i k d =
-        ap (λ (n : ℕ). cond (byFlag (flag n) true false false false)
+        ap₂ (λ (n : ℕ) (v : V3). cond (byFlag (flag n) true (eqb (flag c) 1 && isPositive (dot v (L .e i))) (eqb (flag c) 1 && isPositive (dot v (L .e i))) false)
         (gas (L .weight i) (density L (part c)) (dot (L .e i) (momentum L (part c))) (dot (momentum L (part c)) (momentum L (part c))) -ℤ part c i)
         (byFlag (flag n) (pos 0) (part n k) (part n k) (part c i)))
-        (near i d)
+        (near i (d .most)) normal-same
 
     pub streamed-same : (k : ℕ) → k ≤ L .q → streamed S c k ≡ streamed S′ c k
     unfolding streamed
@@ -49,18 +76,18 @@ module _ (L : Lattice) (pair : Paired L) (G H : Grid) (flag : ℕ → ℕ) (part
     new-density-same = density-same L (streamed S c) (streamed S′ c) streamed-same
 
   -- stages 3 and 4 turn on gravity and relaxation too
-  module _ (mass mass′ : ℕ → ℤ) (fill fill′ : ℕ → ℕ) (carry carry′ : ℤ) (g : V3) (p : ℕ → ℤ) where
+  module _ (mass mass′ : ℕ → ℤ) (carry carry′ : ℤ) (g : V3) (p : ℕ → ℤ) where
     abbrev M : Scene
     M = with-flow L G flag part mass fill carry g p
 
     abbrev M′ : Scene
-    M′ = with-flow L H flag part mass′ fill′ carry′ g p
+    M′ = with-flow L H flag part mass′ fill carry′ g p
 
     density-is : newDensity M c ≡ newDensity M′ c
-    density-is = new-density-same mass mass′ fill fill′ carry carry′ g g p p
+    density-is = new-density-same mass mass′ carry carry′ g g p p
 
     streamed-is : (k : ℕ) → k ≤ L .q → streamed M c k ≡ streamed M′ c k
-    streamed-is = streamed-same mass mass′ fill fill′ carry carry′ g g p p
+    streamed-is = streamed-same mass mass′ carry carry′ g g p p
 
     pub new-momentum-same : newMomentum M c ≡ newMomentum M′ c
     unfolding newMomentum
@@ -92,7 +119,7 @@ module _ (L : Lattice) (pair : Paired L) (G H : Grid) (flag : ℕ → ℕ) (part
     moved-part-same k h = ap (λ (x : ℤ). byFlag (flag c) (pos 0) x x (pos 0)) (collided-same k h)
 
   -- stage 2 turns on masses and fills
-  module _ (mass : ℕ → ℤ) (fill : ℕ → ℕ) (carry carry′ : ℤ) (g g′ : V3) (p p′ : ℕ → ℤ) where
+  module _ (mass : ℕ → ℤ) (carry carry′ : ℤ) (g g′ : V3) (p p′ : ℕ → ℤ) where
     abbrev T : Scene
     T = with-flow L G flag part mass fill carry g p
 
@@ -102,7 +129,7 @@ module _ (L : Lattice) (pair : Paired L) (G H : Grid) (flag : ℕ → ℕ) (part
     traded-same : (i : ℕ) → Dir (L .q) i → traded T c i ≡ traded T′ c i
     unfolding traded difference
     traded-same i d =
-        ap (λ (n : ℕ). byFlag (flag n) (pos 0) (exchange (fill c + fill n) (part n (L .opp i) -ℤ part c i)) (part n (L .opp i) -ℤ part c i) (pos 0)) (near i d)
+        ap (λ (n : ℕ). byFlag (flag n) (pos 0) (exchange (fill c + fill n) (part n (L .opp i) -ℤ part c i)) (part n (L .opp i) -ℤ part c i) (pos 0)) (near i (d .most))
 
     pub traded-mass-same : tradedMass T c ≡ tradedMass T′ c
     unfolding tradedMass
@@ -111,9 +138,9 @@ module _ (L : Lattice) (pair : Paired L) (G H : Grid) (flag : ℕ → ℕ) (part
     pub moved-mass-same : movedMass T c ≡ movedMass T′ c
     unfolding movedMass
     moved-mass-same =
-        ap₂ (λ (m ρ : ℤ). byFlag (flag c) (pos 0) m ρ (pos 0)) traded-mass-same (new-density-same mass mass fill fill carry carry′ g g′ p p′)
+        ap₂ (λ (m ρ : ℤ). byFlag (flag c) (pos 0) m ρ (pos 0)) traded-mass-same (new-density-same mass mass carry carry′ g g′ p p′)
 
     pub first-mark-same : firstMark T c ≡ firstMark T′ c
     unfolding firstMark
     first-mark-same =
-        ap₂ (λ (m ρ : ℤ). byFlag (flag c) 0 (cond (over m ρ) 1 (cond (under m ρ) 2 0)) 0 0) traded-mass-same (new-density-same mass mass fill fill carry carry′ g g′ p p′)
+        ap₂ (λ (m ρ : ℤ). byFlag (flag c) 0 (cond (over m ρ) 1 (cond (under m ρ) 2 0)) 0 0) traded-mass-same (new-density-same mass mass carry carry′ g g′ p p′)

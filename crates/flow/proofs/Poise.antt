@@ -9,6 +9,7 @@ use lib.ListN.{length, getD}
 use Rattle.whole.specs.Machine.{Within}
 use Rattle.lattice.specs.Lattice.{d3q19, density}
 use Rattle.lattice.specs.declared.Settings.{Settings}
+use Rattle.lattice.proofs.Fills.{fill-most}
 use Rattle.grid.specs.declared.Sides.{Sides}
 use Rattle.grid.specs.Grid.{cellsOf, sidesGood, gridOf, box}
 use Rattle.grid.specs.State.{Lent, State, byFlag, liquid, stateOf}
@@ -21,6 +22,7 @@ use Rattle.grid.proofs.Coordinates.{inner-of}
 use Rattle.grid.proofs.GoodSides.{good-sides}
 use Rattle.grid.proofs.Laid.{inner}
 use Rattle.grid.proofs.Prepared.{ready-sound, ready-cell, cell-body, cell-mass, cell-fill}
+use Rattle.flow.specs.Trade.{Fills}
 
 -- no rule of a cell reads the carry
 alone : (a : Lent) (c : ℕ) → cellGood d3q19 (stateOf 18 a) c ≡ cellGood d3q19 (stateOf 18 (uncarried (a .flags) (a .parts) (a .masses) (a .fills))) c
@@ -46,6 +48,14 @@ pub few : (s : Sides) → sidesGood s ≡ true → cellsOf s ≤ 262144
 unfolding cellsOf
 few s h = good-sides s h .all
 
+-- no fill is above 65,536
+fill-cases : (f : ℕ) (m ρ : ℤ) → fillFor f m ρ ≤ 65536
+unfolding fillFor
+fill-cases zero m ρ = omega arith
+fill-cases (suc zero) m ρ = fill-most m ρ
+fill-cases (suc (suc zero)) m ρ = omega arith
+fill-cases (suc (suc (suc n))) m ρ = omega arith
+
 -- ---- one cell of a set that is poised
 module _ (s : Sides) (g : Settings) (a : Lent) (r : Poised s g a) where
   pub poised-body : (c : ℕ) → c < cellsOf s → liquid (stateOf 18 a .flag c) ≡ true → Body (stateOf 18 a .part c)
@@ -57,7 +67,14 @@ module _ (s : Sides) (g : Settings) (a : Lent) (r : Poised s g a) where
   pub poised-fill : (c : ℕ) → c < cellsOf s → stateOf 18 a .fill c ≡ fillFor (stateOf 18 a .flag c) (stateOf 18 a .mass c) (density d3q19 (stateOf 18 a .part c))
   poised-fill = cell-fill (cellsOf s) (stateOf 18 a) (r .cells)
 
+  pub fill-in : (c : ℕ) → c < cellsOf s → stateOf 18 a .fill c ≤ 65536
+  fill-in c h = omega (arith, poised-fill c h, fill-cases (stateOf 18 a .flag c) (stateOf 18 a .mass c) (density d3q19 (stateOf 18 a .part c)))
+
   -- ---- what a function of one cell asks
+  pub poised-fills : Fills (a .flags) (a .fills)
+  unfolding stateOf
+  poised-fills = record { count = r .fills ∙ sym (r .flags); low = λ c h. fill-in c (subst (λ (n : ℕ). c < n) (r .flags) h) }
+
   pub poised-bodied : Bodied (a .flags) (a .parts)
   unfolding stateOf
   poised-bodied = record {

@@ -1,11 +1,11 @@
 -- How large the numbers of stage 1 can be, from cells with parts, density and speed in their ranges. Assumes nothing.
 use mathlib.Core.Path.{_≡_, refl, sym, ap, ap₂, _∙_, subst}
-use mathlib.Core.Bool.{Bool, true, false, _&&_}
+use mathlib.Core.Bool.{Bool, true, false, _&&_, _||_, false≢true}
 use mathlib.Core.List.{List, [], _∷_}
 use Prim.Native.Nat.{ℕ, zero, suc, _+_, _-_, _*_, _/_, _%_, _≤_, _<_}
 use native.Mathlib.Nat.{mul-le-mul, mul-le-mul-left, mul-le-mul-right, div-le-of-le-mul, le-trans, le-of-eq}
 use native.Mathlib.Omega.{arith}
-use lib.Dec.{leb}
+use lib.Dec.{eqb, leb}
 use lib.ListN.{length, getD}
 use lib.IntN.{ℤ, pos, natAbs, _+ℤ_, _-ℤ_, _*ℤ_}
 use lib.Signed.{_≤ℤ_, quotZ}
@@ -25,10 +25,10 @@ use Rattle.lattice.specs.declared.Flow.{Flow}
 use Rattle.lattice.specs.declared.Settings.{Settings}
 use Rattle.lattice.proofs.Tame.{dense-low, dense-in, steady-tame}
 use Rattle.grid.specs.State.{Scene, liquid, stateOf}
-use Rattle.grid.specs.Step.{arrives, streamed}
+use Rattle.grid.specs.Step.{leansTo, arrives, streamed}
 use Rattle.grid.specs.Sight.{Body, Bodied, Around, flowing, sight}
 use Rattle.grid.proofs.Same.{density-same, momentum-same}
-use Rattle.flow.proofs.Arrivals.{arrives-wall, arrives-empty, arrives-liquid, opposite-some, opposite-most}
+use Rattle.flow.proofs.Arrivals.{arrives-wall, arrives-rebuilt, arrives-liquid, opposite-some, opposite-most}
 
 -- ---- the table: a direction's components, one computed test each
 
@@ -162,9 +162,9 @@ module _ (f : ℕ → ℤ) (b : Body f) where
   momentum-own l e = momentum-same d3q19 (partsOf l) f (part-own l e)
 
 -- ---- what streams into a liquid cell
-module _ (flags : List ℕ) (parts : List ℤ) (off : List ℕ) (low : ℕ) (g : Settings) (t : Bodied flags parts) (c : ℕ) (a : Around (length flags) off low c) (l : liquid (getD flags c 3) ≡ true) where
+module _ (flags : List ℕ) (parts : List ℤ) (fills off : List ℕ) (low : ℕ) (g : Settings) (t : Bodied flags parts) (c : ℕ) (a : Around (length flags) off low c) (l : liquid (getD flags c 3) ≡ true) where
   abbrev S : Scene
-  S = sight (flowing flags parts) off low g
+  S = sight (flowing flags parts fills) off low g
 
   own-in : (k : ℕ) → k ≤ 18 → Within (getD parts (19 * c + k) (pos 0)) 1179648
   own-in k h = t .body c (a .is-cell) l .parts k h
@@ -181,19 +181,24 @@ module _ (flags : List ℕ) (parts : List ℤ) (off : List ℕ) (low : ℕ) (g :
       b : ℕ
       b = (c - low) + getD off i 0
 
-      from : liquid (getD flags b 3) ≡ true → Within (arrives S c i k) 1572864
-      from w =
-          subst (λ (x : ℤ). Within x 1572864) (sym (arrives-liquid flags parts off low g c b i k refl w))
-          (loose (t .body b (a .each i h) w .parts k (omega arith)))
+      -- a neighbour that is no wall: rebuilt, or where it is liquid its own part
+      open-in : getD flags b 3 ≤ 2 → ((eqb (getD flags b 3) 0 || leansTo S c i) ≡ false → liquid (getD flags b 3) ≡ true) → Within (arrives S c i k) 1572864
+      open-in n w = by (eqb (getD flags b 3) 0 || leansTo S c i) refl
+        where
+          by : (r : Bool) → (eqb (getD flags b 3) 0 || leansTo S c i) ≡ r → Within (arrives S c i k) 1572864
+          by true e =
+              subst (λ (x : ℤ). Within x 1572864) (sym (arrives-rebuilt flags parts fills off low g c b i k refl n e))
+              (less (gas-body (λ k. getD parts (19 * c + k) (pos 0)) (t .body c (a .is-cell) l) i z h) (own-in i (omega arith)))
+          by false e =
+              subst (λ (x : ℤ). Within x 1572864) (sym (arrives-liquid flags parts fills off low g c b i k refl n e))
+              (loose (t .body b (a .each i h) (w e) .parts k (omega arith)))
 
       go : (f : ℕ) → getD flags b 3 ≡ f → Within (arrives S c i k) 1572864
-      go zero e =
-          subst (λ (x : ℤ). Within x 1572864) (sym (arrives-empty flags parts off low g c b i k refl e))
-          (less (gas-body (λ k. getD parts (19 * c + k) (pos 0)) (t .body c (a .is-cell) l) i z h) (own-in i (omega arith)))
-      go (suc zero) e = from (ap liquid e)
-      go (suc (suc zero)) e = from (ap liquid e)
+      go zero e = open-in (omega arith) (λ n. absurd (false≢true (sym n ∙ rw e refl)))
+      go (suc zero) e = open-in (omega arith) (λ n. ap liquid e)
+      go (suc (suc zero)) e = open-in (omega arith) (λ n. ap liquid e)
       go (suc (suc (suc n))) e =
-          subst (λ (x : ℤ). Within x 1572864) (sym (arrives-wall flags parts off low g c b i k refl (omega arith))) (loose (own-in i (omega arith)))
+          subst (λ (x : ℤ). Within x 1572864) (sym (arrives-wall flags parts fills off low g c b i k refl (omega arith))) (loose (own-in i (omega arith)))
 
   pub streamed-in : (k : ℕ) → k ≤ 18 → Within (streamed S c k) 1572864
   unfolding streamed sight stateOf d3q19

@@ -42,7 +42,7 @@ use Rattle.flow.proofs.Onward.{fast-seen, part-seen, mass-seen, mark-se
 
 module _ (flags : List ℕ) (parts masses : List ℤ) (fills off : List ℕ) (low : ℕ) (g : Settings) where
   abbrev pub seen : Scene
-  seen = sight (flowing flags parts) off low g
+  seen = sight (flowing flags parts fills) off low g
 
   abbrev pub trader : Scene
   trader = sight (uncarried flags parts masses fills) off low noSettings

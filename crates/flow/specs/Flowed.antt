@@ -18,12 +18,13 @@ use Rattle.grid.specs.Halfway.{Moved}
 use Rattle.flow.specs.declared.passing.Passed.{Passed}
 use Rattle.flow.specs.declared.passing.Passed.the-variants.{Stopped, Through}
 
--- a set that is poised, room of the right lengths, and pass 0's marks: where a liquid cell is marked, all its neighbours are liquid
+-- a set that is poised, room of the right lengths, and pass 0's marks: a liquid cell that is marked is fluid, and all its neighbours are liquid
 pub record Flowable (s : Sides) (g : Settings) (flags : List ℕ) (parts masses : List ℤ) (fills : List ℕ) (parts2 masses2 : List ℤ) (marks : List ℕ) : Type 0 where
   pub poised : Poised s g (uncarried flags parts masses fills)
   pub parts-room : length parts2 ≡ 19 * cellsOf s
   pub masses-room : length masses2 ≡ cellsOf s
   pub marks-room : length marks ≡ cellsOf s
+  pub marked-fluid : (c : ℕ) → c < cellsOf s → liquid (getD flags c 3) ≡ true → getD marks c 0 ≡ 1 → getD flags c 3 ≡ 2
   pub marked : (c : ℕ) → c < cellsOf s → liquid (getD flags c 3) ≡ true → getD marks c 0 ≡ 1
       → (i : ℕ) → Dir 18 i → liquid (getD flags (gridOf s .near c i) 3) ≡ true
 

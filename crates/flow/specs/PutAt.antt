@@ -17,6 +17,7 @@ use Rattle.grid.specs.Sight.{Bodied, Around}
 use Rattle.grid.specs.Pasted.{pasted}
 use Rattle.flow.specs.declared.moving.Put.{Put}
 use Rattle.flow.specs.Sources.{Mirrored, sourceOf, Immersed}
+use Rattle.flow.specs.Trade.{Fills}
 
 -- cell c of scene S, put into a list of parts; after a refusal only the length is told
 pub record PutAt (S : Scene) (c : ℕ) (before after : List ℤ) (r : Put) : Type 0 where
@@ -26,9 +27,10 @@ pub record PutAt (S : Scene) (c : ℕ) (before after : List ℤ) (r : Put) : Typ
   pub rho : r .ok ≡ true → r .rho ≡ byFlag (flagAt S c) (pos 0) (newDensity S c) (newDensity S c) (pos 0)
   pub fair : r .ok ≡ true → r .fair ≡ byFlag (flagAt S c) true (bodyGood d3q19 (collided S c)) (bodyGood d3q19 (collided S c)) true
 
--- what the code asks at cell c: a liquid cell has its neighbours around it, all liquid where pass 0 marked it
-pub record Putting (flags : List ℕ) (parts room : List ℤ) (mark : ℕ) (off from : List ℕ) (low c : ℕ) (g : Settings) : Type 0 where
+-- what the code asks at cell c: a liquid cell has its neighbours around it, and is fluid with liquid all around where pass 0 marked it
+pub record Putting (flags : List ℕ) (parts : List ℤ) (fills : List ℕ) (room : List ℤ) (mark : ℕ) (off from : List ℕ) (low c : ℕ) (g : Settings) : Type 0 where
   pub bodied : Bodied flags parts
+  pub filled : Fills flags fills
   pub is-cell : c < length flags
   pub around : liquid (getD flags c 3) ≡ true → Around (length flags) off low c
   pub mirrored : Mirrored off low

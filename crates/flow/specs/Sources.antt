@@ -1,4 +1,4 @@
--- Where the parts that stream into a cell come from, and what stage 1's code asks at a cell. Assumes nothing.
+-- Where the parts that stream into a cell come from, which way it leans, and what stage 1's code asks at a cell. Assumes nothing.
 use mathlib.Core.Path.{_≡_}
 use mathlib.Core.Bool.{true}
 use mathlib.Core.List.{List}
@@ -8,7 +8,8 @@ use lib.ListN.{length, getD}
 use Rattle.lattice.specs.Lattice.{V3, dot, pairOpp, d3q19, density, momentum}
 use Rattle.lattice.specs.Body.{vec}
 use Rattle.lattice.specs.declared.Flow.{Flow}
-use Rattle.grid.specs.State.{liquid}
+use Rattle.grid.specs.State.{byFlag, liquid}
+use Rattle.grid.specs.Passes.{normalAt}
 use Rattle.grid.specs.Sight.{Bodied}
 
 -- opposite neighbours lie opposite: the offsets of a pair add up to twice the lowest inner cell, and rest's is that cell
@@ -20,9 +21,14 @@ pub record Mirrored (off : List ℕ) (low : ℕ) : Type 0 where
 unfoldable pub sourceOf : List ℕ → ℕ → ℕ
 sourceOf off k = 19 * getD off (pairOpp k) 0 + k
 
--- every neighbour of cell c is liquid
+-- cell c is fluid, and every neighbour of it is liquid
 pub record Immersed (flags off : List ℕ) (low c : ℕ) : Type 0 where
+  pub fluid : getD flags c 3 ≡ 2
   pub each : (i : ℕ) → 0 < i → i < 19 → liquid (getD flags ((c - low) + getD off i 0) 3) ≡ true
+
+-- n·e of direction i for an interface cell c, 0 for any other
+unfoldable pub leanAt : List ℕ → List ℕ → List ℕ → ℕ → ℕ → ℕ → ℤ
+leanAt flags fills off low c i = byFlag (getD flags c 3) (pos 0) (dot (d3q19 .e i) (normalAt flags fills off (c - low))) (pos 0) (pos 0)
 
 -- v is the flow of cell c
 pub record Flows (parts : List ℤ) (c : ℕ) (v : Flow) : Type 0 where
@@ -43,5 +49,5 @@ pub record Beside (flags : List ℕ) (parts : List ℤ) (c b i k : ℕ) (v : Flo
 
 -- names every definition of this file: whoever unfolds this computes with all of them
 unfoldable pub open-sources : Unit {0}
-unfolding sourceOf
+unfolding sourceOf leanAt
 open-sources = tt

@@ -50,7 +50,7 @@ fn fair(f: [i32; 19]) -> bool
 // Stages 3 and 4 of a liquid cell c into which f streamed.
 fn put_moved(f: [i32; 19], parts2: &mut [i32], c: usize, g: Settings) -> Put
     requires { ⌜ Bounded f 1572864 1572864 × (settingsGood g ≡ true) × (19 * c + 19 ≤ length (now parts2)) ⌝ }
-    ensures { λ r. ⌜ ((flags : List ℕ) (parts : List ℤ) (off : List ℕ) (low : ℕ) → liquid (getD flags c 3) ≡ true → f ≡ tab 19 (streamed (sight (flowing flags parts) off low noSettings) c) → PutAt (sight (flowing flags parts) off low g) c (now (parts2 .entry)) (now (parts2 .exit)) r) ⌝ }
+    ensures { λ r. ⌜ ((flags : List ℕ) (parts : List ℤ) (fills off : List ℕ) (low : ℕ) → liquid (getD flags c 3) ≡ true → f ≡ tab 19 (streamed (sight (flowing flags parts fills) off low noSettings) c) → PutAt (sight (flowing flags parts fills) off low g) c (now (parts2 .entry)) (now (parts2 .exit)) r) ⌝ }
 {
     let v = pulled(flow_of(f), g);
     if !steady(v) {
@@ -84,6 +84,7 @@ fn dry_out(parts2: &mut [i32], c: usize)
 pub(crate) fn put_parts(
     flags: &[u8],
     parts: &[i32],
+    fill: &[u32],
     parts2: &mut [i32],
     mark: u8,
     off: &[usize; 19],
@@ -92,11 +93,16 @@ pub(crate) fn put_parts(
     c: usize,
     g: Settings,
 ) -> Put
-    requires { ⌜ Putting (now flags) (now parts) (now parts2) mark (now off) (now from) low c g ⌝ }
-    ensures { λ r. ⌜ PutAt (sight (flowing (now (flags .entry)) (now (parts .entry))) (now (off .entry)) low g) c (now (parts2 .entry)) (now (parts2 .exit)) r ⌝ }
+    requires { ⌜ Putting (now flags) (now parts) (now fill) (now parts2) mark (now off) (now from) low c g ⌝ }
+    ensures { λ r. ⌜ PutAt (sight (flowing (now (flags .entry)) (now (parts .entry)) (now (fill .entry))) (now (off .entry)) low g) c (now (parts2 .entry)) (now (parts2 .exit)) r ⌝ }
 {
     if wet(flags[c]) {
-        return put_moved(chosen(flags, parts, mark, off, from, low, c), parts2, c, g);
+        return put_moved(
+            chosen(flags, parts, fill, mark, off, from, low, c),
+            parts2,
+            c,
+            g,
+        );
     }
     dry_out(parts2, c);
     Put {

@@ -34,7 +34,7 @@ pub fn flowing(
     let mut still = true;
     let mut c = 0;
     while c < flags.len() {
-        let o = moving::put_parts(flags, parts, parts2, marks[c], &off, &from, low, c, g);
+        let o = moving::put_parts(flags, parts, fill, parts2, marks[c], &off, &from, low, c, g);
         if !o.ok {
             return Passed::Stopped(c);
         }

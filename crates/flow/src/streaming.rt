@@ -1,5 +1,6 @@
 // Stage 1: the parts that stream into a cell.
 use grid::cells::own;
+use grid::normal::normal;
 use lattice::Flow;
 use lattice::directions::dots;
 use lattice::directions::weight_of;
@@ -13,10 +14,12 @@ ghost use Prim.Native.Nat.{ℕ, _+_, _-_, _<_};
 ghost use lib.IntN.{pos};
 ghost use lib.ListN.{length, getD};
 ghost use Rattle.whole.specs.Fold.{tab};
+ghost use Rattle.lattice.specs.Cell.{isPositive};
 ghost use Rattle.grid.specs.State.{liquid};
-ghost use Rattle.grid.specs.Step.{arrives, streamed};
+ghost use Rattle.grid.specs.Step.{leansTo, arrives, streamed};
 ghost use Rattle.grid.specs.Sight.{flowing, noSettings, sight, Bodied, Around};
-ghost use Rattle.flow.specs.Sources.{Mirrored, sourceOf, Immersed, Beside};
+ghost use Rattle.flow.specs.Sources.{Mirrored, sourceOf, Immersed, leanAt, Beside};
+ghost use Rattle.flow.specs.Trade.{Fills};
 
 // Where part i that streams straight into a cell lies, counted from the first part of the cell c - low.
 pub(crate) fn sources(off: [usize; 19], low: usize) -> [usize; 19]
@@ -46,7 +49,18 @@ fn streamed_open(parts: &[i32], from: &[usize; 19], a: usize) -> [i32; 19]
     f
 }
 
-// What arrives at cell c from its neighbour b in direction i, whose opposite is k; v is the cell's flow and d its e·j.
+// n·e of each direction, once for all of them; a fluid cell has no such lean.
+fn leaning(flags: &[u8], fill: &[u32], off: &[usize; 19], low: usize, c: usize) -> [i32; 19]
+    requires { ⌜ Fills (now flags) (now fill) × Around (length (now flags)) (now off) low c ⌝ }
+    ensures { λ r. ⌜ r ≡ tab 19 (leanAt (now (flags .entry)) (now (fill .entry)) (now (off .entry)) low c) ⌝ }
+{
+    if flags[c] == 1 {
+        return dots(normal(flags, fill, off, c - low));
+    }
+    [0i32; 19]
+}
+
+// What arrives at cell c from its neighbour b in direction i, whose opposite is k; v is the cell's flow, d its e·j, and n·e its lean.
 fn arriving(
     flags: &[u8],
     parts: &[i32],
@@ -56,34 +70,53 @@ fn arriving(
     k: usize,
     v: Flow,
     d: i32,
+    lean: i32,
 ) -> i32
     requires { ⌜ Beside (now flags) (now parts) c b i k v d ⌝ }
-    ensures { λ r. ⌜ ((off : List ℕ) (low : ℕ) → b ≡ (c - low) + getD off i 0 → r ≡ arrives (sight (flowing (now (flags .entry)) (now (parts .entry))) off low noSettings) c i k) ⌝ }
+    ensures { λ r. ⌜ ((fills off : List ℕ) (low : ℕ) → b ≡ (c - low) + getD off i 0 → isPositive lean ≡ leansTo (sight (flowing (now (flags .entry)) (now (parts .entry)) fills) off low noSettings) c i → r ≡ arrives (sight (flowing (now (flags .entry)) (now (parts .entry)) fills) off low noSettings) c i k) ⌝ }
 {
     let f = flags[b];
     if f > 2 {
         return parts[19 * c + i];
     }
-    if f == 0 {
+    if (f == 0) | (lean > 0) {
         return (rebuilt(v, weight_of(i), d) - wide(parts[19 * c + i])) as i32;
     }
     parts[19 * b + k]
 }
 
 // The parts that stream into a liquid cell. By pairs, so that the loop unrolls whole.
-pub fn streamed(flags: &[u8], parts: &[i32], off: &[usize; 19], low: usize, c: usize) -> [i32; 19]
-    requires { ⌜ Bodied (now flags) (now parts) × Around (length (now flags)) (now off) low c × (liquid (getD (now flags) c 3) ≡ true) ⌝ }
-    ensures { λ r. ⌜ r ≡ tab 19 (streamed (sight (flowing (now (flags .entry)) (now (parts .entry))) (now (off .entry)) low noSettings) c) ⌝ }
+pub fn streamed(
+    flags: &[u8],
+    parts: &[i32],
+    fill: &[u32],
+    off: &[usize; 19],
+    low: usize,
+    c: usize,
+) -> [i32; 19]
+    requires { ⌜ Bodied (now flags) (now parts) × Fills (now flags) (now fill) × Around (length (now flags)) (now off) low c × (liquid (getD (now flags) c 3) ≡ true) ⌝ }
+    ensures { λ r. ⌜ r ≡ tab 19 (streamed (sight (flowing (now (flags .entry)) (now (parts .entry)) (now (fill .entry))) (now (off .entry)) low noSettings) c) ⌝ }
 {
     let k = c - low;
     let v = flow_of(own(parts, c));
     let d = dots(v);
+    let n = leaning(flags, fill, off, low, c);
     let mut f = [0i32; 19];
     f[0] = parts[19 * c];
     let mut i = 1;
     while i < 19 {
-        f[i + 1] = arriving(flags, parts, c, k + off[i], i, i + 1, v, d[i]);
-        f[i] = arriving(flags, parts, c, k + off[i + 1], i + 1, i, v, d[i + 1]);
+        f[i + 1] = arriving(flags, parts, c, k + off[i], i, i + 1, v, d[i], n[i]);
+        f[i] = arriving(
+            flags,
+            parts,
+            c,
+            k + off[i + 1],
+            i + 1,
+            i,
+            v,
+            d[i + 1],
+            n[i + 1],
+        );
         i += 2;
     }
     f
@@ -93,17 +126,18 @@ pub fn streamed(flags: &[u8], parts: &[i32], off: &[usize; 19], low: usize, c: u
 pub(crate) fn chosen(
     flags: &[u8],
     parts: &[i32],
+    fill: &[u32],
     mark: u8,
     off: &[usize; 19],
     from: &[usize; 19],
     low: usize,
     c: usize,
 ) -> [i32; 19]
-    requires { ⌜ Bodied (now flags) (now parts) × Around (length (now flags)) (now off) low c × (liquid (getD (now flags) c 3) ≡ true) × Mirrored (now off) low × (now from ≡ tab 19 (sourceOf (now off))) × (mark ≡ 1 → Immersed (now flags) (now off) low c) ⌝ }
-    ensures { λ r. ⌜ r ≡ tab 19 (streamed (sight (flowing (now (flags .entry)) (now (parts .entry))) (now (off .entry)) low noSettings) c) ⌝ }
+    requires { ⌜ Bodied (now flags) (now parts) × Fills (now flags) (now fill) × Around (length (now flags)) (now off) low c × (liquid (getD (now flags) c 3) ≡ true) × Mirrored (now off) low × (now from ≡ tab 19 (sourceOf (now off))) × (mark ≡ 1 → Immersed (now flags) (now off) low c) ⌝ }
+    ensures { λ r. ⌜ r ≡ tab 19 (streamed (sight (flowing (now (flags .entry)) (now (parts .entry)) (now (fill .entry))) (now (off .entry)) low noSettings) c) ⌝ }
 {
     if mark == 1 {
         return streamed_open(parts, from, 19 * (c - low));
     }
-    streamed(flags, parts, off, low, c)
+    streamed(flags, parts, fill, off, low, c)
 }

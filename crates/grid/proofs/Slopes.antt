@@ -1,6 +1,6 @@
 -- Whose fill counts for a cell, by cases of the flag; and a fill as a signed number. Assumes nothing.
 use mathlib.Core.Path.{_≡_, refl, subst}
-use mathlib.Core.List.{List}
+use mathlib.Core.List.{List, [], _∷_}
 use Prim.Native.Nat.{ℕ, zero, suc, _+_, _≤_, _<_}
 use native.Mathlib.Omega.{arith}
 use lib.IntN.{ℤ, pos}
@@ -8,7 +8,8 @@ use lib.ListN.{length, getD}
 use mir.Syntax.{w32}
 use mir.Val.{SFits}
 use Rattle.whole.specs.Machine.{does-fit, known}
-use Rattle.lattice.specs.Lattice.{V3}
+use Rattle.whole.specs.Ring.{ring-by, quotes}
+use Rattle.lattice.specs.Lattice.{V3, dot}
 use Rattle.grid.specs.State.{byFlag}
 use Rattle.grid.specs.Passes.{seenAt, Sloping}
 use Rattle.grid.proofs.Lists.{getD-there}
@@ -59,3 +60,6 @@ fill-fits {n} h = does-fit {w = w32} (known (pos n) 65536 h) tt
 -- ---- vectors
 pub vector : {x y z u v w : ℤ} → x ≡ u → y ≡ v → z ≡ w → _≡_ {A = V3} (record { x = x; y = y; z = z }) (record { x = u; y = v; z = w })
 vector p q r i = record { x = p i; y = q i; z = r i }
+
+pub dot-turn : (a b : V3) → dot a b ≡ dot b a
+dot-turn a b = ring-by (a .x ∷ a .y ∷ a .z ∷ b .x ∷ b .y ∷ b .z ∷ []) (search quotes depth 20) (search quotes depth 20) tt

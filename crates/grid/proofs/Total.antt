@@ -18,7 +18,7 @@ use Rattle.lattice.proofs.Paired.{Paired, dirs-opp}
 use Rattle.lattice.proofs.Shares.{shares-total, share-none, positive-sum}
 use Rattle.lattice.proofs.ExchangeBack.{exchange-back}
 use Rattle.grid.specs.State.{State, Scene, byFlag}
-use Rattle.grid.specs.Step.{oldDensity, rebuilt, rebuild, arrives, streamed, difference, traded, tradedMass, newDensity}
+use Rattle.grid.specs.Step.{oldDensity, leansTo, rebuilt, rebuild, arrives, streamed, difference, traded, tradedMass, newDensity}
 use Rattle.grid.specs.Step.{filled, emptied, besideFilled, besideEmptied, newFlag, baseMass, target, leanWeight, shareWeight, anyTarget, excess, gift, toCarry, received, newMass, newCarry}
 use Rattle.grid.specs.Between.{movedMass}
 use Rattle.grid.specs.Demands.{Walled, Closed, strayed}
@@ -239,21 +239,21 @@ arrives-fluid (suc zero) false r a own d z e h = h
 arrives-fluid (suc (suc zero)) false r a own d z e h = h
 arrives-fluid (suc (suc (suc n))) false r a own d z e h = sym (+ℤ-idr own)
 
-not-rebuilt : (g : ℕ) → (g ≡ 0 → ⊥) → byFlag g true false false false ≡ false
-not-rebuilt zero z = absurd (z refl)
-not-rebuilt (suc zero) z = refl
-not-rebuilt (suc (suc zero)) z = refl
-not-rebuilt (suc (suc (suc n))) z = refl
+not-rebuilt : (g : ℕ) (b : Bool) → b ≡ false → (g ≡ 0 → ⊥) → byFlag g true b b false ≡ false
+not-rebuilt zero b e z = absurd (z refl)
+not-rebuilt (suc zero) b e z = e
+not-rebuilt (suc (suc zero)) b e z = e
+not-rebuilt (suc (suc (suc n))) b e z = refl
 
 module _ (S : Scene) where
   unfoldable pub flow : ℕ → ℕ → ℤ
   flow c i =
       pair-flow (S .old .flag c) (S .old .flag (S .grid .near c i)) (exchange (S .old .fill c + S .old .fill (S .grid .near c i)) (difference S c i)) (difference S c i)
 
-  -- P1 has to keep this
+  -- what streams into a fluid cell is never rebuilt: it leans to no neighbour, and has no empty one
   pub fluid-kept : (c i : ℕ) → S .old .flag c ≡ 2 → (S .old .flag (S .grid .near c i) ≡ 0 → ⊥) → rebuilt S c i ≡ false
-  unfolding rebuilt
-  fluid-kept c i e z = not-rebuilt (S .old .flag (S .grid .near c i)) z
+  unfolding rebuilt leansTo
+  fluid-kept c i e z = not-rebuilt (S .old .flag (S .grid .near c i)) (leansTo S c i) (rw e refl) z
 
   arrives-one : (c i : ℕ) → (S .old .flag (S .grid .near c i) ≡ 0 → ⊥) → rebuilt S c i ≡ false
       → arrives S c i (S .lat .opp i) ≡ S .old .part c i +ℤ byFlag (S .old .flag (S .grid .near c i)) (pos 0) (difference S c i) (difference S c i) (pos 0)

@@ -12,9 +12,9 @@ use Rattle.lattice.specs.Cell.{dense, slow}
 use Rattle.lattice.specs.declared.Settings.{Settings}
 use Rattle.grid.specs.State.{Lent, State, Scene, liquid, stateOf}
 
--- lists with no masses, fills or carry, for a function that is lent flags and parts alone
-abbrev pub flowing : List ℕ → List ℤ → Lent
-flowing flags parts = record { flags = flags; parts = parts; masses = []; fills = []; carry = [] }
+-- lists with no masses and no carry, for a function that is lent flags, parts and fills alone
+abbrev pub flowing : List ℕ → List ℤ → List ℕ → Lent
+flowing flags parts fills = record { flags = flags; parts = parts; masses = []; fills = fills; carry = [] }
 
 -- no gravity, for a function that is lent no settings
 abbrev pub noSettings : Settings
@@ -42,11 +42,12 @@ pub record Bodied (flags : List ℕ) (parts : List ℤ) : Type 0 where
   pub few : length flags ≤ 262144
   pub body : (c : ℕ) → c < length flags → liquid (getD flags c 3) ≡ true → Body (λ k. getD parts (19 * c + k) (pos 0))
 
--- cell c is a cell, and each of its neighbours is
+-- cell c is a cell, and each of its neighbours is; offset 0 leads to c itself
 pub record Around (n : ℕ) (off : List ℕ) (low c : ℕ) : Type 0 where
   pub is-cell : c < n
   pub from : low ≤ c
   pub each : (i : ℕ) → i < 19 → (c - low) + getD off i 0 < n
+  pub self : (c - low) + getD off 0 0 ≡ c
 
 -- names every definition of this file: whoever unfolds this computes with all of them
 unfoldable pub open-sight : Unit {0}

@@ -31,6 +31,20 @@ over-dirs S f = dirs (S .lat .q) f
 abbrev pub beside : Scene → (ℕ → Bool) → ℕ → Bool
 beside S test c = anyDir (S .lat .q) (λ i. test (near S c i))
 
+-- ---- the normal n of a cell, which stages 1 and 6 read
+
+-- the old fill that c sees at d; a wall counts with the old fill of c itself
+unfoldable pub seen : Scene → ℕ → ℕ → ℤ
+seen S c d = byFlag (flagAt S d) (pos (S .old .fill d)) (pos (S .old .fill d)) (pos (S .old .fill d)) (pos (S .old .fill c))
+
+-- per axis: fill at minus one less fill at plus one
+unfoldable pub normal : Scene → ℕ → V3
+normal S c = record {
+  x = seen S c (near S c (S .lat .xm)) -ℤ seen S c (near S c (S .lat .xp));
+  y = seen S c (near S c (S .lat .ym)) -ℤ seen S c (near S c (S .lat .yp));
+  z = seen S c (near S c (S .lat .zm)) -ℤ seen S c (near S c (S .lat .zp));
+}
+
 -- ---- 1 streaming
 
 unfoldable pub oldDensity : Scene → ℕ → ℤ
@@ -39,9 +53,13 @@ oldDensity S c = density (S .lat) (partAt S c)
 unfoldable pub oldMomentum : Scene → ℕ → V3
 oldMomentum S c = momentum (S .lat) (partAt S c)
 
--- the part that arrives at c from direction i is rebuilt: there is an empty cell (P1 amends this line)
+-- c is interface, and n·e of direction i is positive
+unfoldable pub leansTo : Scene → ℕ → ℕ → Bool
+leansTo S c i = eqb (flagAt S c) 1 && isPositive (dot (normal S c) (S .lat .e i))
+
+-- the part that arrives at c from direction i is rebuilt: there is an empty cell, or a liquid one to which c leans
 unfoldable pub rebuilt : Scene → ℕ → ℕ → Bool
-rebuilt S c i = byFlag (flagAt S (near S c i)) true false false false
+rebuilt S c i = byFlag (flagAt S (near S c i)) true (leansTo S c i) (leansTo S c i) false
 
 -- what is rebuilt: the gas's two opposite parts less the cell's own part i
 unfoldable pub rebuild : Scene → ℕ → ℕ → ℤ
@@ -170,18 +188,6 @@ newPart S c k =
 unfoldable pub excess : Scene → ℕ → ℤ
 excess S c = cond (filled S c) (tradedMass S c -ℤ newDensity S c) (cond (emptied S c) (tradedMass S c) (pos 0))
 
--- the old fill that c sees at d; a wall counts with the old fill of c itself
-unfoldable pub seen : Scene → ℕ → ℕ → ℤ
-seen S c d = byFlag (flagAt S d) (pos (S .old .fill d)) (pos (S .old .fill d)) (pos (S .old .fill d)) (pos (S .old .fill c))
-
--- per axis: fill at minus one less fill at plus one
-unfoldable pub normal : Scene → ℕ → V3
-normal S c = record {
-  x = seen S c (near S c (S .lat .xm)) -ℤ seen S c (near S c (S .lat .xp));
-  y = seen S c (near S c (S .lat .ym)) -ℤ seen S c (near S c (S .lat .yp));
-  z = seen S c (near S c (S .lat .zm)) -ℤ seen S c (near S c (S .lat .zp));
-}
-
 -- targets are neighbours whose new flag is interface
 unfoldable pub target : Scene → ℕ → ℕ → Bool
 target S c k = eqb (newFlag S (near S c k)) 1
@@ -237,5 +243,5 @@ next S = record { flag = newFlag S; part = newPart S; mass = newMass S; fill = n
 
 -- names every definition of this file: whoever unfolds this computes with all of them
 unfoldable pub open-step : Unit {0}
-unfolding oldDensity oldMomentum rebuilt rebuild arrives streamed difference traded tradedMass newDensity newMomentum tooFast collidedDir collided filled besideFilled emptied besideEmptied newFlag baseMass liquidNear nearSum bornDensity bornMomentum bornDir born newPart excess seen normal target anyTarget lean leanWeight shareWeight gift toCarry received newMass newCarry fillFor newFill next
+unfolding seen normal oldDensity oldMomentum leansTo rebuilt rebuild arrives streamed difference traded tradedMass newDensity newMomentum tooFast collidedDir collided filled besideFilled emptied besideEmptied newFlag baseMass liquidNear nearSum bornDensity bornMomentum bornDir born newPart excess target anyTarget lean leanWeight shareWeight gift toCarry received newMass newCarry fillFor newFill next
 open-step = tt

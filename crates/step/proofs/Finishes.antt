@@ -38,7 +38,7 @@ use Rattle.turn.specs.Filled.{Fillable, Refilled}
 use Rattle.turn.proofs.Amounts.{new-dense}
 use Rattle.turn.proofs.Converts.{ready-poised}
 use Rattle.step.specs.Finished.{Finishing, Finished, Tried}
-use Rattle.step.proofs.Opened.{open-near}
+use Rattle.step.proofs.Opened.{open-fluid, open-near}
 use Rattle.step.proofs.Refills.{fillable, fills-next, masses-fair}
 use Rattle.step.proofs.Uncarried.{fast-is, collided-is, moved-part-is, moved-mass-is, first-mark-is}
 
@@ -142,6 +142,7 @@ module _ (s : Sides) (g : Settings) (a : Lent) where
       parts-room = p;
       masses-room = m;
       marks-room = k;
+      marked-fluid = λ c h l o. open-fluid flagged (poised s g a r .closed) before c h l (sym (ap (λ (x : List ℕ). getD x c 0) e) ∙ o);
       marked = λ c h l o. open-near flagged (poised s g a r .closed) before c h l (sym (ap (λ (x : List ℕ). getD x c 0) e) ∙ o);
     }
 

@@ -42,9 +42,9 @@ use Rattle.turn.proofs.Offspring.{tested, within, born-seen, fed, is-born, new-
 use Rattle.step.proofs.Heavy.{still-in, relaxed-in, weighty, weighty-same, quad-of}
 
 -- ---- one cell, as a function of one cell sees it
-module _ (flags : List ℕ) (parts : List ℤ) (off : List ℕ) (low : ℕ) (g : Settings) (t : Tested flags parts off low g) (relax : relaxationGood (g .p) ≡ true) (c : ℕ) where
+module _ (flags : List ℕ) (parts : List ℤ) (fills off : List ℕ) (low : ℕ) (g : Settings) (t : Tested flags parts fills off low g) (relax : relaxationGood (g .p) ≡ true) (c : ℕ) where
   abbrev S : Scene
-  S = flowSight flags parts off low g
+  S = flowSight flags parts fills off low g
 
   module _ (h : c < length flags) (l : liquid (getD flags c 3) ≡ true) where
     abbrev flow : Flow
@@ -58,7 +58,7 @@ module _ (flags : List ℕ) (parts : List ℤ) (off : List ℕ) (low : ℕ) (g :
     unfolding collidedDir sight
     moved-in i z k =
         relaxed-in (tame .low) (tame .rho) (relaxation-in (g .p) relax) (weight-low i z k) (quad-of flow tame i k)
-        (streamed-in flags parts off low g (t .bodies) c (t .around c h (wet-low (getD flags c 3) l)) l i (omega arith))
+        (streamed-in flags parts fills off low g (t .bodies) c (t .around c h (wet-low (getD flags c 3) l)) l i (omega arith))
 
     pub collided-weighty : Weighty (collided S c)
     unfolding collided sight d3q19
@@ -70,7 +70,7 @@ module _ (flags : List ℕ) (parts : List ℤ) (off : List ℕ) (low : ℕ) (g :
     beginning = record { rho = bornDensity S c; x = bornMomentum S c .x; y = bornMomentum S c .y; z = bornMomentum S c .z }
 
     begun : Tame beginning
-    begun = born-tame flags parts off low g c t a (record { rho = refl; momentum = refl }) some
+    begun = born-tame flags parts fills off low g c t a (record { rho = refl; momentum = refl }) some
 
     born-in : (i : ℕ) → 1 ≤ i → i < 19 → Within (bornDir S c i) 33554432
     unfolding bornDir sight
@@ -87,9 +87,9 @@ module _ (s : Sides) (g : Settings) (flags : List ℕ) (parts masses : List ℤ)
   step = sceneOf s g (carried flags parts masses fills carry)
 
   abbrev seen : Scene
-  seen = flowSight flags parts (tab 19 (offsetOf s)) (lowOf s) g
+  seen = flowSight flags parts fills (tab 19 (offsetOf s)) (lowOf s) g
 
-  calm : Tested flags parts (tab 19 (offsetOf s)) (lowOf s) g
+  calm : Tested flags parts fills (tab 19 (offsetOf s)) (lowOf s) g
   calm = tested s g flags parts masses fills carry p fast
 
   listed : {c : ℕ} → c < cellsOf s → c < length flags
@@ -100,7 +100,7 @@ module _ (s : Sides) (g : Settings) (flags : List ℕ) (parts masses : List ℤ)
   wet-weighty c h l =
       weighty-same (collided seen c) (collided step c)
       (λ k m. collided-seen s g flags parts masses fills carry p (tab 19 (offsetOf s)) (lowOf s) (record { table = refl; lowest = refl }) c h l k m)
-      (collided-weighty flags parts (tab 19 (offsetOf s)) (lowOf s) g calm (relaxation-of g (p .settings)) c (listed h) l)
+      (collided-weighty flags parts fills (tab 19 (offsetOf s)) (lowOf s) g calm (relaxation-of g (p .settings)) c (listed h) l)
 
   new-weighty : (c : ℕ) → c < cellsOf s → flagAt step c ≡ 0 → newFlag step c ≡ 1 → Weighty (newPart step c)
   unfolding sceneOf stateOf
@@ -108,7 +108,7 @@ module _ (s : Sides) (g : Settings) (flags : List ℕ) (parts masses : List ℤ)
       let inside = within s g flags parts masses fills carry p c h (omega arith) in
       weighty-same (born seen c) (newPart step c)
       (λ k m. born-seen s g flags parts masses fills carry p c inside k ∙ sym (new-part s g flags parts masses fills carry p (tab (cellsOf s) (newFlag step)) refl c k z n))
-      (born-weighty flags parts (tab 19 (offsetOf s)) (lowOf s) g calm (relaxation-of g (p .settings)) c (calm .around c (listed h) (omega arith))
+      (born-weighty flags parts fills (tab 19 (offsetOf s)) (lowOf s) g calm (relaxation-of g (p .settings)) c (calm .around c (listed h) (omega arith))
       (fed s g flags parts masses fills carry p (tab (cellsOf s) (newFlag step)) refl c h (is-born s g flags parts masses fills carry p (tab (cellsOf s) (newFlag step)) refl c h z n)))
 
   kept : (fi em : Bool) → _≡_ {A = ℕ} (cond fi 2 (cond em 0 1)) 1 → em ≡ false

@@ -9,7 +9,7 @@ use Rattle.lattice.specs.Lattice.{V3, dot, Lattice, density, momentum}
 use Rattle.lattice.specs.Cell.{dense, slow, pull, quad, relaxed, over, under}
 use Rattle.grid.specs.Grid.{Grid}
 use Rattle.grid.specs.State.{Scene, byFlag, liquid}
-use Rattle.grid.specs.Step.{oldDensity, oldMomentum, rebuilt, rebuild, arrives, streamed, difference, traded, tradedMass, newDensity, newMomentum, tooFast, collidedDir, collided}
+use Rattle.grid.specs.Step.{seen, normal, oldDensity, oldMomentum, leansTo, rebuilt, rebuild, arrives, streamed, difference, traded, tradedMass, newDensity, newMomentum, tooFast, collidedDir, collided}
 use Rattle.grid.specs.Between.{movedPart, movedMass, firstMark}
 
 module _ (L : Lattice) (G : Grid) (flag : ℕ → ℕ) (part : ℕ → ℕ → ℤ) (mass : ℕ → ℤ) (fill : ℕ → ℕ) (g : V3) (p : ℕ → ℤ) (k k′ : ℤ) where
@@ -21,7 +21,7 @@ module _ (L : Lattice) (G : Grid) (flag : ℕ → ℕ) (part : ℕ → ℕ → �
 
   -- ---- stages 1 to 4
   streamed-is : (c d : ℕ) → streamed A c d ≡ streamed B c d
-  unfolding streamed arrives rebuilt rebuild oldDensity oldMomentum
+  unfolding streamed arrives seen normal leansTo rebuilt rebuild oldDensity oldMomentum
   streamed-is c zero = refl
   streamed-is c (suc a) = refl
 

@@ -17,7 +17,6 @@ use Rattle.whole.specs.Sums.{sum-abs}
 use Rattle.lattice.specs.Lattice.{dot, d3q19, density}
 use Rattle.lattice.specs.Cell.{dense, slow, exchange, over, under}
 use Rattle.lattice.specs.declared.Settings.{Settings}
-use Rattle.lattice.proofs.Fills.{fill-most}
 use Rattle.lattice.proofs.Paired.{paired19}
 use Rattle.grid.specs.declared.Sides.{Sides}
 use Rattle.grid.specs.Grid.{cellsOf, gridOf, box}
@@ -28,7 +27,7 @@ use Rattle.grid.specs.Between.{Poised, movedMass, settledMark}
 use Rattle.grid.specs.Passes.{Inner}
 use Rattle.grid.proofs.Laid.{inner}
 use Rattle.grid.proofs.Offsets.{near-below}
-use Rattle.flow.proofs.Poise.{poised-body, poised-mass, poised-fill, poised-inner}
+use Rattle.flow.proofs.Poise.{poised-body, poised-mass, fill-in, poised-inner}
 
 -- ---- by cases on flags and tests alone
 
@@ -70,13 +69,6 @@ giver-cases (suc zero) ov un h = refl
 giver-cases (suc (suc zero)) ov un h = absurd (h refl)
 giver-cases (suc (suc (suc n))) ov un h = absurd (h refl)
 
-fill-cases : (f : ℕ) (m ρ : ℤ) → fillFor f m ρ ≤ 65536
-unfolding fillFor
-fill-cases zero m ρ = omega arith
-fill-cases (suc zero) m ρ = fill-most m ρ
-fill-cases (suc (suc zero)) m ρ = omega arith
-fill-cases (suc (suc (suc n))) m ρ = omega arith
-
 moved-le : (f : ℕ) (m ρ : ℤ) → (f ≡ 1 → natAbs m ≤ 44826624) → (liquid f ≡ true → natAbs ρ ≤ 1179648) → natAbs (byFlag f (pos 0) m ρ (pos 0)) ≤ 44826624
 moved-le zero m ρ h k = omega arith
 moved-le (suc zero) m ρ h k = h refl
@@ -114,9 +106,6 @@ module _ (s : Sides) (g : Settings) (a : Lent) (r : Poised s g a) where
   pub near-cell : (c i : ℕ) → c < cellsOf s → (flag c ≡ 3 → ⊥) → i < 19 → gridOf s .near c i < cellsOf s
   near-cell c i h n l = near-below s i l c (inner-cell c h n)
 
-  pub fill-in : (c : ℕ) → c < cellsOf s → stateOf 18 a .fill c ≤ 65536
-  fill-in c h = omega (arith, poised-fill s g a r c h, fill-cases (flag c) (stateOf 18 a .mass c) (density d3q19 (stateOf 18 a .part c)))
-
   difference-in : (c i : ℕ) → c < cellsOf s → flag c ≡ 1 → Dir 18 i → liquid (flag (gridOf s .near c i)) ≡ true
       → natAbs (stateOf 18 a .part (gridOf s .near c i) (d3q19 .opp i) -ℤ stateOf 18 a .part c i) ≤ 2359296
   unfolding d3q19
@@ -145,7 +134,7 @@ module _ (s : Sides) (g : Settings) (a : Lent) (r : Poised s g a) where
       each i d =
           let n : gridOf s .near c i < cellsOf s = near-cell c i h (λ e. omega arith) (omega (arith, d .most)) in
           traded-le (flag (gridOf s .near c i)) (stateOf 18 a .fill c + stateOf 18 a .fill (gridOf s .near c i)) _
-          (omega (arith, fill-in c h, fill-in (gridOf s .near c i) n)) (λ l. difference-in c i h f d l)
+          (omega (arith, fill-in s g a r c h, fill-in s g a r (gridOf s .near c i) n)) (λ l. difference-in c i h f d l)
 
   -- ---- that passed test 7
   module _ (t : cellsOf s ≤ first (cellsOf s) (tooFast S)) where

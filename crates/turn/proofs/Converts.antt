@@ -91,11 +91,11 @@ module _ (s : Sides) (g : Settings) (a : Lent) (r : Ready s g a) (steady : cells
 
   -- pass 4
   module _ (flags : List ℕ) (ef : flags ≡ tab n (newFlag S)) where
-    pub asks-fertile : Fertile (a .flags) (a .parts) (tab 19 (offsetOf s)) (lowOf s) g flags
+    pub asks-fertile : Fertile (a .flags) (a .parts) (a .fills) (tab 19 (offsetOf s)) (lowOf s) g flags
     asks-fertile = fertile s g (a .flags) (a .parts) (a .masses) (a .fills) (a .carry) (ready-poised s g a r) flags ef steady
 
     module _ (before after : List ℤ) (eb : before ≡ tab (19 * n) (λ m. movedPart S (m / 19) (m % 19))) (fair : Bool)
-        (peopled : Peopled (flowSight (a .flags) (a .parts) (tab 19 (offsetOf s)) (lowOf s) g) (newlyBorn (a .flags) flags) (length (a .flags)) before after fair) where
+        (peopled : Peopled (flowSight (a .flags) (a .parts) (a .fills) (tab 19 (offsetOf s)) (lowOf s) g) (newlyBorn (a .flags) flags) (length (a .flags)) before after fair) where
       pub parts-born : after ≡ tab (19 * n) (λ m. bornPart S (m / 19) (m % 19))
       parts-born = parts-later s g (a .flags) (a .parts) (a .masses) (a .fills) (a .carry) (ready-poised s g a r) flags ef before eb peopled
 

@@ -32,6 +32,7 @@ use Rattle.grid.proofs.Listed.{part-at}
 use Rattle.grid.proofs.Moved.{density-collided}
 use Rattle.grid.proofs.Offsets.{near-below, near-self}
 use Rattle.grid.proofs.Same.{density-same}
+use Rattle.grid.proofs.Slopes.{dot-turn}
 use Rattle.excess.specs.Gifts.{back, leaningAt, targetAt, leanWeightAt, evenAt, weightAt, densityAt, excessAt, giftAt, giftFrom, receivedAt, gatheredAt, lostAt, strayAt, Midway}
 use Rattle.excess.proofs.Portions.{share-cong}
 use Rattle.turn.proofs.Amounts.{marked-interface, outer-not, inner-cell}
@@ -66,9 +67,6 @@ stray-cases : (b t : Bool) (x y : ℤ) → (b ≡ true → x ≡ y) → cond (no
 stray-cases true true x y e = refl
 stray-cases true false x y e = e refl
 stray-cases false t x y e = refl
-
-dot-turn : (a b : V3) → dot a b ≡ dot b a
-dot-turn a b = ring-by (a .x ∷ a .y ∷ a .z ∷ b .x ∷ b .y ∷ b .z ∷ []) (search quotes depth 20) (search quotes depth 20) tt
 
 dot-back : (a b : V3) → dot a (back b) ≡ negℤ (dot b a)
 dot-back a b = ring-by (a .x ∷ a .y ∷ a .z ∷ b .x ∷ b .y ∷ b .z ∷ []) (search quotes depth 20) (search quotes depth 20) tt

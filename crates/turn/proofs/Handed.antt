@@ -30,11 +30,13 @@ use Rattle.grid.specs.Outcome.{sceneOf}
 use Rattle.grid.specs.Between.{movedMass, bornPart, gatheredMass}
 use Rattle.grid.specs.Passes.{Inner, lowOf, offsetOf}
 use Rattle.grid.specs.Sight.{Around}
-use Rattle.grid.proofs.Beside.{Offsets, above, place-is, place-low}
+use Rattle.grid.proofs.Beside.{Offsets, place-is}
 use Rattle.grid.proofs.GoodSides.{good-sides}
 use Rattle.grid.proofs.Offsets.{near-below}
 use Rattle.excess.specs.Gifts.{densityAt, settledMass, settledPart, Filled, Parts, Weighed, Gathering, Straying, Settling, Settled, Midway}
-use Rattle.turn.proofs.Amounts.{taker-unmarked, inner-cell, fill-in, moved-mass-in, new-density-in, new-dense}
+use Rattle.flow.proofs.Mirrored.{around as inner-around}
+use Rattle.flow.proofs.Poise.{fill-in}
+use Rattle.turn.proofs.Amounts.{taker-unmarked, inner-cell, moved-mass-in, new-density-in, new-dense}
 use Rattle.turn.proofs.Given.{flag-is, mark-is, mass-is, part-is, none-is, filled-is, converted-interface, marked-converted, born-is, density-is, taker-inner, there-back}
 use Rattle.turn.proofs.Impacts.{collided-rest, collided-at}
 
@@ -148,7 +150,7 @@ module _ {s : Sides} {g : Settings} {a : Lent} {flags fills : List ℕ} {parts m
   -- ---- cells that convert and cells that take are inner
   around : (c : ℕ) → Inner s c → c < cellsOf s → Around (length flags) (tab 19 (offsetOf s)) (lowOf s) c
   around c n h =
-      subst (λ (m : ℕ). Around m (tab 19 (offsetOf s)) (lowOf s) c) (sym flags-count) (record { is-cell = h; from = above o c n; each = place-low o c n })
+      subst (λ (m : ℕ). Around m (tab 19 (offsetOf s)) (lowOf s) c) (sym flags-count) (inner-around o c n)
 
   giver-inner : (c : ℕ) → c < cellsOf s → (getD marks c 0 ≡ 0 → ⊥) → Inner s c
   giver-inner c h m = inner-cell s g a (w .poised) c h (λ f. omega (arith, converted-interface w c (marked-converted w c h m)))

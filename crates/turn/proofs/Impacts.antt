@@ -29,9 +29,10 @@ use Rattle.grid.specs.Outcome.{sceneOf}
 use Rattle.grid.specs.Between.{Poised}
 use Rattle.grid.specs.Passes.{Inner, lowOf, offsetOf}
 use Rattle.grid.specs.Sight.{Around, flowing, sight}
-use Rattle.grid.proofs.Beside.{Offsets, above, place-is, place-low}
+use Rattle.grid.proofs.Beside.{Offsets, place-is}
 use Rattle.flow.proofs.Collisions.{relaxation-of}
-use Rattle.flow.proofs.Plain.{streamed-same}
+use Rattle.flow.proofs.Mirrored.{around}
+use Rattle.flow.proofs.Plain.{axial19, streamed-same}
 use Rattle.flow.proofs.Poise.{poised-bodied, liquid-inner}
 use Rattle.flow.proofs.Spans.{weight-low, streamed-in}
 
@@ -109,23 +110,20 @@ module _ (s : Sides) (g : Settings) (a : Lent) (r : Poised s g a) (t : cellsOf s
   inside : Inner s c
   inside = liquid-inner s g a r c h l
 
-  around : Around (cellsOf s) (tab 19 (offsetOf s)) (lowOf s) c
-  around = record { is-cell = h; from = above o c inside; each = place-low o c inside }
-
   abbrev seen : Scene
-  seen = sight (flowing (a .flags) (a .parts)) (tab 19 (offsetOf s)) (lowOf s) g
+  seen = sight (flowing (a .flags) (a .parts) (a .fills)) (tab 19 (offsetOf s)) (lowOf s) g
 
-  near : (i : ℕ) → Dir (d3q19 .q) i → S .grid .near c i ≡ seen .grid .near c i
+  near : (i : ℕ) → i ≤ d3q19 .q → S .grid .near c i ≡ seen .grid .near c i
   unfolding sight sceneOf d3q19
-  near i d = sym (place-is o c inside i (omega (arith, d .most)))
+  near i d = sym (place-is o c inside i (omega arith))
 
   stream-in : (k : ℕ) → k ≤ 18 → Within (streamed S c k) 1572864
   unfolding sight sceneOf stateOf d3q19
   stream-in k m =
       subst (λ (z : ℤ). Within z 1572864)
-      (sym (streamed-same d3q19 paired19 (S .grid) (seen .grid) (S .old .flag) (S .old .part) c near
-      (S .old .mass) (seen .old .mass) (S .old .fill) (seen .old .fill) (S .old .carry) (seen .old .carry) (S .g) (seen .g) (S .relax) (seen .relax) k m))
-      (streamed-in (a .flags) (a .parts) (tab 19 (offsetOf s)) (lowOf s) g (poised-bodied s g a r) c (subst (λ (n : ℕ). Around n (tab 19 (offsetOf s)) (lowOf s) c) (sym (r .flags)) around) l k m)
+      (sym (streamed-same d3q19 paired19 axial19 (S .grid) (seen .grid) (S .old .flag) (S .old .part) (S .old .fill) c near
+      (S .old .mass) (seen .old .mass) (S .old .carry) (seen .old .carry) (S .g) (seen .g) (S .relax) (seen .relax) k m))
+      (streamed-in (a .flags) (a .parts) (a .fills) (tab 19 (offsetOf s)) (lowOf s) g (poised-bodied s g a r) c (subst (λ (n : ℕ). Around n (tab 19 (offsetOf s)) (lowOf s) c) (sym (r .flags)) (around o c inside)) l k m)
 
   -- density and momentum as a flow
   flow : Flow

@@ -27,9 +27,9 @@ use Rattle.turn.specs.declared.birth.Sum.{Sum}
 use Rattle.turn.specs.Born.{Tested, Roomy, Added, Countable, Meant, Begins, flowSight}
 use Rattle.turn.proofs.Picked.{count-le, count-more, picked, picked-more, picked-abs, picked-low}
 
-module _ (flags : List ℕ) (parts : List ℤ) (off : List ℕ) (low : ℕ) (g : Settings) (c : ℕ) where
+module _ (flags : List ℕ) (parts : List ℤ) (fills off : List ℕ) (low : ℕ) (g : Settings) (c : ℕ) where
   abbrev S : Scene
-  S = flowSight flags parts off low g
+  S = flowSight flags parts fills off low g
 
   -- the neighbour in direction a + 1, and whether it is liquid
   abbrev next-to : ℕ → ℕ
@@ -69,7 +69,7 @@ module _ (flags : List ℕ) (parts : List ℤ) (off : List ℕ) (low : ℕ) (g :
       subst (λ (m : ℕ). Summed m r) (sym u) (summed-next n (subst (λ (m : ℕ). Summed m t) d s) a)
 
   -- ---- bounds: stage 3 has passed, and every neighbour is a cell
-  module _ (t : Tested flags parts off low g) (around : Around (length flags) off low c) where
+  module _ (t : Tested flags parts fills off low g) (around : Around (length flags) off low c) where
     tame : (a : ℕ) → a < 18 → wet a ≡ true
         → Tame (record { rho = newDensity S (next-to a); x = newMomentum S (next-to a) .x; y = newMomentum S (next-to a) .y; z = newMomentum S (next-to a) .z })
     unfolding steadyFlow

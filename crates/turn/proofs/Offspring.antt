@@ -34,8 +34,8 @@ use Rattle.grid.proofs.Listed.{part-at}
 use Rattle.grid.proofs.Same.{body-same}
 use Rattle.flow.proofs.Mirrored.{around}
 use Rattle.flow.proofs.Onward.{density-seen, fast-seen}
-use Rattle.flow.proofs.Plain.{new-momentum-same}
-use Rattle.flow.proofs.Poise.{poised-bodied, poised-inner, liquid-inner}
+use Rattle.flow.proofs.Plain.{axial19, new-momentum-same}
+use Rattle.flow.proofs.Poise.{poised-bodied, poised-fills, poised-inner, liquid-inner}
 use Rattle.turn.specs.Born.{Tested, Fertile, Peopled, flowSight, newlyBorn, laterPart, laterFair}
 
 -- ---- counts
@@ -65,7 +65,7 @@ module _ (s : Sides) (g : Settings) (flags : List ℕ) (parts masses : List ℤ)
   step = sceneOf s g (carried flags parts masses fills carry)
 
   abbrev seen : Scene
-  seen = flowSight flags parts (tab 19 (offsetOf s)) (lowOf s) g
+  seen = flowSight flags parts fills (tab 19 (offsetOf s)) (lowOf s) g
 
   offs : Offsets s (tab 19 (offsetOf s)) (lowOf s)
   offs = record { table = refl; lowest = refl }
@@ -86,10 +86,11 @@ module _ (s : Sides) (g : Settings) (flags : List ℕ) (parts masses : List ℤ)
         steady-both (liquid (getD flags c 3)) (dense (newDensity seen c)) (slow (newDensity seen c) (dot (newMomentum seen c) (newMomentum seen c))) l
         (fast-seen s g flags parts masses fills carry p (tab 19 (offsetOf s)) (lowOf s) offs c h ∙ first-none (cellsOf s) (tooFast step) fast c h)
 
-    pub tested : Tested flags parts (tab 19 (offsetOf s)) (lowOf s) g
+    pub tested : Tested flags parts fills (tab 19 (offsetOf s)) (lowOf s) g
     unfolding settingsGood
     tested = record {
       bodies = poised-bodied s g (carried flags parts masses fills carry) p;
+      fills-good = poised-fills s g (carried flags parts masses fills carry) p;
       gravity = and-right (relaxationGood (g .p)) (gravityGood (g .gx) (g .gy) (g .gz)) (p .settings);
       around = λ c h f. subst (λ (n : ℕ). Around n (tab 19 (offsetOf s)) (lowOf s) c) (sym (p .flags)) (around offs c (within c (is-cell h) f));
       is-dense = λ c h l. steady c (is-cell h) l .0;
@@ -100,9 +101,9 @@ module _ (s : Sides) (g : Settings) (flags : List ℕ) (parts masses : List ℤ)
   momentum-seen : (c : ℕ) → c < cellsOf s → liquid (getD flags c 3) ≡ true → newMomentum seen c ≡ newMomentum step c
   unfolding sight sceneOf stateOf d3q19
   momentum-seen c h l =
-      new-momentum-same d3q19 paired19 (seen .grid) (step .grid) (step .old .flag) (step .old .part) c
-      (λ i d. place-is offs c (liquid-inner s g (carried flags parts masses fills carry) p c h l) i (omega (arith, d .most)))
-      (seen .old .mass) (step .old .mass) (seen .old .fill) (step .old .fill) (seen .old .carry) (step .old .carry) (step .g) (step .relax)
+      new-momentum-same d3q19 paired19 axial19 (seen .grid) (step .grid) (step .old .flag) (step .old .part) (step .old .fill) c
+      (λ i d. place-is offs c (liquid-inner s g (carried flags parts masses fills carry) p c h l) i (omega arith))
+      (seen .old .mass) (step .old .mass) (seen .old .carry) (step .old .carry) (step .g) (step .relax)
 
   module _ (c : ℕ) (inner : Inner s c) where
     place : (a : ℕ) → a < 18 → seen .grid .near c (suc a) ≡ step .grid .near c (suc a)
@@ -201,7 +202,7 @@ module _ (s : Sides) (g : Settings) (flags : List ℕ) (parts masses : List ℤ)
         (count-some 18 (λ a. liquid (getD flags (step .grid .near c (suc a)) 3)) (f .0) (f .1)
         (filled-wet (getD flags (step .grid .near c (suc (f .0))) 3) (over (tradedMass step (step .grid .near c (suc (f .0)))) (newDensity step (step .grid .near c (suc (f .0))))) (f .2)))
 
-    pub fertile : cellsOf s ≤ first (cellsOf s) (tooFast step) → Fertile flags parts (tab 19 (offsetOf s)) (lowOf s) g flags2
+    pub fertile : cellsOf s ≤ first (cellsOf s) (tooFast step) → Fertile flags parts fills (tab 19 (offsetOf s)) (lowOf s) g flags2
     fertile fast = record {
       tested = tested fast;
       count = ap length turned ∙ length-tab (cellsOf s) (newFlag step) ∙ sym (p .flags);

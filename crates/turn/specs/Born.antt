@@ -18,20 +18,22 @@ use Rattle.grid.specs.State.{Scene, liquid}
 use Rattle.grid.specs.Step.{flagAt, newDensity, newMomentum, liquidNear, bornDensity, bornMomentum, born}
 use Rattle.grid.specs.Pasted.{pasted}
 use Rattle.grid.specs.Sight.{Bodied, Around, flowing, sight}
+use Rattle.flow.specs.Trade.{Fills}
 use Rattle.turn.specs.declared.birth.Sum.{Sum}
 
--- the scene of flags and parts under settings g
-abbrev pub flowSight : List ℕ → List ℤ → List ℕ → ℕ → Settings → Scene
-flowSight flags parts off low g = sight (flowing flags parts) off low g
+-- the scene of flags, parts and fills under settings g
+abbrev pub flowSight : List ℕ → List ℤ → List ℕ → List ℕ → ℕ → Settings → Scene
+flowSight flags parts fills off low g = sight (flowing flags parts fills) off low g
 
 -- stage 3 has passed: every liquid cell's ρ' and j' are in their ranges; and whatever is no wall has all its neighbours
-pub record Tested (flags : List ℕ) (parts : List ℤ) (off : List ℕ) (low : ℕ) (g : Settings) : Type 0 where
+pub record Tested (flags : List ℕ) (parts : List ℤ) (fills off : List ℕ) (low : ℕ) (g : Settings) : Type 0 where
   pub bodies : Bodied flags parts
+  pub fills-good : Fills flags fills
   pub gravity : gravityGood (g .gx) (g .gy) (g .gz) ≡ true
   pub around : (c : ℕ) → c < length flags → getD flags c 3 < 3 → Around (length flags) off low c
-  pub is-dense : (c : ℕ) → c < length flags → liquid (getD flags c 3) ≡ true → dense (newDensity (flowSight flags parts off low g) c) ≡ true
+  pub is-dense : (c : ℕ) → c < length flags → liquid (getD flags c 3) ≡ true → dense (newDensity (flowSight flags parts fills off low g) c) ≡ true
   pub is-slow : (c : ℕ) → c < length flags → liquid (getD flags c 3) ≡ true
-      → slow (newDensity (flowSight flags parts off low g) c) (dot (newMomentum (flowSight flags parts off low g) c) (newMomentum (flowSight flags parts off low g) c)) ≡ true
+      → slow (newDensity (flowSight flags parts fills off low g) c) (dot (newMomentum (flowSight flags parts fills off low g) c) (newMomentum (flowSight flags parts fills off low g) c)) ≡ true
 
 -- sums that one more cell cannot overflow
 pub record Roomy (t : Sum) : Type 0 where
@@ -91,10 +93,10 @@ unfoldable pub newlyBorn : List ℕ → List ℕ → ℕ → Bool
 newlyBorn flags flags2 c = eqb (getD flags c 3) 0 && eqb (getD flags2 c 3) 1
 
 -- each of them has a neighbour that was liquid
-pub record Fertile (flags : List ℕ) (parts : List ℤ) (off : List ℕ) (low : ℕ) (g : Settings) (flags2 : List ℕ) : Type 0 where
-  pub tested : Tested flags parts off low g
+pub record Fertile (flags : List ℕ) (parts : List ℤ) (fills off : List ℕ) (low : ℕ) (g : Settings) (flags2 : List ℕ) : Type 0 where
+  pub tested : Tested flags parts fills off low g
   pub count : length flags2 ≡ length flags
-  pub fed : (c : ℕ) → c < length flags → newlyBorn flags flags2 c ≡ true → 0 < liquidNear (flowSight flags parts off low g) c
+  pub fed : (c : ℕ) → c < length flags → newlyBorn flags flags2 c ≡ true → 0 < liquidNear (flowSight flags parts fills off low g) c
 
 -- cell c's parts are written, and fair says whether they keep a liquid cell's rules
 pub record Placed (S : Scene) (c : ℕ) (before after : List ℤ) (fair : Bool) : Type 0 where

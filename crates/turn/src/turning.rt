@@ -35,7 +35,7 @@ fn converted(
 {
     marks::settle_marks(marks, s);
     convert::new_flags(flags, marks, flags2, s);
-    let a = birth::newborn(flags, parts, flags2, parts2, s, g);
+    let a = birth::newborn(flags, parts, fill, flags2, parts2, s, g);
     let k = straying::new_carry(flags2, parts2, mass2, marks, carry[0], s);
     carry2[0] = k;
     giving::gather(flags2, fill, parts2, mass2, marks, s);

@@ -44,10 +44,10 @@ steady-requires c κs =
     (pulled-x _ b _ r j _ g _ (c .pulled .ensures), pulled-y _ b _ r j _ g _ (c .pulled .ensures), pulled-z _ b _ r j _ g _ (c .pulled .ensures))
 
 returns : tie.Need-returns
-returns c flags parts off low l e =
+returns c flags parts fills off low l e =
     let s = c .before .before .before .before in
     let u = c .before .before .before .flow-of .ensures in
-    put-refused flags parts off low _ _ _ e _ _ (u .0) (u .1) (c .before .before .pulled .ensures) l _ _ refl
+    put-refused flags parts fills off low _ _ _ e _ _ (u .0) (u .1) (c .before .before .pulled .ensures) l _ _ refl
     (sym (c .before .steady .ensures) ∙ not-true _ (c .if1 .taken))
 
 -- the relaxation as it was passed on
@@ -75,12 +75,12 @@ same-length : tie.Need-same-length
 same-length c = search needs
 
 returns-2 : tie.Need-returns-2
-returns-2 c flags parts off low l e =
+returns-2 c flags parts fills off low l e =
     let k = c .before .before .before .before .before in
     let a = k .before .before .before in
     let s = a .before .before .before in
     let u = a .before .before .flow-of .ensures in
-    put-accepted flags parts off low _ _ _ e _ _ (u .0) (u .1) (a .before .pulled .ensures) l (k .collided .result)
+    put-accepted flags parts fills off low _ _ _ e _ _ (u .0) (u .1) (a .before .pulled .ensures) l (k .collided .result)
     (subst (λ (p : ℤ). k .collided .result ≡ tab 19 (collidedPart d3q19 (a .before .pulled .result .rho) (vec (a .before .pulled .result)) p (partsOf (s .args .f)))) (relaxation (k .before)) (k .collided .ensures .0))
     _ _ _ (s .pre .2) (c .before .before .before .paste .ensures) refl
     (sym (a .steady .ensures) ∙ not-false _ (k .before .before .if1 .left))

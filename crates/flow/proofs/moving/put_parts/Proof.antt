@@ -23,8 +23,8 @@ shared-slice-read-wet c = search needs
 wet-requires : tie.Need-wet-requires
 wet-requires c κs = search needs
 
-kind : (c : tie.Then1) → liquid (getD (c .before .before .before .before .args .flags .now) (c .before .before .before .before .args .c) 3) ≡ true
-kind c = sym (ap liquid (flag (c .before .before .before .before))) ∙ sym (c .before .wet .ensures) ∙ c .if1 .taken
+kind : (c : tie.Then1) → liquid (getD (c .before .before .before .before .before .args .flags .now) (c .before .before .before .before .before .args .c) 3) ≡ true
+kind c = sym (ap liquid (flag (c .before .before .before .before .before))) ∙ sym (c .before .wet .ensures) ∙ c .if1 .taken
 
 -- the list has room for cell c
 room : (s : tie.Start) → 19 * s .args .c + 19 ≤ length (s .args .parts2 .now)
@@ -32,15 +32,15 @@ room s = omega (arith, s .pre .is-cell, s .pre .size, s .pre .bodied .count)
 
 chosen-requires : tie.Need-chosen-requires
 chosen-requires c κs =
-    let p = c .before .before .before .before .pre in
+    let p = c .before .before .before .before .before .pre in
     let l = kind c in
-    (p .bodied, p .around l, l, p .mirrored, p .sources, p .marked l)
+    (p .bodied, p .filled, p .around l, l, p .mirrored, p .sources, p .marked l)
 
 put-moved-requires : tie.Need-put-moved-requires
 put-moved-requires c κs =
     let t = c .before .before in
-    let s = t .before .before .before .before in
-    (bounded-streamed _ _ _ _ noSettings (s .pre .bodied) _ (s .pre .around (kind t)) (kind t) _ (c .before .chosen .ensures), s .pre .settings, room s)
+    let s = t .before .before .before .before .before in
+    (bounded-streamed _ _ _ _ _ noSettings (s .pre .bodied) _ (s .pre .around (kind t)) (kind t) _ (c .before .chosen .ensures), s .pre .settings, room s)
 
 same-length : tie.Need-same-length
 same-length c = search needs
@@ -48,10 +48,10 @@ same-length c = search needs
 returns : tie.Need-returns
 returns c =
     let t = c .before .before .before .before in
-    c .before .put-moved .ensures _ _ _ _ (kind t) (c .before .before .before .chosen .ensures)
+    c .before .put-moved .ensures _ _ _ _ _ (kind t) (c .before .before .before .chosen .ensures)
 
 dry-out-requires : tie.Need-dry-out-requires
-dry-out-requires c κs = room (c .before .before .before .before .before)
+dry-out-requires c κs = room (c .before .before .before .before .before .before)
 
 same-length-2 : tie.Need-same-length-2
 same-length-2 c = search needs
@@ -59,8 +59,8 @@ same-length-2 c = search needs
 returns-2 : tie.Need-returns-2
 returns-2 c =
     let e = c .before .before .before in
-    let s = e .before .before .before .before in
-    put-dry _ _ _ _ _ _ (sym (ap liquid (flag s)) ∙ sym (e .before .wet .ensures) ∙ e .if1 .left) _ _ (room s) (c .before .dry-out .ensures)
+    let s = e .before .before .before .before .before in
+    put-dry _ _ _ _ _ _ _ (sym (ap liquid (flag s)) ∙ sym (e .before .wet .ensures) ∙ e .if1 .left) _ _ (room s) (c .before .dry-out .ensures)
 
 pub put-parts-spec : {M : Type 1} → statement M
 put-parts-spec =

@@ -3,9 +3,9 @@ use mathlib.Core.Path.{_≡_, refl, sym, ap, _∙_, subst}
 use mathlib.Core.Bool.{Bool, true, false, not, _&&_}
 use mathlib.Core.List.{List}
 use Prim.Native.Nat.{ℕ, zero, suc, _+_, _*_, _-_, _/_, _≤_, _<_}
-use native.Mathlib.Nat.{le-refl, min-le-left}
+use native.Mathlib.Nat.{le-refl}
 use native.Mathlib.Omega.{arith}
-use lib.IntN.{ℤ, pos, negsuc}
+use lib.IntN.{ℤ, pos}
 use lib.ListN.{length, getD, set, length-set}
 use borrow.Author.Needs.{needs}
 use borrow.Author.Tests.{not-true, not-false}
@@ -13,11 +13,9 @@ use mir.Syntax.{w32}
 use mir.Facts.{toZ-ofZ}
 use Rattle.whole.specs.Fold.{tab}
 use Rattle.lattice.specs.declared.Settings.{Settings}
-use Rattle.lattice.specs.Cell.{fillOf}
 use Rattle.grid.specs.declared.Sides.{Sides}
 use Rattle.grid.specs.Grid.{cellsOf}
-use Rattle.grid.specs.State.{byFlag, liquid, stateOf}
-use Rattle.grid.specs.Step.{fillFor}
+use Rattle.grid.specs.State.{liquid, stateOf}
 use Rattle.grid.specs.Between.{Poised, uncarried}
 use Rattle.grid.specs.Passes.{lowOf, offsetOf}
 use Rattle.grid.specs.Sight.{Around}
@@ -29,7 +27,7 @@ use Rattle.flow.specs.Sources.{Mirrored, sourceOf}
 use Rattle.flow.specs.Trade.{Traders}
 use Rattle.grid.proofs.Inside.{room}
 use Rattle.flow.proofs.Mirrored.{mirrored, around, immersed}
-use Rattle.flow.proofs.Poise.{few, liquid-inner, poised-bodied, poised-mass, poised-fill}
+use Rattle.flow.proofs.Poise.{few, liquid-inner, poised-bodied, poised-mass, poised-fills}
 use Rattle.flow.proofs.Walked.{Walked, walked-first, walked-turn, walked-stopped, walked-moved}
 use Rattle.flow.proofs.passing.flowing.Statement.{statement}
 use Rattle.flow.proofs.passing.flowing.Tie as tie
@@ -41,19 +39,6 @@ Inv-loop flags parts mass fill parts2₀ mass2₀ marks₀ g off low from fair�
 
 abbrev μ-loop : tie.MeasureT-loop
 μ-loop flags parts mass fill parts2₀ mass2₀ marks₀ g off low from fair₀ still₀ c₀ parts2 mass2 marks fair still c = length flags - c
-
--- no fill is above 65,536
-fill-most : (f : ℕ) (m ρ : ℤ) {φ : ℕ} → φ ≡ fillFor f m ρ → φ ≤ 65536
-unfolding fillFor
-fill-most f m ρ e = subst (λ (n : ℕ). n ≤ 65536) (sym e) (most f m ρ)
-  where
-    most : (f : ℕ) (m ρ : ℤ) → byFlag f 0 (fillOf m ρ) 65536 0 ≤ 65536
-    most zero m ρ = omega arith
-    most (suc zero) (pos m) (pos ρ) = min-le-left 65536 (65536 * m / ρ)
-    most (suc zero) (pos m) (negsuc ρ) = omega arith
-    most (suc zero) (negsuc m) ρ = omega arith
-    most (suc (suc zero)) m ρ = omega arith
-    most (suc (suc (suc n))) m ρ = omega arith
 
 -- a cell that did not pass is too fast
 too-fast : {ok t : Bool} → ok ≡ not t → ok ≡ false → t ≡ true
@@ -96,21 +81,6 @@ module _ (d : tie.In-loop Inv-loop μ-loop) where
       subst (λ (n : ℕ). Around n off low cell) (sym (poise .flags))
       (around offs cell (liquid-inner (start .args .s) (start .args .g) _ poise cell is-cell l))
 
-  putting : Putting (start .args .flags .now) (start .args .parts .now) (d .before .loop .parts2) (getD (d .before .loop .marks) cell 0) off (d .before .before .sources .result) low cell (start .args .g)
-  unfolding stateOf
-  putting = record {
-    bodied = poised-bodied (start .args .s) (start .args .g) _ poise;
-    is-cell = d .loop-test .taken;
-    around = around-it;
-    mirrored = mirrored (start .args .s) off low (offs .table) (offs .lowest) small;
-    sources = d .before .before .sources .ensures;
-    marked = λ l e.
-        immersed offs cell (liquid-inner (start .args .s) (start .args .g) _ poise cell is-cell l) (start .args .flags .now)
-        (start .pre .marked cell is-cell l (sym (walked .marks-left cell (le-refl cell)) ∙ e));
-    settings = poise .settings;
-    size = d .before .loop .inv .1 ∙ start .pre .parts-room ∙ sym (poise .parts);
-  }
-
   traders : Traders (start .args .flags .now) (start .args .parts .now) (start .args .mass .now) (start .args .fill .now)
   unfolding stateOf
   traders = record {
@@ -119,10 +89,24 @@ module _ (d : tie.In-loop Inv-loop μ-loop) where
       count = poise .masses ∙ sym (poise .flags);
       low = λ c h f. poised-mass (start .args .s) (start .args .g) _ poise c (subst (λ (n : ℕ). c < n) (poise .flags) h) f;
     };
-    fills-good = record {
-      count = poise .fills ∙ sym (poise .flags);
-      low = λ c h. fill-most _ _ _ (poised-fill (start .args .s) (start .args .g) _ poise c (subst (λ (n : ℕ). c < n) (poise .flags) h));
-    };
+    fills-good = poised-fills (start .args .s) (start .args .g) _ poise;
+  }
+
+  putting : Putting (start .args .flags .now) (start .args .parts .now) (start .args .fill .now) (d .before .loop .parts2) (getD (d .before .loop .marks) cell 0) off (d .before .before .sources .result) low cell (start .args .g)
+  unfolding stateOf
+  putting = record {
+    bodied = poised-bodied (start .args .s) (start .args .g) _ poise;
+    filled = traders .fills-good;
+    is-cell = d .loop-test .taken;
+    around = around-it;
+    mirrored = mirrored (start .args .s) off low (offs .table) (offs .lowest) small;
+    sources = d .before .before .sources .ensures;
+    marked = λ l e.
+        let m : getD (start .args .marks .now) cell 0 ≡ 1 = sym (walked .marks-left cell (le-refl cell)) ∙ e in
+        immersed offs cell (liquid-inner (start .args .s) (start .args .g) _ poise cell is-cell l) (start .args .flags .now)
+        (start .pre .marked-fluid cell is-cell l m) (start .pre .marked cell is-cell l m);
+    settings = poise .settings;
+    size = d .before .loop .inv .1 ∙ start .pre .parts-room ∙ sym (poise .parts);
   }
 
 offsets-requires : tie.Need-offsets-requires Inv-loop μ-loop
@@ -207,7 +191,7 @@ loop-again c =
       simp length-set (l .inv .2),
       simp length-set (l .inv .3),
       walked-turn (t .args .flags .now) (t .args .parts .now) (t .args .mass .now) (t .args .fill .now) (off d) (low d) (t .args .g) (t .args .marks .now)
-          (l .parts2) (put .last .1 .1 .0) (l .mass2) (l .marks) (l .fair) (l .still) (l .c) (walked d) (put .result) (put .ensures) (not-false _ (c .before .before .before .before .before .before .before .if1 .left))
+          (l .parts2) (put .last .1 .1 .1 .0) (l .mass2) (l .marks) (l .fair) (l .still) (l .c) (walked d) (put .result) (put .ensures) (not-false _ (c .before .before .before .before .before .before .before .if1 .left))
           (gained .result) _ _ _ _ (mark .result) _ (getD-there (t .args .flags .now) (l .c) 0 3 (d .loop-test .taken))
           (omega (arith, l .inv .1, t .pre .parts-room)) (omega (arith, l .inv .2, t .pre .masses-room)) (omega (arith, l .inv .3, t .pre .marks-room))
           (gained .ensures) (toZ-ofZ {w = w32} (record { sfits = c .before .before .before .before .before .struct-told .given .1 .1 .0 .1 }))

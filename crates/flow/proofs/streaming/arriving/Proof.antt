@@ -1,11 +1,12 @@
 -- `flow::streaming::arriving` is what arrives from one direction, by the neighbour's flag. What is rebuilt fits, since gas and own part are bounded. Assumes nothing.
 use mathlib.Core.Path.{_≡_, sym, ap, ap₂, _∙_, subst}
-use mathlib.Core.Bool.{true}
+use mathlib.Core.Bool.{Bool, true, _||_}
 use mathlib.Core.List.{List}
-use Prim.Native.Nat.{ℕ, _+_, _*_, _<_}
+use Prim.Native.Nat.{ℕ, _+_, _*_, _≤_, _<_}
 use native.Mathlib.Omega.{arith}
 use lib.IntN.{ℤ, pos, natAbs, _-ℤ_}
-use lib.Signed.{_≤ℤ_}
+use lib.Signed.{_≤ℤ_, ltZ}
+use lib.Dec.{eqb}
 use lib.ListN.{length, getD}
 use borrow.Author.Needs.{sfits-of, needs}
 use mir.Syntax.{w32, w64}
@@ -14,13 +15,13 @@ use mir.Facts.{toZ-ofZ}
 use Rattle.whole.specs.Parts.{parts-≤}
 use Rattle.whole.specs.Machine.{Val, Within, machine, v32, v64, same, does-fit, reads-as, within-by}
 use Rattle.lattice.specs.Lattice.{V3, dot, d3q19, density, momentum}
-use Rattle.lattice.specs.Cell.{gas}
+use Rattle.lattice.specs.Cell.{gas, isPositive}
 use Rattle.lattice.specs.Body.{vec}
 use Rattle.lattice.proofs.Reading.{inside}
-use Rattle.grid.specs.State.{liquid}
 use Rattle.grid.specs.Sight.{Body, noSettings}
 use Rattle.grid.proofs.Lists.{getD-there}
-use Rattle.flow.proofs.Arrivals.{arrives-wall, arrives-empty, arrives-liquid, wet}
+use Rattle.flow.proofs.Arrivals.{arrives-wall, arrives-rebuilt, arrives-liquid}
+use Rattle.flow.proofs.Leans.{above-zero}
 use Rattle.flow.proofs.Spans.{gas-body, along-body, tame-body, weight-low}
 use Rattle.flow.proofs.streaming.arriving.Statement.{statement}
 use Rattle.flow.proofs.streaming.arriving.Tie as tie
@@ -28,6 +29,15 @@ use Rattle.flow.proofs.streaming.arriving.Tie as tie
 -- the flag that was read, whatever stands for a missing one
 flag : (s : tie.Start) → getD (s .args .flags .now) (s .args .b) 0 ≡ getD (s .args .flags .now) (s .args .b) 3
 flag s = getD-there (s .args .flags .now) (s .args .b) 0 3 (s .pre .is-near)
+
+-- what is not above 2 is no wall
+no-wall : (c : tie.Else1) → getD (c .before .before .before .args .flags .now) (c .before .before .before .args .b) 3 ≤ 2
+no-wall c = subst (λ (f : ℕ). f ≤ 2) (flag (c .before .before .before)) (c .if1 .left)
+
+-- the code's test is stage 1's
+tested : (s : tie.Start) {l : Bool} → isPositive (s .args .lean) ≡ l
+    → (eqb (getD (s .args .flags .now) (s .args .b) 3) 0 || l) ≡ (eqb (getD (s .args .flags .now) (s .args .b) 0) 0 || ltZ (pos 0) (toZ w32 (ofZ w32 (s .args .lean))))
+tested s n = ap₂ (λ (f : ℕ) (b : Bool). eqb f 0 || b) (sym (flag s)) (sym n ∙ sym (above-zero (s .args .lean)) ∙ ap (ltZ (pos 0)) (sym (toZ-ofZ (s .fits .lean))))
 
 -- the cell's parts, density and momentum
 abbrev own : (s : tie.Start) → ℕ → ℤ
@@ -91,10 +101,10 @@ shared-slice-copy-out-result : tie.Need-shared-slice-copy-out-result
 shared-slice-copy-out-result c = search needs
 
 returns : tie.Need-returns
-returns c off low e =
+returns c fills off low e n =
     let s = c .before .before .before .before in
     toZ-ofZ (sfits-of {w = w32} (c .result .given))
-    ∙ sym (arrives-wall _ _ off low noSettings _ _ _ _ e (subst (λ (f : ℕ). 2 < f) (flag s) (c .before .if1 .taken)))
+    ∙ sym (arrives-wall _ _ fills off low noSettings _ _ _ _ e (subst (λ (f : ℕ). 2 < f) (flag s) (c .before .if1 .taken)))
 
 weight-of-requires : tie.Need-weight-of-requires
 weight-of-requires c κs = search needs
@@ -137,12 +147,12 @@ cast-result c =
     does-fit (search machine depth 30 fits 5000) tt
 
 returns-2 : tie.Need-returns-2
-returns-2 c off low e =
+returns-2 c fills off low e n =
     let s = c .before .before .before .before .before .before .before .before in
     let g = gas-read (c .before .before) in
     let p = part-read c in
     reads-as (search machine depth 30 fits 5000) tt
-    ∙ sym (arrives-empty _ _ off low noSettings _ _ _ _ e (sym (flag s) ∙ c .before .before .before .before .if2 .taken))
+    ∙ sym (arrives-rebuilt _ _ fills off low noSettings _ _ _ _ e (no-wall (c .before .before .before .before .before)) (tested s n ∙ c .before .before .before .before .if2 .taken))
 
 mul-result-3 : tie.Need-mul-result-3
 mul-result-3 c = search needs
@@ -157,11 +167,10 @@ shared-slice-copy-out-result-2 : tie.Need-shared-slice-copy-out-result-2
 shared-slice-copy-out-result-2 c = search needs
 
 returns-3 : tie.Need-returns-3
-returns-3 c off low e =
+returns-3 c fills off low e n =
     let s = c .before .before .before .before .before in
     toZ-ofZ (sfits-of {w = w32} (c .result2 .given))
-    ∙ sym (arrives-liquid _ _ off low noSettings _ _ _ _ e
-    (subst (λ (f : ℕ). liquid f ≡ true) (flag s) (wet _ (λ h. omega (arith, c .before .before .if1 .left)) (c .before .if2 .left))))
+    ∙ sym (arrives-liquid _ _ fills off low noSettings _ _ _ _ e (no-wall (c .before .before)) (tested s n ∙ c .before .if2 .left))
 
 pub arriving-spec : {M : Type 1} → statement M
 arriving-spec =

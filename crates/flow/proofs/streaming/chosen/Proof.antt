@@ -14,7 +14,7 @@ use Rattle.flow.proofs.streaming.chosen.Statement.{statement}
 use Rattle.flow.proofs.streaming.chosen.Tie as tie
 
 source : (s : tie.Start) (k : ℕ) → k < 19 → getD (s .args .from .now) k 0 ≡ sourceOf (s .args .off .now) k
-source s k h = ap (λ (l : List ℕ). getD l k 0) (s .pre .4) ∙ getD-tab 19 (sourceOf (s .args .off .now)) 0 k h
+source s k h = ap (λ (l : List ℕ). getD l k 0) (s .pre .5) ∙ getD-tab 19 (sourceOf (s .args .off .now)) 0 k h
 
 sub-streamed-open : tie.Need-sub-streamed-open
 sub-streamed-open c = search needs
@@ -24,16 +24,16 @@ mul-streamed-open c = search needs
 
 streamed-open-requires : tie.Need-streamed-open-requires
 streamed-open-requires c κs i h =
-    let s = c .before .before in
-    omega (arith, source s i h, source-low (length (s .args .flags .now)) (s .args .off .now) (s .args .low) (s .args .c) i (s .pre .1) h, s .pre .0 .count)
+    let s = c .before .before .before in
+    omega (arith, source s i h, source-low (length (s .args .flags .now)) (s .args .off .now) (s .args .low) (s .args .c) i (s .pre .2) h, s .pre .0 .count)
 
 returns : tie.Need-returns
 returns c =
-    let s = c .before .before .before in
+    let s = c .before .before .before .before in
     c .streamed-open .ensures
     ∙ tab-cong 19 _ _ (pos 0)
     (λ k h. ap (λ (n : ℕ). getD (s .args .parts .now) (19 * (s .args .c - s .args .low) + n) (pos 0)) (source s k h)
-    ∙ streamed-straight _ _ _ _ noSettings (s .pre .3) _ (s .pre .1 .from) (s .pre .5 (c .before .if1 .taken)) k h)
+    ∙ streamed-straight _ _ _ _ _ noSettings (s .pre .4) _ (s .pre .2 .from) (s .pre .6 (c .before .if1 .taken)) k h)
 
 streamed-requires : tie.Need-streamed-requires
 streamed-requires c κs = search needs

@@ -13,37 +13,53 @@ use Rattle.whole.specs.Machine.{Within}
 use Rattle.whole.specs.Tab.{Upto, upto-zero, upto-more, upto-all, getD-tab}
 use Rattle.lattice.specs.Lattice.{dot, d3q19}
 use Rattle.lattice.specs.Body.{vec}
-use Rattle.grid.specs.Step.{streamed}
+use Rattle.lattice.specs.Cell.{isPositive}
+use Rattle.grid.specs.State.{Scene}
+use Rattle.grid.specs.Step.{leansTo, streamed}
 use Rattle.grid.specs.Sight.{Body, flowing, noSettings, sight}
 use Rattle.flow.specs.Sources.{Flows, Beside}
 use Rattle.flow.proofs.Arrivals.{streamed-rest, streamed-odd, streamed-even}
+use Rattle.flow.proofs.Leans.{leans-is}
 use Rattle.flow.proofs.Spans.{bounded-own, density-own, momentum-own, tame-body}
 use Rattle.flow.proofs.Stores.{upto-pair}
 use Rattle.flow.proofs.streaming.streamed.Statement.{statement}
 use Rattle.flow.proofs.streaming.streamed.Tie as tie
 
 abbrev Inv-loop : tie.InvT-loop
-Inv-loop flags parts off low c k v d f₀ i₀ f i = (i % 2 ≡ 1) × (i ≤ 19) × (length f ≡ 19) × Upto (pos 0) (streamed (sight (flowing flags parts) off low noSettings) c) f i
+Inv-loop flags parts fill off low c k v d n f₀ i₀ f i = (i % 2 ≡ 1) × (i ≤ 19) × (length f ≡ 19) × Upto (pos 0) (streamed (sight (flowing flags parts fill) off low noSettings) c) f i
 
 abbrev μ-loop : tie.MeasureT-loop
-μ-loop flags parts off low c k v d f₀ i₀ f i = 19 - i
+μ-loop flags parts fill off low c k v d n f₀ i₀ f i = 19 - i
 
 -- the cell's own parts
 abbrev parts-of : (s : tie.Start Inv-loop μ-loop) → ℕ → ℤ
 parts-of s k = getD (s .args .parts .now) (19 * s .args .c + k) (pos 0)
 
-body : (s : tie.Start Inv-loop μ-loop) → Body (parts-of s)
-body s = s .pre .0 .body (s .args .c) (s .pre .1 .is-cell) (s .pre .2)
+-- what functions of the cell see
+abbrev scene : (s : tie.Start Inv-loop μ-loop) → Scene
+scene s = sight (flowing (s .args .flags .now) (s .args .parts .now) (s .args .fill .now)) (s .args .off .now) (s .args .low) noSettings
 
-flows : (c : tie.After-flow-of Inv-loop μ-loop) → Flows (c .before .before .before .args .parts .now) (c .before .before .before .args .c) (c .flow-of .result)
+body : (s : tie.Start Inv-loop μ-loop) → Body (parts-of s)
+body s = s .pre .0 .body (s .args .c) (s .pre .2 .is-cell) (s .pre .3)
+
+flows : (c : tie.After-flow-of Inv-loop μ-loop) → Flows (c .before .before .before .before .args .parts .now) (c .before .before .before .before .args .c) (c .flow-of .result)
 flows c =
-    let s = c .before .before .before in
+    let s = c .before .before .before .before in
     let o = c .before .own .ensures in
     record { density = c .flow-of .ensures .0 ∙ density-own (parts-of s) (body s) _ o; momentum = c .flow-of .ensures .1 ∙ momentum-own (parts-of s) (body s) _ o }
 
--- entry i of the array of products
-along : (c : tie.After-dots Inv-loop μ-loop) (i : ℕ) → i < 19 → getD (c .dots .result) i (pos 0) ≡ dot (d3q19 .e i) (vec (c .before .flow-of .result))
-along c i h = ap (λ (l : List ℤ). getD l i (pos 0)) (c .dots .ensures) ∙ getD-tab 19 _ (pos 0) i h
+-- ---- once the arrays stand: where the function began, and entry i of each
+module _ (c : tie.After-leaning Inv-loop μ-loop) where
+  abbrev start : tie.Start Inv-loop μ-loop
+  start = c .before .before .before .before .before .before
+
+  along : (i : ℕ) → i < 19 → getD (c .before .dots .result) i (pos 0) ≡ dot (d3q19 .e i) (vec (c .before .before .flow-of .result))
+  along i h = ap (λ (l : List ℤ). getD l i (pos 0)) (c .before .dots .ensures) ∙ getD-tab 19 _ (pos 0) i h
+
+  leans : (i : ℕ) → i < 19 → {x : ℤ} → x ≡ getD (c .leaning .result) i (pos 0) → isPositive x ≡ leansTo (scene start) (start .args .c) i
+  leans i h e =
+      ap isPositive (e ∙ ap (λ (l : List ℤ). getD l i (pos 0)) (c .leaning .ensures) ∙ getD-tab 19 _ (pos 0) i h)
+      ∙ leans-is _ (start .args .parts .now) _ _ _ noSettings _ (start .pre .2 .self) i
 
 sub-k : tie.Need-sub-k Inv-loop μ-loop
 sub-k c = search needs
@@ -52,13 +68,16 @@ own-requires : tie.Need-own-requires Inv-loop μ-loop
 own-requires c κs = search needs
 
 flow-of-requires : tie.Need-flow-of-requires Inv-loop μ-loop
-flow-of-requires c κs = bounded-own (parts-of (c .before .before)) (body (c .before .before)) _ (c .own .ensures) _ _ (omega arith) (omega arith)
+flow-of-requires c κs = let s = c .before .before .before in bounded-own (parts-of s) (body s) _ (c .own .ensures) _ _ (omega arith) (omega arith)
 
 dots-requires : tie.Need-dots-requires Inv-loop μ-loop
 dots-requires c κs =
-    let s = c .before .before .before in
+    let s = c .before .before .before .before in
     let t = tame-body (parts-of s) (body s) (c .flow-of .result) (flows c .density) (flows c .momentum) in
     (record { abs = omega (arith, t .x .abs) }, record { abs = omega (arith, t .y .abs) }, record { abs = omega (arith, t .z .abs) })
+
+leaning-requires : tie.Need-leaning-requires Inv-loop μ-loop
+leaning-requires c κs = search needs
 
 mul-f : tie.Need-mul-f Inv-loop μ-loop
 mul-f c = search needs
@@ -74,12 +93,12 @@ array-set-from-f c = search needs
 
 loop-holds : tie.Need-loop-holds Inv-loop μ-loop
 loop-holds c =
-    let s = c .before .before .before .before .before in (
+    let s = start (c .before) in (
       refl,
       omega arith,
       refl,
-      upto-more (pos 0) (streamed (sight (flowing (s .args .flags .now) (s .args .parts .now)) (s .args .off .now) (s .args .low) noSettings) (s .args .c)) (replicate 19 (pos 0)) 0 _ (omega arith) (upto-zero (pos 0) _ (replicate 19 (pos 0)))
-          (toZ-ofZ (sfits-of {w = w32} (c .f .given)) ∙ sym (streamed-rest _ _ _ _ _ _)),
+      upto-more (pos 0) (streamed (scene s) (s .args .c)) (replicate 19 (pos 0)) 0 _ (omega arith) (upto-zero (pos 0) _ (replicate 19 (pos 0)))
+          (toZ-ofZ (sfits-of {w = w32} (c .f .given)) ∙ sym (streamed-rest _ _ _ _ _ _ _)),
     )
 
 mul-arriving : tie.Need-mul-arriving Inv-loop μ-loop
@@ -89,7 +108,7 @@ element-copy-out-arriving : tie.Need-element-copy-out-arriving Inv-loop μ-loop
 element-copy-out-arriving c = search needs
 
 add-arriving : tie.Need-add-arriving Inv-loop μ-loop
-add-arriving c = let s = c .before .before .before .before .before .before .before .before in omega (arith, s .pre .0 .few, s .pre .1 .each (c .before .before .loop .i) (c .before .loop-test .taken))
+add-arriving c = let s = start (c .before .before .before .before) in omega (arith, s .pre .0 .few, s .pre .2 .each (c .before .before .loop .i) (c .before .loop-test .taken))
 
 add-arriving-2 : tie.Need-add-arriving-2 Inv-loop μ-loop
 add-arriving-2 c = search needs
@@ -100,22 +119,28 @@ mul-arriving-2 c = search needs
 array-copy-out-arriving : tie.Need-array-copy-out-arriving Inv-loop μ-loop
 array-copy-out-arriving c = search needs
 
+mul-arriving-3 : tie.Need-mul-arriving-3 Inv-loop μ-loop
+mul-arriving-3 c = search needs
+
+array-copy-out-arriving-2 : tie.Need-array-copy-out-arriving-2 Inv-loop μ-loop
+array-copy-out-arriving-2 c = search needs
+
 arriving-requires : tie.Need-arriving-requires Inv-loop μ-loop
 arriving-requires c κs =
-    let l = c .before .before .before in
+    let l = c .before .before .before .before in
     let d = l .before .before in
-    let s = d .before .before .before .before in
-    let t = c .before .before .loop-test .taken in
+    let s = start d in
+    let t = c .before .before .before .loop-test .taken in
     record {
       bodied = s .pre .0;
-      is-cell = s .pre .1 .is-cell;
-      is-liquid = s .pre .2;
-      is-near = s .pre .1 .each (l .loop .i) t;
+      is-cell = s .pre .2 .is-cell;
+      is-liquid = s .pre .3;
+      is-near = s .pre .2 .each (l .loop .i) t;
       some = omega (arith, l .loop .inv .0);
       most = t;
       part = omega (arith, l .loop .inv .0, t);
-      flows = flows (d .before);
-      along = toZ-ofZ (sfits-of {w = w32} (c .arriving-arg2 .given)) ∙ along d (l .loop .i) t;
+      flows = flows (d .before .before);
+      along = toZ-ofZ (sfits-of {w = w32} (c .before .arriving-arg2 .given)) ∙ along d (l .loop .i) t;
     }
 
 add-f : tie.Need-add-f Inv-loop μ-loop
@@ -130,14 +155,21 @@ array-set-from-f-2 c = search needs
 add-arriving-3 : tie.Need-add-arriving-3 Inv-loop μ-loop
 add-arriving-3 c = search needs
 
-mul-arriving-3 : tie.Need-mul-arriving-3 Inv-loop μ-loop
-mul-arriving-3 c = search needs
+mul-arriving-4 : tie.Need-mul-arriving-4 Inv-loop μ-loop
+mul-arriving-4 c = search needs
 
 element-copy-out-arriving-2 : tie.Need-element-copy-out-arriving-2 Inv-loop μ-loop
 element-copy-out-arriving-2 c = search needs
 
+-- after the first of a pair: the second direction is one too
+second : (c : tie.After-arriving Inv-loop μ-loop) → c .before .before .before .before .before .loop .i + 1 < 19
+second c = omega (arith, c .before .before .before .before .before .loop .inv .0, c .before .before .before .before .loop-test .taken)
+
 add-arriving-4 : tie.Need-add-arriving-4 Inv-loop μ-loop
-add-arriving-4 c = let l = c .before .before .before .before .before in let s = l .before .before .before .before .before .before in omega (arith, s .pre .0 .few, s .pre .1 .each (l .loop .i + 1) (omega (arith, l .loop .inv .0, c .before .before .before .before .loop-test .taken)))
+add-arriving-4 c =
+    let l = c .before .before .before .before .before .before in
+    let s = start (l .before .before) in
+    omega (arith, s .pre .0 .few, s .pre .2 .each (l .loop .i + 1) (second (c .before)))
 
 add-arriving-5 : tie.Need-add-arriving-5 Inv-loop μ-loop
 add-arriving-5 c = search needs
@@ -145,28 +177,37 @@ add-arriving-5 c = search needs
 add-arriving-6 : tie.Need-add-arriving-6 Inv-loop μ-loop
 add-arriving-6 c = search needs
 
-mul-arriving-4 : tie.Need-mul-arriving-4 Inv-loop μ-loop
-mul-arriving-4 c = search needs
+mul-arriving-5 : tie.Need-mul-arriving-5 Inv-loop μ-loop
+mul-arriving-5 c = search needs
 
-array-copy-out-arriving-2 : tie.Need-array-copy-out-arriving-2 Inv-loop μ-loop
-array-copy-out-arriving-2 c = search needs
+array-copy-out-arriving-3 : tie.Need-array-copy-out-arriving-3 Inv-loop μ-loop
+array-copy-out-arriving-3 c = search needs
+
+add-arriving-7 : tie.Need-add-arriving-7 Inv-loop μ-loop
+add-arriving-7 c = search needs
+
+mul-arriving-6 : tie.Need-mul-arriving-6 Inv-loop μ-loop
+mul-arriving-6 c = search needs
+
+array-copy-out-arriving-4 : tie.Need-array-copy-out-arriving-4 Inv-loop μ-loop
+array-copy-out-arriving-4 c = search needs
 
 arriving-requires-2 : tie.Need-arriving-requires-2 Inv-loop μ-loop
 arriving-requires-2 c κs =
-    let l = c .before .before .before .before .before .before in
+    let l = c .before .before .before .before .before .before .before .before in
     let d = l .before .before in
-    let s = d .before .before .before .before in
-    let t : l .loop .i + 1 < 19 = omega (arith, l .loop .inv .0, c .before .before .before .before .before .loop-test .taken) in
+    let s = start d in
+    let t = second (c .before .before .before) in
     record {
       bodied = s .pre .0;
-      is-cell = s .pre .1 .is-cell;
-      is-liquid = s .pre .2;
-      is-near = s .pre .1 .each (l .loop .i + 1) t;
+      is-cell = s .pre .2 .is-cell;
+      is-liquid = s .pre .3;
+      is-near = s .pre .2 .each (l .loop .i + 1) t;
       some = omega arith;
       most = t;
       part = omega arith;
-      flows = flows (d .before);
-      along = toZ-ofZ (sfits-of {w = w32} (c .arriving-arg4 .given)) ∙ along d (l .loop .i + 1) t;
+      flows = flows (d .before .before);
+      along = toZ-ofZ (sfits-of {w = w32} (c .before .arriving-arg5 .given)) ∙ along d (l .loop .i + 1) t;
     }
 
 mul-f-4 : tie.Need-mul-f-4 Inv-loop μ-loop
@@ -183,17 +224,22 @@ loop-less c = search needs
 
 loop-again : tie.Need-loop-again Inv-loop μ-loop
 loop-again c =
-    let l = c .before .before .before .before .before .before .before in
-    let s = l .before .before .before .before .before .before in
-    let a = c .before .before .before in
+    let a = c .before .before .before .before in
+    let l = a .before .before .before .before .before in
+    let d = l .before .before in
+    let s = start d in
     let odd = l .loop .inv .0 in
-    let t : l .loop .i + 1 < 19 = omega (arith, odd, c .before .before .before .before .before .before .loop-test .taken) in (
+    let t = second a in (
       omega (arith, odd),
       omega arith,
       simp length-set (l .loop .inv .2),
-      upto-pair (pos 0) (streamed (sight (flowing (s .args .flags .now) (s .args .parts .now)) (s .args .off .now) (s .args .low) noSettings) (s .args .c)) (l .loop .f) (l .loop .i) _ _ (omega (arith, l .loop .inv .2)) (l .loop .inv .3)
-          (toZ-ofZ (sfits-of {w = w32} (c .arriving2 .ok)) ∙ c .arriving2 .ensures (s .args .off .now) (s .args .low) refl ∙ sym (streamed-odd _ _ _ _ _ _ (l .loop .i) odd))
-          (toZ-ofZ (sfits-of {w = w32} (a .arriving .ok)) ∙ a .arriving .ensures (s .args .off .now) (s .args .low) refl ∙ sym (streamed-even _ _ _ _ _ _ (l .loop .i) odd)),
+      upto-pair (pos 0) (streamed (scene s) (s .args .c)) (l .loop .f) (l .loop .i) _ _ (omega (arith, l .loop .inv .2)) (l .loop .inv .3)
+          (toZ-ofZ (sfits-of {w = w32} (c .arriving2 .ok))
+          ∙ c .arriving2 .ensures (s .args .fill .now) (s .args .off .now) (s .args .low) refl (leans d (l .loop .i + 1) t (toZ-ofZ (sfits-of {w = w32} (c .before .arriving-arg6 .given))))
+          ∙ sym (streamed-odd _ _ _ _ _ _ _ (l .loop .i) odd))
+          (toZ-ofZ (sfits-of {w = w32} (a .arriving .ok))
+          ∙ a .arriving .ensures (s .args .fill .now) (s .args .off .now) (s .args .low) refl (leans d (l .loop .i) (a .before .before .before .before .loop-test .taken) (toZ-ofZ (sfits-of {w = w32} (a .before .arriving-arg3 .given))))
+          ∙ sym (streamed-even _ _ _ _ _ _ _ (l .loop .i) odd)),
     )
 
 returns : tie.Need-returns Inv-loop μ-loop
@@ -211,6 +257,7 @@ streamed-spec =
     own-requires
     flow-of-requires
     dots-requires
+    leaning-requires
     mul-f
     mul-f-2
     shared-slice-copy-out-f
@@ -222,18 +269,23 @@ streamed-spec =
     add-arriving-2
     mul-arriving-2
     array-copy-out-arriving
+    mul-arriving-3
+    array-copy-out-arriving-2
     arriving-requires
     add-f
     mul-f-3
     array-set-from-f-2
     add-arriving-3
-    mul-arriving-3
+    mul-arriving-4
     element-copy-out-arriving-2
     add-arriving-4
     add-arriving-5
     add-arriving-6
-    mul-arriving-4
-    array-copy-out-arriving-2
+    mul-arriving-5
+    array-copy-out-arriving-3
+    add-arriving-7
+    mul-arriving-6
+    array-copy-out-arriving-4
     arriving-requires-2
     mul-f-4
     array-set-from-f-3

@@ -15,29 +15,29 @@ use Rattle.turn.proofs.birth.newborn.Statement.{statement}
 use Rattle.turn.proofs.birth.newborn.Tie as tie
 
 abbrev Inv-loop : tie.InvT-loop
-Inv-loop flags parts flags2 parts2₀ g off low fair₀ c₀ parts2 fair c =
-    (c ≤ length flags) × Reached (flowSight flags parts off low g) (newlyBorn flags flags2) parts2₀ parts2 c
-    × (fair ≡ all c (laterFair (flowSight flags parts off low g) (newlyBorn flags flags2)))
+Inv-loop flags parts fill flags2 parts2₀ g off low fair₀ c₀ parts2 fair c =
+    (c ≤ length flags) × Reached (flowSight flags parts fill off low g) (newlyBorn flags flags2) parts2₀ parts2 c
+    × (fair ≡ all c (laterFair (flowSight flags parts fill off low g) (newlyBorn flags flags2)))
 
 abbrev μ-loop : tie.MeasureT-loop
-μ-loop flags parts flags2 parts2₀ g off low fair₀ c₀ parts2 fair c = length flags - c
+μ-loop flags parts fill flags2 parts2₀ g off low fair₀ c₀ parts2 fair c = length flags - c
 
 offsets-requires : tie.Need-offsets-requires Inv-loop μ-loop
-offsets-requires c κs = c .before .before .pre .0
+offsets-requires c κs = c .before .before .before .pre .0
 
 low-of-requires : tie.Need-low-of-requires Inv-loop μ-loop
-low-of-requires c κs = c .before .before .before .pre .0
+low-of-requires c κs = c .before .before .before .before .pre .0
 
 loop-holds : tie.Need-loop-holds Inv-loop μ-loop
 loop-holds c =
-    let a = c .before .before .before .before .args in
-    let S = flowSight (a .flags .now) (a .parts .now) (c .before .offsets .result) (c .low-of .result) (a .g) in
+    let a = c .before .before .before .before .before .args in
+    let S = flowSight (a .flags .now) (a .parts .now) (a .fill .now) (c .before .offsets .result) (c .low-of .result) (a .g) in
     let w = newlyBorn (a .flags .now) (a .flags2 .now) in
     (omega arith, reached-zero S w (a .parts2 .now), all-none (laterFair S w))
 
 visit-requires : tie.Need-visit-requires Inv-loop μ-loop
 visit-requires c κs =
-    let s = c .before .before .before .before .before .before .before .before in
+    let s = c .before .before .before .before .before .before .before .before .before in
     let l = c .before .before .before .loop in
     (rw (c .before .before .before .before .before .offsets .ensures, c .before .before .before .before .low-of .ensures) (s .pre .1), c .before .before .loop-test .taken, l .inv .1 .long ∙ s .pre .2)
 
@@ -46,30 +46,30 @@ add-next-of c = search needs
 
 next-of-requires : tie.Need-next-of-requires Inv-loop μ-loop
 next-of-requires c κs =
-    let s = c .before .before .before .before .before .before .before .before .before .before in
+    let s = c .before .before .before .before .before .before .before .before .before .before .before in
     omega (arith, s .pre .1 .count, c .before .before .before .before .loop-test .taken)
 
 loop-less : tie.Need-loop-less Inv-loop μ-loop
 loop-less c =
-    let s = c .before .before .before .before .before .before .before .before .before .before .before in
+    let s = c .before .before .before .before .before .before .before .before .before .before .before .before in
     omega (arith, c .next-of .ensures .least, c .next-of .ensures .most, s .pre .1 .count, c .before .before .before .before .before .loop-test .taken)
 
 loop-again : tie.Need-loop-again Inv-loop μ-loop
 loop-again c =
     let b = c .before in
-    let s = b .before .before .before .before .before .before .before .before .before .before in
+    let s = b .before .before .before .before .before .before .before .before .before .before .before in
     let a = s .args in
     let l = b .before .before .before .before .before .loop in
-    let S = flowSight (a .flags .now) (a .parts .now) (b .before .before .before .before .before .before .before .offsets .result) (b .before .before .before .before .before .before .low-of .result) (a .g) in
+    let S = flowSight (a .flags .now) (a .parts .now) (a .fill .now) (b .before .before .before .before .before .before .before .offsets .result) (b .before .before .before .before .before .before .low-of .result) (a .g) in
     let w = newlyBorn (a .flags .now) (a .flags2 .now) in
     let h : l .c < length (a .flags .now) = b .before .before .before .before .loop-test .taken in
     let n = c .next-of .ensures in
     let m : c .next-of .result ≤ length (a .flags .now) = omega (arith, n .most, s .pre .1 .count) in
     -- up to the next interface cell nothing is born
     let r =
-    reached-past S w (a .parts2 .now) (b .before .visit .last .1 .1 .1 .0) (length (a .flags .now)) (l .c + 1) (c .next-of .result) _ (s .pre .2) (n .least) m
+    reached-past S w (a .parts2 .now) (b .before .visit .last .1 .1 .1 .1 .0) (length (a .flags .now)) (l .c + 1) (c .next-of .result) _ (s .pre .2) (n .least) m
     (λ j k i. unborn (a .flags .now) (a .flags2 .now) j (omega arith) (s .pre .1 .count) (n .before j k i)) (
-      reached-more S w (a .parts2 .now) (l .parts2) (b .before .visit .last .1 .1 .1 .0) (l .c) (omega (arith, s .pre .2)) (l .inv .1) (b .before .visit .ensures),
+      reached-more S w (a .parts2 .now) (l .parts2) (b .before .visit .last .1 .1 .1 .1 .0) (l .c) (omega (arith, s .pre .2)) (l .inv .1) (b .before .visit .ensures),
       ap₂ (λ (x y : Bool). x && y) (l .inv .2) (visited-fair S w (a .parts2 .now) (b .before .visit .ensures)) ∙ all-more (l .c) (laterFair S w),
     ) in
     (m, r .0, r .1)
@@ -79,16 +79,16 @@ same-length c = c .before .loop .inv .1 .long
 
 returns : tie.Need-returns Inv-loop μ-loop
 returns c =
-    let s = c .before .before .before .before .before .before in
+    let s = c .before .before .before .before .before .before .before in
     let a = s .args in
     let o = c .before .before .before .offsets in
     let m = c .before .before .low-of in
     let l = c .before .loop in
-    let S = flowSight (a .flags .now) (a .parts .now) (o .result) (m .result) (a .g) in
+    let S = flowSight (a .flags .now) (a .parts .now) (a .fill .now) (o .result) (m .result) (a .g) in
     let w = newlyBorn (a .flags .now) (a .flags2 .now) in
     let e : l .c ≡ length (a .flags .now) = omega arith in
-    subst (λ (off : List ℕ). Peopled (flowSight (a .flags .now) (a .parts .now) off (lowOf (a .s)) (a .g)) w (length (a .flags .now)) (a .parts2 .now) (l .parts2) (l .fair)) (o .ensures)
-    (subst (λ (low : ℕ). Peopled (flowSight (a .flags .now) (a .parts .now) (o .result) low (a .g)) w (length (a .flags .now)) (a .parts2 .now) (l .parts2) (l .fair)) (m .ensures)
+    subst (λ (off : List ℕ). Peopled (flowSight (a .flags .now) (a .parts .now) (a .fill .now) off (lowOf (a .s)) (a .g)) w (length (a .flags .now)) (a .parts2 .now) (l .parts2) (l .fair)) (o .ensures)
+    (subst (λ (low : ℕ). Peopled (flowSight (a .flags .now) (a .parts .now) (a .fill .now) (o .result) low (a .g)) w (length (a .flags .now)) (a .parts2 .now) (l .parts2) (l .fair)) (m .ensures)
     (peopled S w (a .parts2 .now) (l .parts2) (length (a .flags .now)) (l .fair) (s .pre .2) (subst (Reached S w (a .parts2 .now) (l .parts2)) e (l .inv .1))
     (l .inv .2 ∙ ap (λ (n : ℕ). all n (laterFair S w)) e)))
 

@@ -15,8 +15,8 @@ mean-flow-requires c κs = search needs
 
 equilibrium-requires : tie.Need-equilibrium-requires
 equilibrium-requires c κs =
-    let s = c .before .before in
-    born-tame (s .args .flags .now) (s .args .parts .now) (s .args .off .now) (s .args .low) (s .args .g) (s .args .c) (s .pre .0) (s .pre .1) (c .mean-flow .ensures) (s .pre .2)
+    let s = c .before .before .before in
+    born-tame (s .args .flags .now) (s .args .parts .now) (s .args .fill .now) (s .args .off .now) (s .args .low) (s .args .g) (s .args .c) (s .pre .0) (s .pre .1) (c .mean-flow .ensures) (s .pre .2)
 
 mul-paste : tie.Need-mul-paste
 mul-paste c = search needs
@@ -32,12 +32,12 @@ same-length c = search needs
 
 returns : tie.Need-returns
 returns c =
-    let s = c .before .before .before .before .before .before .before in
+    let s = c .before .before .before .before .before .before .before .before in
     let b = c .before .before .before .before .before .mean-flow .ensures in
     let v = c .before .before .before .before .equilibrium in
     record {
-      parts = c .before .before .paste .ensures ∙ ap (λ (l : List ℤ). pasted (s .args .parts2 .now) (19 * s .args .c) l) (born-list (s .args .flags .now) (s .args .parts .now) (s .args .off .now) (s .args .low) (s .args .g) (s .args .c) b (v .result) (v .ensures .0));
-      fair-is = c .fair-parts .ensures ∙ born-fair (s .args .flags .now) (s .args .parts .now) (s .args .off .now) (s .args .low) (s .args .g) (s .args .c) b (v .result) (v .ensures .0);
+      parts = c .before .before .paste .ensures ∙ ap (λ (l : List ℤ). pasted (s .args .parts2 .now) (19 * s .args .c) l) (born-list (s .args .flags .now) (s .args .parts .now) (s .args .fill .now) (s .args .off .now) (s .args .low) (s .args .g) (s .args .c) b (v .result) (v .ensures .0));
+      fair-is = c .fair-parts .ensures ∙ born-fair (s .args .flags .now) (s .args .parts .now) (s .args .fill .now) (s .args .off .now) (s .args .low) (s .args .g) (s .args .c) b (v .result) (v .ensures .0);
     }
 
 pub put-born-spec : {M : Type 1} → statement M

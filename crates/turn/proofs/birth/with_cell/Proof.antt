@@ -15,24 +15,24 @@ is-liquid-requires : tie.Need-is-liquid-requires
 is-liquid-requires c κs = search needs
 
 -- the flag as the code reads it
-reads-liquid : (c : tie.After-is-liquid) → let s = c .before .before .before in c .is-liquid .result ≡ liquid (getD (s .args .flags .now) (s .args .b) 3)
-reads-liquid c = let s = c .before .before .before in c .is-liquid .ensures ∙ ap liquid (getD-there (s .args .flags .now) (s .args .b) 0 3 (s .pre .1))
+reads-liquid : (c : tie.After-is-liquid) → let s = c .before .before .before .before in c .is-liquid .result ≡ liquid (getD (s .args .flags .now) (s .args .b) 3)
+reads-liquid c = let s = c .before .before .before .before in c .is-liquid .ensures ∙ ap liquid (getD-there (s .args .flags .now) (s .args .b) 0 3 (s .pre .1))
 
 flow-at-requires : tie.Need-flow-at-requires
-flow-at-requires c κs = let s = c .before .before .before .before in (s .pre .0, s .pre .1, sym (reads-liquid (c .before)) ∙ c .if1 .taken)
+flow-at-requires c κs = let s = c .before .before .before .before .before in (s .pre .0, s .pre .1, sym (reads-liquid (c .before)) ∙ c .if1 .taken)
 
 joined-requires : tie.Need-joined-requires
 joined-requires c κs = search needs
 
 returns : tie.Need-returns
 returns c =
-    let s = c .before .before .before .before .before .before in
-    counted-in (s .args .flags .now) (s .args .parts .now) (s .args .off .now) (s .args .low) (s .args .g) (s .args .b) (sym (reads-liquid (c .before .before .before)) ∙ c .before .before .if1 .taken) (c .before .flow-at .ensures) (c .joined .ensures)
+    let s = c .before .before .before .before .before .before .before in
+    counted-in (s .args .flags .now) (s .args .parts .now) (s .args .fill .now) (s .args .off .now) (s .args .low) (s .args .g) (s .args .b) (sym (reads-liquid (c .before .before .before)) ∙ c .before .before .if1 .taken) (c .before .flow-at .ensures) (c .joined .ensures)
 
 returns-2 : tie.Need-returns-2
 returns-2 c =
-    let s = c .before .before .before .before in
-    left-out (s .args .flags .now) (s .args .parts .now) (s .args .off .now) (s .args .low) (s .args .g) (s .args .b) (s .args .t) (sym (reads-liquid (c .before)) ∙ c .if1 .left)
+    let s = c .before .before .before .before .before in
+    left-out (s .args .flags .now) (s .args .parts .now) (s .args .fill .now) (s .args .off .now) (s .args .low) (s .args .g) (s .args .b) (s .args .t) (sym (reads-liquid (c .before)) ∙ c .if1 .left)
 
 pub with-cell-spec : {M : Type 1} → statement M
 with-cell-spec =
