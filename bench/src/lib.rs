@@ -10,3 +10,4 @@ pub mod native;
 pub mod plain;
 pub mod report;
 pub mod scenes;
+pub mod sweep;

@@ -13,6 +13,7 @@ use bench::native;
 use bench::plain::PLAIN;
 use bench::report::{self, Totals};
 use bench::scenes::{self, Scene};
+use bench::sweep;
 
 const USAGE: &str = "bench [--quick] [--sides A,B,..]
   --quick   little of everything, to see that it works: its times say nothing
@@ -26,6 +27,8 @@ struct Wish {
     /// Steps after which the water is counted.
     steps: usize,
     growth_sides: Vec<usize>,
+    /// Sides at which the surface is swept.
+    sweep_sides: Vec<usize>,
 }
 
 fn wish(mut words: impl Iterator<Item = String>) -> Result<Wish, String> {
@@ -35,6 +38,7 @@ fn wish(mut words: impl Iterator<Item = String>) -> Result<Wish, String> {
         seeds: 500,
         steps: 1000,
         growth_sides: vec![24, 32, 40, 48, 56, 64],
+        sweep_sides: vec![32, 64],
     };
     while let Some(word) = words.next() {
         match word.as_str() {
@@ -42,6 +46,7 @@ fn wish(mut words: impl Iterator<Item = String>) -> Result<Wish, String> {
                 wish.effort = Effort { rounds: 2, seconds: 0.02 };
                 (wish.seeds, wish.steps) = (50, 50);
                 (wish.sides, wish.growth_sides) = (vec![32], vec![16, 24, 32]);
+                wish.sweep_sides = vec![32];
             }
             "--sides" => {
                 let given = words.next().unwrap_or_default();
@@ -135,6 +140,10 @@ fn bench(wish: &Wish) -> Result<(), String> {
 
     let measured: Vec<_> = all.iter().flat_map(|scene| measure(scene, &engines, wish.effort)).collect();
     report::speeds(&measured);
+
+    if let (Some(engine), Some(sweep)) = (proved, native::sweep()) {
+        report::sweeps(&sweep::measure(engine, sweep, &wish.sweep_sides, wish.effort)?);
+    }
 
     let largest = wish.growth_sides[wish.growth_sides.len() - 1];
     let over_cells = growth::over_cells(&engines, &wish.growth_sides, wish.effort);

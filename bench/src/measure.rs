@@ -96,6 +96,16 @@ impl Bench {
         bench
     }
 
+    /// The state that is timed, as an engine leaves it with its index.
+    pub fn reached(scene: &Scene, engine: Engine) -> HeldStore {
+        let start = HeldStore::of(scene.store.clone());
+        let marks = vec![0; scene.store.flags.len()];
+        let (sides, settings) = (scene.sides, scene.settings);
+        let mut bench = Bench { sides, settings, first: start.clone(), second: start.clone(), start, marks };
+        bench.go(engine, Way::Run, WARM_UP);
+        bench.first
+    }
+
     /// Seconds per step of so many steps from the start.
     pub fn time(&mut self, engine: Engine, way: Way, steps: usize) -> f64 {
         copy(&self.start, &mut self.first);

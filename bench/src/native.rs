@@ -13,6 +13,19 @@ pub fn proved() -> Option<Engine> {
     None
 }
 
+/// A sweep of the surface: hands on each interface cell, and answers the words read.
+pub type Sweep = fn([usize; 3], &[u64], &mut dyn FnMut(usize)) -> usize;
+
+#[cfg(feature = "library")]
+pub fn sweep() -> Option<Sweep> {
+    Some(linked::sweep)
+}
+
+#[cfg(not(feature = "library"))]
+pub fn sweep() -> Option<Sweep> {
+    None
+}
+
 #[cfg(feature = "library")]
 mod linked {
     use oracle::{Held, HeldMut};
@@ -74,6 +87,21 @@ mod linked {
         match lent::run(sides(size), settings(wish), steps, held_mut(first), held_mut(second), marks) {
             Ok(()) => Ran { count: steps, answer: ACCEPTED },
             Err(stopped) => Ran { count: stopped.count, answer: refused(stopped.refusal) },
+        }
+    }
+
+    pub fn sweep(size: [usize; 3], words: &[u64], found: &mut dyn FnMut(usize)) -> usize {
+        let (mut start, mut read) = (0, 0);
+        loop {
+            let next = lent::surface_next(sides(size), words, start).expect("a scene's words and sides fit");
+            read += next.words;
+            match next.cell {
+                Some(cell) => {
+                    found(cell);
+                    start = cell + 1;
+                }
+                None => return read,
+            }
         }
     }
 }

@@ -7,6 +7,7 @@ use crate::engine::Engine;
 use crate::growth::{linear, power, Point};
 use crate::measure::{Measured, Time};
 use crate::plain::PLAIN;
+use crate::sweep::Swept;
 
 /// One scene's water before and after its run.
 pub struct Totals {
@@ -177,6 +178,33 @@ fn verdict(linear: bool) -> &'static str {
     } else {
         "NOT linear"
     }
+}
+
+/// Sweeps of the surface beside walks of the flags.
+pub fn sweeps(rows: &[Swept]) {
+    let heading = [
+        "scene",
+        "side",
+        "interface cells",
+        "words",
+        "words read",
+        "sweep, us",
+        "walk, us",
+        "walk over sweep",
+    ];
+    let row = |row: &Swept| {
+        vec![
+            row.scene.into(),
+            row.side.to_string(),
+            row.cells.to_string(),
+            row.words.to_string(),
+            row.read.to_string(),
+            format!("{:.1}", 1e6 * row.sweep),
+            format!("{:.1}", 1e6 * row.walk),
+            format!("{:.1}", row.walk / row.sweep),
+        ]
+    };
+    table(&heading, &rows.iter().map(row).collect::<Vec<_>>());
 }
 
 /// Both tables of growth; a heading of its own for each engine's time.

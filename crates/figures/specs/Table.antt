@@ -1,7 +1,7 @@
 -- Every figure that document 01 as amended marks with a star, in one table: what the definitions give, and what the document says. Assumes nothing.
 use mathlib.Core.Bool.{Bool, true, false, _&&_, cond}
 use mathlib.Core.List.{List, [], _∷_, _++_, map}
-use Prim.Native.Nat.{ℕ}
+use Prim.Native.Nat.{ℕ, _+_}
 use lib.IntN.{ℤ, pos, negsuc}
 use lib.ListN.{getD, replicate}
 use Rattle.whole.specs.Fold.{tab}
@@ -183,6 +183,9 @@ figures =
     ∷ loads (loadAnswer cube two (index past (2 ∷ []))) 14
     ∷ counts (countAnswer cube past) 2
     ∷ asks (nextAnswer cube past 94) 0 2 0 1
+    -- sweeps from 0, word by word: case T's reads 2 = 1 + 1, that of 5×5×5 4 = 2 + 2
+    ∷ one (pos (nextWords (nextAnswer sides wordsT 0) + nextWords (nextAnswer sides wordsT 14))) (pos 2)
+    ∷ one (pos (nextWords (nextAnswer cube wordsTwo 0) + nextWords (nextAnswer cube wordsTwo 32) + nextWords (nextAnswer cube wordsTwo 94))) (pos 4)
     ∷ []
 
 -- two lists of numbers are the same

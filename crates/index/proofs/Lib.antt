@@ -4,5 +4,7 @@ pub mod Digits
 pub mod Flagged
 pub mod Questions
 pub mod Answers
+pub mod Sweeps
 pub mod Loaded
+pub mod SurfaceSwept
 pub mod Unique

@@ -48,10 +48,10 @@ module _ (s : Sides) (a : Lent) (x : Index) (loaded : loadAnswer s a x ≡ Done)
   word-is : (k : ℕ) → k < wordsOf n → getD (x .words) k 0 ≡ wordOf n (a .flags) k
   word-is = true-words n (a .flags) x (pass .true-now)
 
-  same : (c : ℕ) → c < n → isSet (x .words) c ≡ interface (a .flags) c
+  pub same : (c : ℕ) → c < n → isSet (x .words) c ≡ interface (a .flags) c
   same = as-flags n (a .flags) (x .words) word-is
 
-  number : howMany n (x .words) ≡ surfaceCells n (a .flags)
+  pub number : howMany n (x .words) ≡ surfaceCells n (a .flags)
   number = same-number n (a .flags) (x .words) word-is
 
   pub as-walked : AsWalked s a x

@@ -2,3 +2,4 @@ pub mod Index
 pub mod Outcome
 pub mod Laid
 pub mod Walked
+pub mod Sweep
