@@ -14,8 +14,8 @@ use Rattle.grid.specs.State.{Lent}
 use Rattle.grid.specs.Good.{badFlag}
 use Rattle.grid.specs.Outcome.{accepted, orRefuse, ifNone}
 use Rattle.grid.proofs.Accepted.{accepted-done}
-use Rattle.record.specs.Places.{past, counts, settingsFrom, originFrom, totalsFrom, cellsFrom, massesFrom}
-use Rattle.record.specs.Reading.{whole, slicesFit, sidesIn, totalsIn, cellsIn, flagIn, interfacesIn, liquidsIn, shapeAnswer, contentAnswer, readAnswer}
+use Rattle.record.specs.Places.{past, counts, settingsFrom, originFrom, totalsFrom, cellsFrom}
+use Rattle.record.specs.Reading.{whole, ends, behindFlags, slicesFit, sidesIn, totalsIn, cellsIn, flagIn, interfacesIn, liquidsIn, shapeAnswer, contentAnswer, readAnswer}
 use Rattle.record.specs.Passes.{Held, Sound}
 use Rattle.record.proofs.Answers.{whole-held, Chain, chain-or, chain-whole, chain-both, chain-then, or-true, or-pass, whole-there}
 
@@ -30,16 +30,6 @@ fronts r n rest =
 
 abbrev pub flagged : List ℕ → Answer → Answer
 flagged r rest = ifNone (cellsIn r) 4 (badFlag (gridOf (sidesIn r)) (flagIn r)) rest
-
--- sections 6 and 7 of i masses and 19l parts, from a byte on
-abbrev pub ends : List ℕ → ℕ → ℕ → ℕ → Answer → Answer
-ends r from i l rest =
-    whole r 6 from i 4
-    (whole r 7 (past from 4 i) (19 * l) 4 (orRefuse (leb (length r) (past (past from 4 i) 4 (19 * l))) 10 (past (past from 4 i) 4 (19 * l)) rest))
-
--- where they begin in a record
-abbrev pub behindFlags : List ℕ → ℕ
-behindFlags r = massesFrom counts (totalsIn r) (cellsIn r)
 
 -- ---- each passes the rest on, or answers itself
 module _ (r : List ℕ) (p m f k : ℕ) where

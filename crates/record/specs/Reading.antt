@@ -20,7 +20,7 @@ use Rattle.pumps.specs.Three.{withTotals, totalsGood}
 use Rattle.record.specs.declared.Site.{Site}
 use Rattle.record.specs.declared.Head.{Head}
 use Rattle.record.specs.Bytes.{part, u32At, i32At, i64At}
-use Rattle.record.specs.Places.{past, counts, settingsFrom, originFrom, totalsFrom, cellsFrom, massesFrom, partsFrom, lengthOf}
+use Rattle.record.specs.Places.{past, counts, settingsFrom, originFrom, totalsFrom, cellsFrom, massesFrom, partsFrom}
 use Rattle.record.specs.Layout.{siteGood, interfaces, liquids}
 
 -- ---- what the sections hold, were they whole
@@ -54,11 +54,14 @@ totalsIn r = cond (leb (totalsFrom counts + 4) (length r) && eqb (u32At r (total
 unfoldable pub carryIn : List ℕ → ℤ
 carryIn r = totalAt r 0
 
+abbrev pub laterIn : List ℕ → ℕ → ℤ
+laterIn r i = cond (eqb (totalsIn r) 3) (totalAt r i) (pos 0)
+
 unfoldable pub pouredIn : List ℕ → ℤ
-pouredIn r = cond (eqb (totalsIn r) 3) (totalAt r 1) (pos 0)
+pouredIn r = laterIn r 1
 
 unfoldable pub takenIn : List ℕ → ℤ
-takenIn r = cond (eqb (totalsIn r) 3) (totalAt r 2) (pos 0)
+takenIn r = laterIn r 2
 
 -- section 5: the byte where its numbers begin, 84 or 100 by the count of section 4; the N flags, and the flag of a cell
 abbrev pub flagsAt : List ℕ → ℕ
@@ -117,6 +120,19 @@ whole r number from n size rest =
     (orRefuse (eqb (u32At r from) n) 11 number
     (orRefuse (leb (from + 4 + size * n) (length r)) 10 from rest))
 
+-- sections 6 and 7 of i masses and 19l parts, from the byte where section 6 begins, and that nothing follows
+abbrev pub ends : List ℕ → ℕ → ℕ → ℕ → Answer → Answer
+ends r from i l rest =
+    let parts = past from 4 i in
+    let end = past parts 4 (19 * l) in
+    whole r 6 from i 4
+    (whole r 7 parts (19 * l) 4
+    (orRefuse (leb (length r) end) 10 end rest))
+
+-- where they begin in a record
+abbrev pub behindFlags : List ℕ → ℕ
+behindFlags r = massesFrom counts (totalsIn r) (cellsIn r)
+
 -- test 2, by the lengths of parts, masses, fills and carry: the reader's set lacks the flags
 unfoldable pub slicesFit : ℕ → ℕ → ℕ → ℕ → ℕ → Bool
 slicesFit n parts masses fills carry = eqb parts (19 * n) && eqb masses n && eqb fills n && eqb carry 3
@@ -126,8 +142,6 @@ unfoldable pub shapeAnswer : List ℕ → ℕ → ℕ → ℕ → ℕ → Answer
 shapeAnswer r parts masses fills carry rest =
     let k = totalsIn r in
     let n = cellsIn r in
-    let i = interfacesIn r in
-    let m = 19 * liquidsIn r in
     whole r 1 0 (counts .sides) 4
     (orRefuse (sidesGood (sidesIn r)) 1 0
     (orRefuse (slicesFit n parts masses fills carry) 2 0
@@ -136,9 +150,7 @@ shapeAnswer r parts masses fills carry rest =
     (whole r 4 (totalsFrom counts) k 8
     (whole r 5 (cellsFrom counts k) n 1
     (ifNone n 4 (badFlag (gridOf (sidesIn r)) (flagIn r))
-    (whole r 6 (massesFrom counts k n) i 4
-    (whole r 7 (partsFrom counts k n i) m 4
-    (orRefuse (leb (length r) (lengthOf counts k n i m)) 10 (lengthOf counts k n i m) rest))))))))))
+    (ends r (behindFlags r) (interfacesIn r) (liquidsIn r) rest))))))))
 
 -- then 3, 5, 6, and of poured and taken 6 at N
 unfoldable pub contentAnswer : List ℕ → Answer

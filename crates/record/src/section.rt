@@ -4,13 +4,10 @@ use crate::places::totals_in;
 use grid::Answer;
 ghost use mathlib.Core.Path.{_≡_};
 ghost use Prim.Native.Nat.{_≤_};
-ghost use Rattle.grid.specs.Outcome.{accepted, orRefuse};
+ghost use Rattle.grid.specs.Outcome.{accepted};
 ghost use Rattle.grid.specs.declared.Answer.the-variants.{Done};
-ghost use Rattle.record.specs.Places.{past, counts, settingsFrom, originFrom, totalsFrom, cellsFrom};
-ghost use lib.Dec.{leb};
-ghost use lib.ListN.{length};
-ghost use Prim.Native.Nat.{_*_};
-ghost use Rattle.record.specs.Reading.{totalsIn, whole};
+ghost use Rattle.record.specs.Places.{counts, settingsFrom, originFrom, totalsFrom, cellsFrom};
+ghost use Rattle.record.specs.Reading.{totalsIn, whole, ends};
 
 pub fn passed(a: Answer) -> bool
     ensures { λ r. ⌜ r ≡ accepted a ⌝ }
@@ -66,7 +63,7 @@ pub fn cell_sections(rec: &[u8], from: usize, i: usize, l: usize) -> Answer
     requires { ⌜ from ≤ 262244 ⌝ }
     requires { ⌜ i ≤ 262144 ⌝ }
     requires { ⌜ l ≤ 262144 ⌝ }
-    ensures { λ r. ⌜ r ≡ whole (now (rec .entry)) 6 from i 4 (whole (now (rec .entry)) 7 (past from 4 i) (19 * l) 4 (orRefuse (leb (length (now (rec .entry))) (past (past from 4 i) 4 (19 * l))) 10 (past (past from 4 i) 4 (19 * l)) Done)) ⌝ }
+    ensures { λ r. ⌜ r ≡ ends (now (rec .entry)) from i l Done ⌝ }
 {
     let masses = section(rec, 6, from, i, 4);
     if !passed(masses) {
