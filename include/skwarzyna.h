@@ -12,6 +12,15 @@
  *
  * The water of a set is the sum of its masses and its carry. No accepted step changes it by one unit.
  *
+ * AN INDEX of its surface stands beside a set that is loaded, stepped, run or read, so that a host finds interface cells without
+ * walking the grid:
+ *
+ *     words     W      SKW_WORDS(N) words of 64 bits: cell c is bit c % 64 of words[c / 64], set if the cell is interface; bits past N 0
+ *     count     1      the number of interface cells
+ *
+ * It is true when every word is the one that the flags make and the count is right. Step, run and reader leave a true one. A host that
+ * lays a state by hand fills both itself, and skw_load says whether they are right.
+ *
  * A GOOD STATE: flags and outer layer are right; no fluid cell has an empty one among its 18 neighbours (those that share a face or
  * an edge with it); wall and empty cells have parts, mass and fill 0; a liquid cell (fluid or interface) has parts within +-1,179,648,
  * density rho of 294,912 to 1,179,648 and momentum j (sum of part times direction) with 9*|j|*|j| <= rho*rho; a fluid cell has mass
@@ -52,6 +61,9 @@ enum { SKW_EMPTY = 0, SKW_INTERFACE = 1, SKW_FLUID = 2, SKW_WALL = 3 };
 /* Kinds of depth. */
 enum { SKW_DEPTH_REFUSED = 0, SKW_DEPTH_SOLID = 1, SKW_DEPTH_DRY = 2, SKW_DEPTH_DEEP = 3 };
 
+/* Kinds of answer to skw_surface_next. */
+enum { SKW_SURFACE_REFUSED = 0, SKW_SURFACE_FOUND = 1, SKW_SURFACE_NONE = 2 };
+
 /* Kinds of line in a profile. */
 enum { SKW_LINE_SOLID = 1, SKW_LINE_DRY = 2, SKW_LINE_DEEP = 3, SKW_LINE_OUTSIDE = 4 };
 
@@ -79,6 +91,9 @@ enum { SKW_LINE_SOLID = 1, SKW_LINE_DRY = 2, SKW_LINE_DEEP = 3, SKW_LINE_OUTSIDE
 #define SKW_MASS_MOST 2359296
 #define SKW_POINTS_MOST 2000
 #define SKW_CARRY_MOST ((int64_t)1000000 * 1000000)
+
+/* Words of the index of a grid with so many cells. */
+#define SKW_WORDS(cells) (((size_t)(cells) + 63) / 64)
 
 /* Length in bytes of the record of a grid with so many cells, interface cells and liquid cells (fluid and interface). */
 #define SKW_RECORD_BYTES(cells, interfaces, liquids) \
@@ -116,8 +131,10 @@ enum {
     SKW_BAD_COUNT = 11,
     /* room for the record is too small (tested last); place: the bytes needed */
     SKW_BAD_ROOM = 12,
-    /* column, cell or point outside the grid; place 0 */
+    /* column, cell or point outside the grid, or a start above N; place 0 */
     SKW_OUTSIDE = 13,
+    /* a word of the index is not the one that the flags make, or the stored count is wrong (tested after 6, before 7); place 0 */
+    SKW_BAD_INDEX = 14,
     /* a profile's list has not 1 to 2,000 points; place 0 */
     SKW_BAD_LIST = 22,
     /* a profile's chainage is not above the one before; place: the first such point, from 0 */
@@ -137,26 +154,69 @@ uint8_t skw_check(const uint8_t *flags, size_t flags_len,
                   size_t *place);
 
 /*
- * STEP: the state one step after the first set, into the second. marks is N bytes of work space, whatever they hold.
- * Tests 1 to 6 (2 on both sets and the marks; 4 to 6 on the first set alone), then 7, then 8.
+ * LOAD: is this set a good state, and is this its index?
+ * Tests 1, 2, 4, 5, 6, 14. Writes *place alone.
+ */
+uint8_t skw_load(const uint8_t *flags, size_t flags_len,
+                 const int32_t *parts, size_t parts_len,
+                 const int32_t *masses, size_t masses_len,
+                 const uint32_t *fills, size_t fills_len,
+                 const int64_t *carry, size_t carry_len,
+                 const uint64_t *words, size_t words_len,
+                 const uint64_t *count, size_t count_len,
+                 size_t nx, size_t ny, size_t nz,
+                 size_t *place);
+
+/*
+ * SURFACE COUNT: how many interface cells the words hold, bits past N never counted. It is lent the words alone, and answers for any.
+ * Tests 1, 2. Beside a refusal *cells is 0.
+ */
+uint8_t skw_surface_count(const uint64_t *words, size_t words_len,
+                          size_t nx, size_t ny, size_t nz,
+                          size_t *cells, size_t *place);
+
+/*
+ * SURFACE NEXT: the lowest interface cell at or after the start, by the words alone, and how many words were read to find it.
  *
- *     answer           second set             marks
- *     accepted         the next state         all 0
- *     7, 8             a copy of the first    all 0
- *     1 to 6           as it was              as they were
+ *     *kind                   when                                       *cell       *read
+ *     SKW_SURFACE_REFUSED     the answer is not 0                        0           0
+ *     SKW_SURFACE_FOUND       there is one                               the cell    words from the start's to the cell's, both counted
+ *     SKW_SURFACE_NONE        there is none                              0           words from the start's to the last; 0 from start N
  *
- * The first set is never written.
+ * Tests 1, 2, then 13 for a start above N. To sweep the surface, ask from 0, then each time from the cell after the last one found,
+ * until there is none: all of it reads at most the words and one more for each cell found.
+ */
+uint8_t skw_surface_next(const uint64_t *words, size_t words_len,
+                         size_t nx, size_t ny, size_t nz,
+                         size_t start,
+                         uint8_t *kind, size_t *cell, size_t *read,
+                         size_t *place);
+
+/*
+ * STEP: the state one step after the first set, into the second, with its index. marks is N bytes of work space, whatever they hold.
+ * Tests 1 to 6 (2 on both sets, both indexes and the marks; 4 to 6 on the first set alone), 14 on the first index, then 7, then 8.
+ *
+ *     answer           second set and index       marks
+ *     accepted         the next state and its     all 0
+ *     7, 8             copies of the first        all 0
+ *     1 to 6, 14       as they were               as they were
+ *
+ * The first set and its index are never written.
  */
 uint8_t skw_step(const uint8_t *flags, size_t flags_len,
                  const int32_t *parts, size_t parts_len,
                  const int32_t *masses, size_t masses_len,
                  const uint32_t *fills, size_t fills_len,
                  const int64_t *carry, size_t carry_len,
+                 const uint64_t *words, size_t words_len,
+                 const uint64_t *count, size_t count_len,
                  uint8_t *flags2, size_t flags2_len,
                  int32_t *parts2, size_t parts2_len,
                  int32_t *masses2, size_t masses2_len,
                  uint32_t *fills2, size_t fills2_len,
                  int64_t *carry2, size_t carry2_len,
+                 uint64_t *words2, size_t words2_len,
+                 uint64_t *count2, size_t count2_len,
                  uint8_t *marks, size_t marks_len,
                  size_t nx, size_t ny, size_t nz,
                  int64_t p, int64_t gx, int64_t gy, int64_t gz,
@@ -165,14 +225,14 @@ uint8_t skw_step(const uint8_t *flags, size_t flags_len,
 /*
  * RUN: so many steps, 0 to 1,000, from the state in the first set; it stops at the first step that is refused. It returns how many
  * steps were accepted; *number and *place are those of the refusal that stopped it, 0 0 if none did.
- * Tests 9, then 1 to 6 as a step makes them, then 7 and 8 of each step.
+ * Tests 9, then 1 to 6 and 14 as a step makes them, then 7 and 8 of each step.
  *
- *     *number          returns                      both sets             marks
- *     0                the steps asked              the state reached     all 0
- *     7, 8             the steps before that one    the state reached     all 0
- *     1 to 6, 9        0                            as they were          as they were
+ *     *number          returns                      both sets and indexes         marks
+ *     0                the steps asked              the state reached, its own    all 0
+ *     7, 8             the steps before that one    the state reached, its own    all 0
+ *     1 to 6, 9, 14    0                            as they were                  as they were
  *
- * It is faster than so many single steps: it tests the state once, and goes back and forth between the sets.
+ * It is faster than so many single steps: it tests the state once, goes back and forth between the sets, and makes the index once.
  */
 size_t skw_run(size_t steps,
                uint8_t *flags, size_t flags_len,
@@ -180,19 +240,23 @@ size_t skw_run(size_t steps,
                int32_t *masses, size_t masses_len,
                uint32_t *fills, size_t fills_len,
                int64_t *carry, size_t carry_len,
+               uint64_t *words, size_t words_len,
+               uint64_t *count, size_t count_len,
                uint8_t *flags2, size_t flags2_len,
                int32_t *parts2, size_t parts2_len,
                int32_t *masses2, size_t masses2_len,
                uint32_t *fills2, size_t fills2_len,
                int64_t *carry2, size_t carry2_len,
+               uint64_t *words2, size_t words2_len,
+               uint64_t *count2, size_t count2_len,
                uint8_t *marks, size_t marks_len,
                size_t nx, size_t ny, size_t nz,
                int64_t p, int64_t gx, int64_t gy, int64_t gz,
                uint8_t *number, size_t *place);
 
 /*
- * READ: a grid record, rec_len bytes of it, into a set without flags: 19*N parts, N masses, N fills (worked out), the carry. The flags
- * are not copied: they are the bytes rec[*flags_from] to before rec[*flags_to] of the caller's own record. Sides, settings, edge and
+ * READ: a grid record, rec_len bytes of it, into a set without flags: 19*N parts, N masses, N fills (worked out), the carry; and the
+ * index of its flags, which it makes. The flags are not copied: they are the bytes rec[*flags_from] to before rec[*flags_to] of the caller's own record. Sides, settings, edge and
  * origin come through their pointers.
  *
  * How much to lend: the sides stand in bytes 4 to 15 of the record, three unsigned 32-bit numbers, little-endian. Where a record is too
@@ -207,6 +271,8 @@ uint8_t skw_read(const uint8_t *rec, size_t rec_len,
                  int32_t *masses, size_t masses_len,
                  uint32_t *fills, size_t fills_len,
                  int64_t *carry, size_t carry_len,
+                 uint64_t *words, size_t words_len,
+                 uint64_t *count, size_t count_len,
                  size_t *nx, size_t *ny, size_t *nz,
                  int64_t *p, int64_t *gx, int64_t *gy, int64_t *gz,
                  int64_t *edge, int64_t *ox, int64_t *oy, int64_t *oz,

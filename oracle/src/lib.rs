@@ -4,6 +4,7 @@ pub mod damage;
 pub mod drawing;
 pub mod grid;
 pub mod hunt;
+pub mod index;
 pub mod lattice;
 pub mod profile;
 pub mod random;
@@ -18,6 +19,7 @@ pub mod step;
 pub mod text;
 
 pub use grid::Refusal;
+pub use index::{load, surface_count, surface_next, Held, HeldMut, HeldStore, IndexStore};
 pub use profile::profile;
 pub use readings::{cell_point, depth, place};
 pub use record::{read, write};

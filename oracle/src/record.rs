@@ -62,6 +62,11 @@ fn three<T: Copy>(numbers: &[T]) -> [T; 3] {
     [numbers[0], numbers[1], numbers[2]]
 }
 
+/// Section 1, and test 1 of the sides in it.
+pub fn opened(bytes: &[u8]) -> Result<Grid, Refusal> {
+    Grid::new(three(&numbers_u32(Sections::new(bytes).next(3, 4)?)))
+}
+
 /// The reader. The lent slices are written only when the whole record is accepted.
 pub fn read<'a>(
     bytes: &'a [u8],
@@ -116,8 +121,7 @@ pub fn read<'a>(
 
 /// Reads with room for at most that many cells; a larger grid finds slices of a wrong length, 2.
 pub fn read_within(bytes: &[u8], room: usize) -> Result<(Reading<'_>, Store), Refusal> {
-    let sides = Sections::new(bytes).next(3, 4).map(|sides| three(&numbers_u32(sides)));
-    let n = sides.and_then(Grid::new).map_or(0, |grid| grid.n);
+    let n = opened(bytes).map_or(0, |grid| grid.n);
     let mut store = Store::blank(if n <= room { n } else { 0 });
     let lent = store.lend_mut();
     let reading = read(bytes, lent.parts, lent.masses, lent.fills, lent.carry)?;

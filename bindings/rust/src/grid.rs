@@ -1,26 +1,29 @@
 // A grid that owns its buffers, and the library's calls over them.
 
+use std::borrow::Cow;
 use std::fmt::{Debug, Formatter, Result as Written};
 use std::mem::swap;
 
 use crate::lent;
 use crate::state::Buffers;
 use crate::{
-    CellPoint, Counts, Depth, Line, Point, Profile, Refusal, Settings, Sides, Site, State, StateMut, Station,
-    Stopped, Water, WALL,
+    CellPoint, Counts, Depth, Index, IndexMut, Line, Point, Profile, Refusal, Settings, Sides, Site, State, StateMut,
+    Station, Stopped, Surface, Water, WALL,
 };
 
 /// A grid of cells with its water.
 ///
-/// It owns two sets of buffers and the work space of a step, so that nothing is allocated while it runs.
+/// It owns two sets of buffers, each with its index, and the work space of a step, so that nothing is allocated while it runs.
 #[derive(Clone)]
 pub struct Grid {
     pub(crate) sides: Sides,
-    /// The state.
+    /// The state, and its index.
     pub(crate) first: Buffers,
     /// Where the next one goes.
     second: Buffers,
     marks: Vec<u8>,
+    /// Whether flags may have changed by hand since the index was made.
+    pub(crate) touched: bool,
 }
 
 /// What a grid record holds.
@@ -53,6 +56,7 @@ impl Grid {
         first.masses.copy_from_slice(state.masses);
         first.fills.copy_from_slice(state.fills);
         first.carry.copy_from_slice(state.carry);
+        first.make_index();
         Ok(Grid::holding(sides, first))
     }
 
@@ -61,8 +65,8 @@ impl Grid {
         // The library looks at the lengths of its slices once the sides are in range, and at nothing before.
         let cells = sides_in(record).and_then(|sides| sides.cells().ok()).unwrap_or(0);
         let mut first = Buffers::new(cells);
-        let head =
-            lent::read(record, &mut first.parts, &mut first.masses, &mut first.fills, &mut first.carry)?;
+        let Buffers { parts, masses, fills, carry, words, count, .. } = &mut first;
+        let head = lent::read(record, parts, masses, fills, carry, IndexMut { words, count })?;
         first.flags.copy_from_slice(head.flags);
         let grid = Grid::holding(head.sides, first);
         Ok(Record { grid, settings: head.settings, site: head.site })
@@ -70,7 +74,7 @@ impl Grid {
 
     fn holding(sides: Sides, first: Buffers) -> Grid {
         let cells = first.flags.len();
-        Grid { sides, first, second: Buffers::new(cells), marks: vec![0; cells] }
+        Grid { sides, first, second: Buffers::new(cells), marks: vec![0; cells], touched: false }
     }
 
     /// The grid's record, which [`read`](Grid::read) reads back as the same grid. Refusals 3 to 6.
@@ -94,7 +98,34 @@ impl Grid {
 
     /// The state to change at will; [`check`](Grid::check) says whether it is still good, and so does the next step.
     pub fn state_mut(&mut self) -> StateMut<'_> {
+        self.touched = true;
         self.first.lend_mut()
+    }
+
+    /// The index of the surface, made anew where flags were changed by hand.
+    pub fn index(&mut self) -> Index<'_> {
+        self.indexed();
+        self.first.hold().index
+    }
+
+    /// The index again true, as step and run leave it.
+    fn indexed(&mut self) {
+        if self.touched {
+            self.first.make_index();
+            self.touched = false;
+        }
+    }
+
+    /// The interface cells from this one on, in rising order, by the words of the index; none from the number of cells on.
+    pub fn surface(&self, start: usize) -> Surface<'_> {
+        let words = if self.touched {
+            let mut buffers = self.first.clone();
+            buffers.make_index();
+            Cow::Owned(buffers.words)
+        } else {
+            Cow::Borrowed(&self.first.words[..])
+        };
+        Surface::new(self.sides, words, start)
     }
 
     /// Whether the state is good; else refusal 4, 5 or 6.
@@ -104,14 +135,16 @@ impl Grid {
 
     /// Makes one step. Refused, with 3 to 8, it leaves the state as it was.
     pub fn step(&mut self, settings: Settings) -> Result<(), Refusal> {
-        lent::step(self.sides, settings, self.first.lend(), self.second.lend_mut(), &mut self.marks)?;
+        self.indexed();
+        lent::step(self.sides, settings, self.first.hold(), self.second.hold_mut(), &mut self.marks)?;
         swap(&mut self.first, &mut self.second);
         Ok(())
     }
 
     /// Makes so many steps, at most 1,000, faster than one by one. Where a step is refused, the state is the one reached before it.
     pub fn run(&mut self, steps: usize, settings: Settings) -> Result<(), Stopped> {
-        let (first, second) = (self.first.lend_mut(), self.second.lend_mut());
+        self.indexed();
+        let (first, second) = (self.first.hold_mut(), self.second.hold_mut());
         lent::run(self.sides, settings, steps, first, second, &mut self.marks)
     }
 

@@ -77,6 +77,7 @@ impl Grid {
 
     /// A cell without water.
     fn blank(&mut self, cell: usize, flag: u8) {
+        self.touched = true;
         self.first.flags[cell] = flag;
         self.first.parts[PARTS * cell..PARTS * (cell + 1)].fill(0);
         self.first.masses[cell] = 0;
@@ -92,6 +93,7 @@ impl Grid {
         }
         parts[0] = density - parts[1..].iter().sum::<i32>();
         let share = (i64::from(FULL) * i64::from(mass)).div_euclid(i64::from(density));
+        self.touched = true;
         self.first.flags[cell] = flag;
         self.first.masses[cell] = mass;
         self.first.fills[cell] = share.clamp(0, i64::from(FULL)) as u32;

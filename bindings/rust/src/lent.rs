@@ -1,4 +1,4 @@
-//! The library's nine calls over slices that the caller lends: any lengths, any contents.
+//! The library's calls over slices that the caller lends: any lengths, any contents.
 //!
 //! [`Grid`](crate::Grid) makes the same calls over buffers of its own. These are for a host that has its own buffers, or wants to
 //! be refused.
@@ -8,7 +8,9 @@
 // it, or of a number of the calling function; a `&mut` overlaps no other borrow.
 
 use crate::raw;
-use crate::{CellPoint, Depth, Point, Refusal, Settings, Sides, Site, State, StateMut, Stopped};
+use crate::{
+    CellPoint, Depth, Held, HeldMut, IndexMut, Next, Point, Refusal, Settings, Sides, Site, State, Stopped,
+};
 
 /// What the reader answers beside the slices that it fills.
 #[derive(Clone, Copy, Debug, PartialEq, Eq)]
@@ -51,16 +53,87 @@ pub fn check(sides: Sides, state: State) -> Result<(), Refusal> {
     answered(number, place)
 }
 
-/// The state one step after the first set, into the second; marks is a byte per cell of work space, all 0 afterwards.
+/// Whether a state is good and its index true. Refusals 1, 2, 4, 5, 6, 14.
+pub fn load(sides: Sides, held: Held) -> Result<(), Refusal> {
+    let Held { state, index } = held;
+    let mut place = 0;
+    let number = unsafe {
+        raw::skw_load(
+            state.flags.as_ptr(),
+            state.flags.len(),
+            state.parts.as_ptr(),
+            state.parts.len(),
+            state.masses.as_ptr(),
+            state.masses.len(),
+            state.fills.as_ptr(),
+            state.fills.len(),
+            state.carry.as_ptr(),
+            state.carry.len(),
+            index.words.as_ptr(),
+            index.words.len(),
+            index.count.as_ptr(),
+            index.count.len(),
+            sides.nx,
+            sides.ny,
+            sides.nz,
+            &mut place,
+        )
+    };
+    answered(number, place)
+}
+
+/// How many interface cells the words of an index hold, by their bits. Refusals 1, 2.
+pub fn surface_count(sides: Sides, words: &[u64]) -> Result<usize, Refusal> {
+    let (mut cells, mut place) = (0, 0);
+    let number = unsafe {
+        raw::skw_surface_count(
+            words.as_ptr(),
+            words.len(),
+            sides.nx,
+            sides.ny,
+            sides.nz,
+            &mut cells,
+            &mut place,
+        )
+    };
+    answered(number, place)?;
+    Ok(cells)
+}
+
+/// The next interface cell at or after the start, by the words of an index, and how many of them were read. Refusals 1, 2, and 13
+/// for a start above the number of cells.
+pub fn surface_next(sides: Sides, words: &[u64], start: usize) -> Result<Next, Refusal> {
+    let (mut kind, mut cell, mut read, mut place) = (0, 0, 0, 0);
+    let number = unsafe {
+        raw::skw_surface_next(
+            words.as_ptr(),
+            words.len(),
+            sides.nx,
+            sides.ny,
+            sides.nz,
+            start,
+            &mut kind,
+            &mut cell,
+            &mut read,
+            &mut place,
+        )
+    };
+    answered(number, place)?;
+    // As include/skwarzyna.h numbers the kinds; 0 stands beside a refusal alone.
+    Ok(Next { cell: (kind == 1).then_some(cell), words: read })
+}
+
+/// The state one step after the first, and its index, into the second; marks is a byte per cell of work space, all 0 afterwards.
 ///
-/// Refusals 1 to 6 write nothing. After 7 or 8 the second set is a copy of the first, and the marks are 0.
+/// Refusals 1 to 6 and 14 write nothing. After 7 or 8 the second is a copy of the first, and the marks are 0.
 pub fn step(
     sides: Sides,
     settings: Settings,
-    first: State,
-    second: StateMut,
+    first: Held,
+    second: HeldMut,
     marks: &mut [u8],
 ) -> Result<(), Refusal> {
+    let (Held { state: first, index }, HeldMut { state: second, index: index2 }) = (first, second);
     let mut place = 0;
     let number = unsafe {
         raw::skw_step(
@@ -74,6 +147,10 @@ pub fn step(
             first.fills.len(),
             first.carry.as_ptr(),
             first.carry.len(),
+            index.words.as_ptr(),
+            index.words.len(),
+            index.count.as_ptr(),
+            index.count.len(),
             second.flags.as_mut_ptr(),
             second.flags.len(),
             second.parts.as_mut_ptr(),
@@ -84,6 +161,10 @@ pub fn step(
             second.fills.len(),
             second.carry.as_mut_ptr(),
             second.carry.len(),
+            index2.words.as_mut_ptr(),
+            index2.words.len(),
+            index2.count.as_mut_ptr(),
+            index2.count.len(),
             marks.as_mut_ptr(),
             marks.len(),
             sides.nx,
@@ -101,15 +182,16 @@ pub fn step(
 
 /// So many steps, 0 to 1,000, from the state in the first set, until one is refused.
 ///
-/// Refusals 9 and 1 to 6 write nothing. Else both sets hold the state reached, after 7 or 8 too, and the marks are 0.
+/// Refusals 9, 1 to 6 and 14 write nothing. Else both hold the state reached and its index, after 7 or 8 too, and the marks are 0.
 pub fn run(
     sides: Sides,
     settings: Settings,
     steps: usize,
-    first: StateMut,
-    second: StateMut,
+    first: HeldMut,
+    second: HeldMut,
     marks: &mut [u8],
 ) -> Result<(), Stopped> {
+    let (HeldMut { state: first, index }, HeldMut { state: second, index: index2 }) = (first, second);
     let (mut number, mut place) = (0, 0);
     let count = unsafe {
         raw::skw_run(
@@ -124,6 +206,10 @@ pub fn run(
             first.fills.len(),
             first.carry.as_mut_ptr(),
             first.carry.len(),
+            index.words.as_mut_ptr(),
+            index.words.len(),
+            index.count.as_mut_ptr(),
+            index.count.len(),
             second.flags.as_mut_ptr(),
             second.flags.len(),
             second.parts.as_mut_ptr(),
@@ -134,6 +220,10 @@ pub fn run(
             second.fills.len(),
             second.carry.as_mut_ptr(),
             second.carry.len(),
+            index2.words.as_mut_ptr(),
+            index2.words.len(),
+            index2.count.as_mut_ptr(),
+            index2.count.len(),
             marks.as_mut_ptr(),
             marks.len(),
             sides.nx,
@@ -150,7 +240,7 @@ pub fn run(
     answered(number, place).map_err(|refusal| Stopped { count, refusal })
 }
 
-/// Reads a grid record into a set without its flags, which are a part of the record. A refusal writes nothing.
+/// Reads a grid record into a set without its flags, which are a part of the record, and makes their index. A refusal writes nothing.
 ///
 /// The record's sections are tested as they are read (10, 11), after the first the sides and lengths (1, 2), after the fifth the
 /// flags (4), at the end that nothing is left over (10), then settings and origin (3), and the state (5, 6).
@@ -160,6 +250,7 @@ pub fn read<'a>(
     masses: &mut [i32],
     fills: &mut [u32],
     carry: &mut [i64],
+    index: IndexMut,
 ) -> Result<Head<'a>, Refusal> {
     let mut sides = Sides::new(0, 0, 0);
     let mut settings = Settings { p: 0, gx: 0, gy: 0, gz: 0 };
@@ -177,6 +268,10 @@ pub fn read<'a>(
             fills.len(),
             carry.as_mut_ptr(),
             carry.len(),
+            index.words.as_mut_ptr(),
+            index.words.len(),
+            index.count.as_mut_ptr(),
+            index.count.len(),
             &mut sides.nx,
             &mut sides.ny,
             &mut sides.nz,

@@ -29,6 +29,7 @@
 
 pub mod drawing;
 mod grid;
+mod index;
 mod laying;
 pub mod lent;
 pub mod picture;
@@ -42,6 +43,7 @@ pub mod spelling;
 mod state;
 
 pub use grid::{Grid, Record};
+pub use index::{words_of, Held, HeldMut, Index, IndexMut, Next, Surface};
 pub use readings::{CellPoint, Depth, Line, Profile, Station};
 pub use refusal::{Place, Refusal, Stopped};
 pub use settings::{Point, Settings, Site};

@@ -6,7 +6,7 @@ use std::fmt::{Display, Formatter, Result as Written};
 /// Why a call was refused. Nothing is written then, but as each call says for 7 and 8.
 #[derive(Clone, Copy, Debug, PartialEq, Eq, Hash)]
 pub struct Refusal {
-    /// 1 to 13, 22 or 23; [`SIDES`](Refusal::SIDES) and so on.
+    /// 1 to 14, 22 or 23; [`SIDES`](Refusal::SIDES) and so on.
     pub number: u8,
     /// A cell, a byte, a section, a number of bytes, a point of a list, or 0, by the number.
     pub place: usize,
@@ -55,8 +55,10 @@ impl Refusal {
     pub const COUNT: u8 = 11;
     /// Room for the record is too small. Place: the bytes needed.
     pub const ROOM: u8 = 12;
-    /// Column, cell or point outside.
+    /// Column, cell or point outside, or a start above the number of cells.
     pub const OUTSIDE: u8 = 13;
+    /// A word of the index is not the one that the flags make, or the stored count is not the number of interface cells.
+    pub const INDEX: u8 = 14;
     /// A profile's list has not 1 to 2,000 points.
     pub const LIST: u8 = 22;
     /// A profile's chainage is not above the one before. Place: the first such point.
@@ -82,6 +84,7 @@ impl Refusal {
             Refusal::COUNT => "a section's count is wrong",
             Refusal::ROOM => "room for the record too small",
             Refusal::OUTSIDE => "column, cell or point outside",
+            Refusal::INDEX => "a word is not the one that the flags make, or the stored count is wrong",
             Refusal::LIST => "the list has not 1 to 2,000 points",
             Refusal::CHAINAGE => "a chainage is not above the one before",
             _ => "no number of document 01",

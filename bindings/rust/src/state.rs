@@ -1,5 +1,8 @@
 // One state of a grid as five slices, and what can be counted in it.
 
+use crate::index::words_of;
+use crate::{Held, HeldMut, Index, IndexMut};
+
 /// The flag of a cell with neither wall nor water.
 pub const EMPTY: u8 = 0;
 /// The flag of a cell at the water's surface.
@@ -106,7 +109,7 @@ impl<'a> StateMut<'a> {
     }
 }
 
-/// Vectors of one's own from which a state of a grid is lent.
+/// Vectors of one's own from which a state of a grid and its index are lent.
 #[derive(Clone, Debug)]
 pub(crate) struct Buffers {
     pub flags: Vec<u8>,
@@ -114,6 +117,8 @@ pub(crate) struct Buffers {
     pub masses: Vec<i32>,
     pub fills: Vec<u32>,
     pub carry: [i64; 1],
+    pub words: Vec<u64>,
+    pub count: [u64; 1],
 }
 
 impl Buffers {
@@ -125,6 +130,8 @@ impl Buffers {
             masses: vec![0; cells],
             fills: vec![0; cells],
             carry: [0],
+            words: vec![0; words_of(cells)],
+            count: [0],
         }
     }
 
@@ -138,13 +145,30 @@ impl Buffers {
         }
     }
 
-    pub fn lend_mut(&mut self) -> StateMut<'_> {
-        StateMut {
-            flags: &mut self.flags,
-            parts: &mut self.parts,
-            masses: &mut self.masses,
-            fills: &mut self.fills,
-            carry: &mut self.carry,
+    pub fn hold(&self) -> Held<'_> {
+        Held { state: self.lend(), index: Index { words: &self.words, count: &self.count } }
+    }
+
+    pub fn hold_mut(&mut self) -> HeldMut<'_> {
+        HeldMut {
+            state: StateMut {
+                flags: &mut self.flags,
+                parts: &mut self.parts,
+                masses: &mut self.masses,
+                fills: &mut self.fills,
+                carry: &mut self.carry,
+            },
+            index: IndexMut { words: &mut self.words, count: &mut self.count },
         }
+    }
+
+    pub fn lend_mut(&mut self) -> StateMut<'_> {
+        self.hold_mut().state
+    }
+
+    /// Makes the index of the flags, after a change of them that was not the library's.
+    pub fn make_index(&mut self) {
+        let flags = &self.flags;
+        IndexMut { words: &mut self.words, count: &mut self.count }.make(flags);
     }
 }

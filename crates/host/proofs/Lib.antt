@@ -1,5 +1,4 @@
 pub mod Returned
-pub mod Spans
 pub mod Told
 pub mod Depths
 pub mod Unique

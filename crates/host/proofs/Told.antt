@@ -10,13 +10,15 @@ use Rattle.grid.specs.declared.Sides.{Sides}
 use Rattle.grid.specs.declared.Answer.{Answer}
 use Rattle.grid.specs.State.{Lent}
 use Rattle.grid.specs.Outcome.{numberOf, placeOf}
-use Rattle.grid.specs.Promise.{Stepped, RanTo}
 use Rattle.record.specs.declared.Site.{Site}
 use Rattle.record.specs.declared.Written.{Written}
 use Rattle.record.specs.declared.Head.{Head}
 use Rattle.record.specs.declared.Span.{Span}
-use Rattle.record.specs.Promise.{Read, Wrote, spanOf}
-use Rattle.record.proofs.Spanned.{span-read}
+use Rattle.record.specs.Promise.{Wrote, spanOf}
+use Rattle.index.specs.Index.{Index}
+use Rattle.calls.specs.Outcome.{Held}
+use Rattle.calls.specs.Promise.{Stepped, RanTo, Read}
+use Rattle.calls.proofs.FlagSpan.{spans}
 use Rattle.tunnel.specs.declared.Placed.{Placed}
 use Rattle.tunnel.specs.declared.Point.{Point}
 use Rattle.tunnel.specs.Place as placing
@@ -26,17 +28,16 @@ use Rattle.profile.specs.declared.Profiled.{Profiled}
 use Rattle.profile.specs.Profile.{survey}
 use Rattle.profile.specs.Outcome.{profiledNumber, profiledPlace, wetOf, deepestOf, Told}
 use Rattle.host.specs.Promise.{StepTold, RunTold, ReadTold, WriteTold, PlaceTold, ProfileTold}
-use Rattle.host.proofs.Spans.{span-end}
 
 -- the settings k that the layer was given are the call's own, g
-pub step-told : {s : Sides} {g k : Settings} {a b : Lent} {marks : List ℕ} {answer : Answer} {number place : ℕ} {second : Lent} {after : List ℕ}
+pub step-told : {s : Sides} {g k : Settings} {a b : Held} {marks : List ℕ} {answer : Answer} {number place : ℕ} {second : Held} {after : List ℕ}
     → k ≡ g → Stepped s k a b marks answer second after → number ≡ numberOf answer → place ≡ placeOf answer
     → StepTold s g a b marks number place second after
 step-told {s} {a = a} {b = b} {marks = marks} {number = number} {place = place} {second = second} {after = after} e h n p =
     subst (λ (x : Settings). StepTold s x a b marks number place second after) e
     (record { number-is = n ∙ ap numberOf (h .answer-is); place-is = p ∙ ap placeOf (h .answer-is); second-is = h .second-is; marks-are = h .marks-are })
 
-pub run-told : {steps : ℕ} {s : Sides} {g k : Settings} {a b : Lent} {marks : List ℕ} {count : ℕ} {answer : Answer} {number place : ℕ} {first second : Lent} {after : List ℕ}
+pub run-told : {steps : ℕ} {s : Sides} {g k : Settings} {a b : Held} {marks : List ℕ} {count : ℕ} {answer : Answer} {number place : ℕ} {first second : Held} {after : List ℕ}
     → k ≡ g → RanTo steps s k a b marks count answer first second after → number ≡ numberOf answer → place ≡ placeOf answer
     → RunTold steps s g a b marks count number place first second after
 run-told {steps} {s} {a = a} {b = b} {marks = marks} {count = count} {number = number} {place = place} {first = first} {second = second} {after = after} e h n p =
@@ -66,10 +67,10 @@ place-told {s} ee eo eq h n p c =
     record { number-is = n ∙ ap refusalNumber k; place-is = p ∙ ap refusalPlace k; cell-is = c ∙ ap cellNumber k }
 
 -- the head's numbers, and where its flags stand
-pub read-told : {r : List ℕ} {a : Lent} {head : Head} {span : Span} {number place : ℕ} {s : Sides} {g : Settings} {t : Site} {parts masses : List ℤ} {fills : List ℕ} {carry : List ℤ}
-    → Read r a head parts masses fills carry → span ≡ spanOf (length r) head → number ≡ numberOf (head .answer) → place ≡ placeOf (head .answer)
+pub read-told : {r : List ℕ} {a : Held} {head : Head} {span : Span} {number place : ℕ} {s : Sides} {g : Settings} {t : Site} {parts masses : List ℤ} {fills : List ℕ} {carry : List ℤ} {index : Index}
+    → Read r a head parts masses fills carry index → span ≡ spanOf (length r) head → number ≡ numberOf (head .answer) → place ≡ placeOf (head .answer)
     → s ≡ head .sides → g ≡ head .settings → t ≡ head .site
-    → ReadTold r a number place s g t (span .from) (span .to) parts masses fills carry
+    → ReadTold r a number place s g t (span .from) (span .to) parts masses fills carry index
 read-told {r} {a} h f n p es eg et =
     let e = f ∙ ap (spanOf (length r)) (h .head-is) in
     record {
@@ -78,13 +79,14 @@ read-told {r} {a} h f n p es eg et =
       sides-are = es ∙ ap (λ (x : Head). x .sides) (h .head-is);
       settings-are = eg ∙ ap (λ (x : Head). x .settings) (h .head-is);
       site-is = et ∙ ap (λ (x : Head). x .site) (h .head-is);
-      from-is = ap (λ (x : Span). x .from) e ∙ span-read r a .1;
-      to-is = ap (λ (x : Span). x .to) e ∙ span-end r a;
-      flags-are = ap (λ (x : Span). take (x .to - x .from) (drop (x .from) r)) e ∙ span-read r a .0;
+      from-is = ap (λ (x : Span). x .from) e ∙ spans r a .begin;
+      to-is = ap (λ (x : Span). x .to) e ∙ spans r a .end;
+      flags-are = ap (λ (x : Span). take (x .to - x .from) (drop (x .from) r)) e ∙ spans r a .bytes;
       parts-are = h .parts-are;
       masses-are = h .masses-are;
       fills-are = h .fills-are;
       carry-is = h .carry-is;
+      index-is = h .index-is;
     }
 
 -- and so is the frame

@@ -10,6 +10,8 @@ use Rattle.lattice.specs.declared.Settings.{Settings}
 use Rattle.grid.specs.declared.Sides.{Sides}
 use Rattle.grid.specs.State.{Lent}
 use Rattle.record.specs.declared.Site.{Site}
+use Rattle.index.specs.Index.{Index}
+use Rattle.calls.specs.Outcome.{Held}
 use Rattle.tunnel.specs.declared.Point.{Point}
 use Rattle.tunnel.specs.Point.{WholePoint}
 use Rattle.tunnel.specs.Depth.{Reading}
@@ -18,27 +20,38 @@ use Rattle.tunnel.specs.Kinds.{readingSum}
 use Rattle.profile.specs.Profile.{Survey}
 use Rattle.profile.specs.Outcome.{testsAnswer}
 use Rattle.profile.proofs.Telling.{by-one}
-use Rattle.host.specs.Promise.{CheckTold, StepTold, RunTold, ReadTold, WriteTold, PlaceTold, PointTold, DepthTold, ProfileTold}
+use Rattle.host.specs.Promise.{CheckTold, LoadTold, CountTold, NextTold, StepTold, RunTold, ReadTold, WriteTold, PlaceTold, PointTold, DepthTold, ProfileTold}
 
 pub check-unique : (s : Sides) (a : Lent) {n m p q : ℕ} → CheckTold s a n p → CheckTold s a m q → (n ≡ m) × (p ≡ q)
 check-unique s a x y = (x .number-is ∙ sym (y .number-is), x .place-is ∙ sym (y .place-is))
 
-pub step-unique : (s : Sides) (g : Settings) (a b : Lent) (marks : List ℕ) {n m p q : ℕ} {u v : Lent} {k l : List ℕ}
+pub load-unique : (s : Sides) (a : Held) {n m p q : ℕ} → LoadTold s a n p → LoadTold s a m q → (n ≡ m) × (p ≡ q)
+load-unique s a x y = (x .number-is ∙ sym (y .number-is), x .place-is ∙ sym (y .place-is))
+
+pub count-unique : (s : Sides) (words : List ℕ) {n m p q i j : ℕ} → CountTold s words n p i → CountTold s words m q j → (n ≡ m) × (p ≡ q) × (i ≡ j)
+count-unique s words x y = (x .number-is ∙ sym (y .number-is), x .place-is ∙ sym (y .place-is), x .cells-are ∙ sym (y .cells-are))
+
+pub next-unique : (s : Sides) (words : List ℕ) (start : ℕ) {n m p q k l i j r t : ℕ} → NextTold s words start n p k i r → NextTold s words start m q l j t
+    → (n ≡ m) × (p ≡ q) × (k ≡ l) × (i ≡ j) × (r ≡ t)
+next-unique s words start x y =
+    (x .number-is ∙ sym (y .number-is), x .place-is ∙ sym (y .place-is), x .kind-is ∙ sym (y .kind-is), x .cell-is ∙ sym (y .cell-is), x .read-is ∙ sym (y .read-is))
+
+pub step-unique : (s : Sides) (g : Settings) (a b : Held) (marks : List ℕ) {n m p q : ℕ} {u v : Held} {k l : List ℕ}
     → StepTold s g a b marks n p u k → StepTold s g a b marks m q v l → (n ≡ m) × (p ≡ q) × (u ≡ v) × (k ≡ l)
 step-unique s g a b marks x y =
     (x .number-is ∙ sym (y .number-is), x .place-is ∙ sym (y .place-is), x .second-is ∙ sym (y .second-is), x .marks-are ∙ sym (y .marks-are))
 
-pub run-unique : (steps : ℕ) (s : Sides) (g : Settings) (a b : Lent) (marks : List ℕ) {i j n m p q : ℕ} {d e u v : Lent} {k l : List ℕ}
+pub run-unique : (steps : ℕ) (s : Sides) (g : Settings) (a b : Held) (marks : List ℕ) {i j n m p q : ℕ} {d e u v : Held} {k l : List ℕ}
     → RunTold steps s g a b marks i n p d u k → RunTold steps s g a b marks j m q e v l
     → (i ≡ j) × (n ≡ m) × (p ≡ q) × (d ≡ e) × (u ≡ v) × (k ≡ l)
 run-unique steps s g a b marks x y =
     (x .count-is ∙ sym (y .count-is), x .number-is ∙ sym (y .number-is), x .place-is ∙ sym (y .place-is), x .first-is ∙ sym (y .first-is), x .second-is ∙ sym (y .second-is), x .marks-are ∙ sym (y .marks-are))
 
-pub read-unique : (r : List ℕ) (a : Lent) {n m p q : ℕ} {s s' : Sides} {g g' : Settings} {t t' : Site} {f f' e e' : ℕ} {b b' c c' : List ℤ} {i i' : List ℕ} {k k' : List ℤ}
-    → ReadTold r a n p s g t f e b c i k → ReadTold r a m q s' g' t' f' e' b' c' i' k'
-    → (n ≡ m) × (p ≡ q) × (s ≡ s') × (g ≡ g') × (t ≡ t') × (f ≡ f') × (e ≡ e') × (b ≡ b') × (c ≡ c') × (i ≡ i') × (k ≡ k')
+pub read-unique : (r : List ℕ) (a : Held) {n m p q : ℕ} {s s' : Sides} {g g' : Settings} {t t' : Site} {f f' e e' : ℕ} {b b' c c' : List ℤ} {i i' : List ℕ} {k k' : List ℤ} {w w' : Index}
+    → ReadTold r a n p s g t f e b c i k w → ReadTold r a m q s' g' t' f' e' b' c' i' k' w'
+    → (n ≡ m) × (p ≡ q) × (s ≡ s') × (g ≡ g') × (t ≡ t') × (f ≡ f') × (e ≡ e') × (b ≡ b') × (c ≡ c') × (i ≡ i') × (k ≡ k') × (w ≡ w')
 read-unique r a x y =
-    (x .number-is ∙ sym (y .number-is), x .place-is ∙ sym (y .place-is), x .sides-are ∙ sym (y .sides-are), x .settings-are ∙ sym (y .settings-are), x .site-is ∙ sym (y .site-is), x .from-is ∙ sym (y .from-is), x .to-is ∙ sym (y .to-is), x .parts-are ∙ sym (y .parts-are), x .masses-are ∙ sym (y .masses-are), x .fills-are ∙ sym (y .fills-are), x .carry-is ∙ sym (y .carry-is))
+    (x .number-is ∙ sym (y .number-is), x .place-is ∙ sym (y .place-is), x .sides-are ∙ sym (y .sides-are), x .settings-are ∙ sym (y .settings-are), x .site-is ∙ sym (y .site-is), x .from-is ∙ sym (y .from-is), x .to-is ∙ sym (y .to-is), x .parts-are ∙ sym (y .parts-are), x .masses-are ∙ sym (y .masses-are), x .fills-are ∙ sym (y .fills-are), x .carry-is ∙ sym (y .carry-is), x .index-is ∙ sym (y .index-is))
 
 pub write-unique : (s : Sides) (g : Settings) (t : Site) (a : Lent) (room : List ℕ) {n m p q i j : ℕ} {k l : List ℕ}
     → WriteTold s g t a room n p i k → WriteTold s g t a room m q j l → (n ≡ m) × (p ≡ q) × (i ≡ j) × (k ≡ l)

@@ -8,10 +8,13 @@ use lib.ListN.{length, take, drop}
 use Rattle.lattice.specs.declared.Settings.{Settings}
 use Rattle.grid.specs.declared.Sides.{Sides}
 use Rattle.grid.specs.State.{Lent}
-use Rattle.grid.specs.Outcome.{numberOf, placeOf, checkAnswer, stepAnswer, stepSecond, stepMarks, runCount, runAnswer, runFirst, runSecond, runMarks}
+use Rattle.grid.specs.Outcome.{numberOf, placeOf, checkAnswer}
 use Rattle.record.specs.declared.Site.{Site}
-use Rattle.record.specs.Reading.{readHead, readSet, flagsFrom, readFlags}
 use Rattle.record.specs.Writing.{written, writtenRoom}
+use Rattle.index.specs.Index.{Index}
+use Rattle.index.specs.Outcome.{loadAnswer, countAnswer, countNumber, countPlace, countCells, nextAnswer, nextNumber, nextPlace, nextKind, nextCell, nextWords}
+use Rattle.calls.specs.Outcome.{Held, stepAnswer, stepSecond, stepMarks, runCount, runAnswer, runFirst, runSecond, runMarks}
+use Rattle.calls.specs.Reading.{readHead, readHeld, flagsFrom, readFlags}
 use Rattle.tunnel.specs.declared.Point.{Point}
 use Rattle.tunnel.specs.Place as placing
 use Rattle.tunnel.specs.Place.{refusalNumber, refusalPlace, cellNumber}
@@ -40,22 +43,41 @@ millimetres x y z = record { x = x; y = y; z = z }
 abbrev pub frameOf : ℕ → ℕ → ℕ → ℤ → ℤ → ℤ → ℤ → Frame
 frameOf nx ny nz edge x y z = record { sides = sidesOf nx ny nz; edge = edge; origin = millimetres x y z }
 
--- ---- the nine calls
+-- ---- the calls
 
 -- the check: number and place, 0 0 if accepted
 pub record CheckTold (s : Sides) (a : Lent) (number place : ℕ) : Type 0 where
   pub number-is : number ≡ numberOf (checkAnswer s a)
   pub place-is : place ≡ placeOf (checkAnswer s a)
 
--- the step: number, place, its second set and the marks
-pub record StepTold (s : Sides) (g : Settings) (a b : Lent) (marks : List ℕ) (number place : ℕ) (second : Lent) (after : List ℕ) : Type 0 where
+-- loading: number and place, 0 0 if accepted
+pub record LoadTold (s : Sides) (a : Held) (number place : ℕ) : Type 0 where
+  pub number-is : number ≡ numberOf (loadAnswer s (a .set) (a .index))
+  pub place-is : place ≡ placeOf (loadAnswer s (a .set) (a .index))
+
+-- how many: number, place and the interface cells, 0 beside a refusal
+pub record CountTold (s : Sides) (words : List ℕ) (number place cells : ℕ) : Type 0 where
+  pub number-is : number ≡ countNumber (countAnswer s words)
+  pub place-is : place ≡ countPlace (countAnswer s words)
+  pub cells-are : cells ≡ countCells (countAnswer s words)
+
+-- next: number, place, kind (1 found, 2 none), the cell, and the words read
+pub record NextTold (s : Sides) (words : List ℕ) (start number place kind cell read : ℕ) : Type 0 where
+  pub number-is : number ≡ nextNumber (nextAnswer s words start)
+  pub place-is : place ≡ nextPlace (nextAnswer s words start)
+  pub kind-is : kind ≡ nextKind (nextAnswer s words start)
+  pub cell-is : cell ≡ nextCell (nextAnswer s words start)
+  pub read-is : read ≡ nextWords (nextAnswer s words start)
+
+-- the step: number, place, its second set with its index, and the marks
+pub record StepTold (s : Sides) (g : Settings) (a b : Held) (marks : List ℕ) (number place : ℕ) (second : Held) (after : List ℕ) : Type 0 where
   pub number-is : number ≡ numberOf (stepAnswer s g a b marks)
   pub place-is : place ≡ placeOf (stepAnswer s g a b marks)
   pub second-is : second ≡ stepSecond s g a b marks
   pub marks-are : after ≡ stepMarks s g a b marks
 
--- the run: its count, number and place of the refusal that stopped it, both sets and the marks
-pub record RunTold (steps : ℕ) (s : Sides) (g : Settings) (a b : Lent) (marks : List ℕ) (count number place : ℕ) (first second : Lent) (after : List ℕ) : Type 0 where
+-- the run: its count, number and place of the refusal that stopped it, both sets with their indexes, and the marks
+pub record RunTold (steps : ℕ) (s : Sides) (g : Settings) (a b : Held) (marks : List ℕ) (count number place : ℕ) (first second : Held) (after : List ℕ) : Type 0 where
   pub count-is : count ≡ runCount steps s g a b marks
   pub number-is : number ≡ numberOf (runAnswer steps s g a b marks)
   pub place-is : place ≡ placeOf (runAnswer steps s g a b marks)
@@ -63,8 +85,8 @@ pub record RunTold (steps : ℕ) (s : Sides) (g : Settings) (a b : Lent) (marks 
   pub second-is : second ≡ runSecond steps s g a b marks
   pub marks-are : after ≡ runMarks steps s g a b marks
 
--- the reader: number, place, sides, settings, edge and origin, where the flag section stands in the caller's bytes, and the four slices
-pub record ReadTold (r : List ℕ) (a : Lent) (number place : ℕ) (s : Sides) (g : Settings) (t : Site) (from to : ℕ) (parts masses : List ℤ) (fills : List ℕ) (carry : List ℤ) : Type 0 where
+-- the reader: number, place, sides, settings, edge and origin, where the flag section stands in the caller's bytes, the four slices, and the index
+pub record ReadTold (r : List ℕ) (a : Held) (number place : ℕ) (s : Sides) (g : Settings) (t : Site) (from to : ℕ) (parts masses : List ℤ) (fills : List ℕ) (carry : List ℤ) (index : Index) : Type 0 where
   pub number-is : number ≡ numberOf (readHead r a .answer)
   pub place-is : place ≡ placeOf (readHead r a .answer)
   pub sides-are : s ≡ readHead r a .sides
@@ -73,10 +95,11 @@ pub record ReadTold (r : List ℕ) (a : Lent) (number place : ℕ) (s : Sides) (
   pub from-is : from ≡ flagsFrom r a
   pub to-is : to ≡ flagsFrom r a + length (readFlags r a)
   pub flags-are : take (to - from) (drop from r) ≡ readFlags r a
-  pub parts-are : parts ≡ readSet r a .parts
-  pub masses-are : masses ≡ readSet r a .masses
-  pub fills-are : fills ≡ readSet r a .fills
-  pub carry-is : carry ≡ readSet r a .carry
+  pub parts-are : parts ≡ readHeld r a .set .parts
+  pub masses-are : masses ≡ readHeld r a .set .masses
+  pub fills-are : fills ≡ readHeld r a .set .fills
+  pub carry-is : carry ≡ readHeld r a .set .carry
+  pub index-is : index ≡ readHeld r a .index
 
 -- the writer: number, place, the record's length, and the room
 pub record WriteTold (s : Sides) (g : Settings) (t : Site) (a : Lent) (room : List ℕ) (number place bytes : ℕ) (after : List ℕ) : Type 0 where

@@ -1,13 +1,15 @@
 // The step.
 use crate::answers::number_of;
 use crate::answers::place_of;
+use calls::stepping;
 use grid::Sides;
 use lattice::Settings;
-use step::stepping;
 ghost use Rattle.grid.specs.State.{lent};
+ghost use Rattle.index.specs.Index.{index};
+ghost use Rattle.calls.specs.Outcome.{held};
 ghost use Rattle.host.specs.Promise.{sidesOf, settingsOf, StepTold};
 
-// One step from the first set to the second.
+// One step from the first set to the second, each with its index.
 #[no_mangle]
 pub extern "C" fn skw_step(
     flags: &[u8],
@@ -15,11 +17,15 @@ pub extern "C" fn skw_step(
     masses: &[i32],
     fills: &[u32],
     carry: &[i64],
+    words: &[u64],
+    count: &[u64],
     flags2: &mut [u8],
     parts2: &mut [i32],
     masses2: &mut [i32],
     fills2: &mut [u32],
     carry2: &mut [i64],
+    words2: &mut [u64],
+    count2: &mut [u64],
     marks: &mut [u8],
     nx: usize,
     ny: usize,
@@ -30,7 +36,7 @@ pub extern "C" fn skw_step(
     gz: i64,
     place: &mut usize,
 ) -> u8
-    ensures { λ r. ⌜ StepTold (sidesOf nx ny nz) (settingsOf p gx gy gz) (lent (now (flags .entry)) (now (parts .entry)) (now (masses .entry)) (now (fills .entry)) (now (carry .entry))) (lent (now (flags2 .entry)) (now (parts2 .entry)) (now (masses2 .entry)) (now (fills2 .entry)) (now (carry2 .entry))) (now (marks .entry)) r (now (place .exit)) (lent (now (flags2 .exit)) (now (parts2 .exit)) (now (masses2 .exit)) (now (fills2 .exit)) (now (carry2 .exit))) (now (marks .exit)) ⌝ }
+    ensures { λ r. ⌜ StepTold (sidesOf nx ny nz) (settingsOf p gx gy gz) (held (lent (now (flags .entry)) (now (parts .entry)) (now (masses .entry)) (now (fills .entry)) (now (carry .entry))) (index (now (words .entry)) (now (count .entry)))) (held (lent (now (flags2 .entry)) (now (parts2 .entry)) (now (masses2 .entry)) (now (fills2 .entry)) (now (carry2 .entry))) (index (now (words2 .entry)) (now (count2 .entry)))) (now (marks .entry)) r (now (place .exit)) (held (lent (now (flags2 .exit)) (now (parts2 .exit)) (now (masses2 .exit)) (now (fills2 .exit)) (now (carry2 .exit))) (index (now (words2 .exit)) (now (count2 .exit)))) (now (marks .exit)) ⌝ }
 {
     let s = Sides { nx, ny, nz };
     let g = Settings { p, gx, gy, gz };
@@ -40,11 +46,15 @@ pub extern "C" fn skw_step(
         masses,
         fills,
         carry,
+        words,
+        count,
         flags2,
         parts2,
         masses2,
         fills2,
         carry2,
+        words2,
+        count2,
         marks,
         s,
         g,

@@ -1,13 +1,15 @@
 // The reader.
 use crate::answers::number_of;
 use crate::answers::place_of;
+use calls::reader;
 use grid::Sides;
 use lattice::Settings;
-use reading::reader;
 use record::Site;
 use record::flags;
 ghost use mathlib.Core.Path.{_≡_};
 ghost use Rattle.record.specs.Promise.{flagless};
+ghost use Rattle.index.specs.Index.{index};
+ghost use Rattle.calls.specs.Outcome.{held};
 ghost use Rattle.host.specs.Promise.{sidesOf, settingsOf, siteOf, ReadTold};
 
 fn put_sides(s: Sides, nx: &mut usize, ny: &mut usize, nz: &mut usize)
@@ -44,7 +46,7 @@ fn put_site(t: Site, edge: &mut i64, ox: &mut i64, oy: &mut i64, oz: &mut i64)
     *oz = z;
 }
 
-// Reads a record into the lent slices. The flag section stands in the caller's own record bytes, from `flags_from` to before `flags_to`.
+// Reads a record into the lent slices and makes the index of its flags. The flag section stands in the caller's own record bytes, from `flags_from` to before `flags_to`.
 #[no_mangle]
 pub extern "C" fn skw_read(
     rec: &[u8],
@@ -52,6 +54,8 @@ pub extern "C" fn skw_read(
     masses: &mut [i32],
     fills: &mut [u32],
     carry: &mut [i64],
+    words: &mut [u64],
+    count: &mut [u64],
     nx: &mut usize,
     ny: &mut usize,
     nz: &mut usize,
@@ -67,9 +71,9 @@ pub extern "C" fn skw_read(
     flags_to: &mut usize,
     place: &mut usize,
 ) -> u8
-    ensures { λ r. ⌜ ReadTold (now (rec .entry)) (flagless (now (parts .entry)) (now (masses .entry)) (now (fills .entry)) (now (carry .entry))) r (now (place .exit)) (sidesOf (now (nx .exit)) (now (ny .exit)) (now (nz .exit))) (settingsOf (now (p .exit)) (now (gx .exit)) (now (gy .exit)) (now (gz .exit))) (siteOf (now (edge .exit)) (now (ox .exit)) (now (oy .exit)) (now (oz .exit))) (now («flags_from» .exit)) (now («flags_to» .exit)) (now (parts .exit)) (now (masses .exit)) (now (fills .exit)) (now (carry .exit)) ⌝ }
+    ensures { λ r. ⌜ ReadTold (now (rec .entry)) (held (flagless (now (parts .entry)) (now (masses .entry)) (now (fills .entry)) (now (carry .entry))) (index (now (words .entry)) (now (count .entry)))) r (now (place .exit)) (sidesOf (now (nx .exit)) (now (ny .exit)) (now (nz .exit))) (settingsOf (now (p .exit)) (now (gx .exit)) (now (gy .exit)) (now (gz .exit))) (siteOf (now (edge .exit)) (now (ox .exit)) (now (oy .exit)) (now (oz .exit))) (now («flags_from» .exit)) (now («flags_to» .exit)) (now (parts .exit)) (now (masses .exit)) (now (fills .exit)) (now (carry .exit)) (index (now (words .exit)) (now (count .exit))) ⌝ }
 {
-    let h = reader::read(rec, parts, masses, fills, carry);
+    let h = reader::read(rec, parts, masses, fills, carry, words, count);
     let s = h.sides;
     let g = h.settings;
     let t = h.site;

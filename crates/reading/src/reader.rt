@@ -18,7 +18,7 @@ ghost use Rattle.record.specs.Promise.{flagless, Read};
 ghost use Rattle.record.specs.Reading.{refusedHead};
 
 // What is returned beside a refusal.
-fn refused(a: Answer) -> Head
+pub fn refused(a: Answer) -> Head
     ensures { λ r. ⌜ r ≡ refusedHead a ⌝ }
 {
     let s = Sides {

@@ -120,7 +120,7 @@ fn evened(
 }
 
 // The run of a set that is ready: no test is made again, since what an accepted step leaves is ready.
-fn going(
+pub fn going(
     steps: usize,
     flags: &mut [u8],
     parts: &mut [i32],

@@ -1,0 +1,4 @@
+pub mod Index
+pub mod Outcome
+pub mod Laid
+pub mod Walked
