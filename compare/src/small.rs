@@ -48,10 +48,10 @@ impl Small {
 fn pair(cells: [Cell; 2]) -> Scene {
     let sides = [4, 3, 3];
     let grid = Grid::new(sides).expect("sides in range");
-    let mut state = State { cells: vec![Cell::blank(WALL); grid.n], carry: -5 };
+    let mut state = State::new(vec![Cell::blank(WALL); grid.n], -5);
     for (x, cell) in cells.into_iter().enumerate() {
         state.cells[grid.cell([x + 1, 1, 1])] = cell;
     }
     let settings = Settings { p: 1600, gravity: [3, 0, -1000], edge: 25 };
-    Scene { sides, settings, origin: [5_200_000_000, -4, 1_000_000], state }
+    Scene { sides, settings, origin: [5_200_000_000, -4, 1_000_000], state, numbers: 1 }
 }

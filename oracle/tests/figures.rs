@@ -29,7 +29,7 @@ fn resting(mass: i128, more: i128) -> Cell {
 /// A row of three cells along x with walls around it.
 fn row(cells: [Cell; 3]) -> (Grid, State) {
     let grid = Grid::new([5, 3, 3]).unwrap();
-    let mut state = State { cells: vec![Cell::blank(WALL); grid.n], carry: 0 };
+    let mut state = State::new(vec![Cell::blank(WALL); grid.n], 0);
     for (x, cell) in cells.into_iter().enumerate() {
         state.cells[grid.cell([x + 1, 1, 1])] = cell;
     }
@@ -191,7 +191,7 @@ fn gridstep_refuses() {
     assert_eq!(gridstep(&[3; 65_536]), "record 11 1\n");
     let walls = |sides: [u32; 3]| {
         let n = sides.iter().product::<u32>() as usize;
-        let state = State { cells: vec![Cell::blank(WALL); n], carry: -5 };
+        let state = State::new(vec![Cell::blank(WALL); n], -5);
         Scene { sides, state, ..case_t() }.record()
     };
     // 861 cells fit, 863 is prime, 864 do not.
@@ -330,7 +330,7 @@ fn a_wall_counts_with_the_cells_own_fill() {
 #[test]
 fn excess_leaves_the_wall_alone() {
     let grid = Grid::new([4, 4, 3]).unwrap();
-    let mut old = State { cells: vec![Cell::blank(WALL); grid.n], carry: 0 };
+    let mut old = State::new(vec![Cell::blank(WALL); grid.n], 0);
     let pool = [(21, 591_424), (22, 147_456), (25, 442_368), (26, 294_912)];
     for (c, mass) in pool {
         old.cells[c] = resting(mass, 0);

@@ -9,6 +9,10 @@ use Rattle.grid.specs.State.{open-state}
 use Rattle.grid.specs.Step.{open-step}
 use Rattle.grid.specs.Good.{open-good}
 use Rattle.grid.specs.Outcome.{open-outcome}
+use Rattle.grid.specs.Demands as grid
+use Rattle.pumps.specs.Three.{open-three}
+use Rattle.pumps.specs.Acts.{open-acts}
+use Rattle.pumps.specs.Demands.{open-demands}
 use Rattle.tunnel.specs.Place.{open-place}
 use Rattle.tunnel.specs.Depth.{open-depth}
 use Rattle.profile.specs.Profile.{open-profile}
@@ -16,5 +20,5 @@ use Rattle.profile.specs.Outcome.{open-answer}
 use Rattle.figures.specs.Table.{figures, hold}
 
 pub stars : T (hold figures)
-unfolding open-fold open-lattice open-cell open-body open-grid open-state open-step open-good open-outcome open-place open-depth open-profile open-answer
+unfolding open-fold open-lattice open-cell open-body open-grid open-state open-step open-good open-outcome grid.open-demands open-three open-acts open-demands open-place open-depth open-profile open-answer
 stars = tt

@@ -22,6 +22,20 @@ use Rattle.pumps.specs.declared.Acted.the-variants as acted
 use Rattle.pumps.specs.declared.effect.Change.{Change}
 use Rattle.pumps.specs.Three.{numberIn, threeAnswer}
 
+-- ---- the paper's number and place of each case, 0 0 if accepted, and what was moved, 0 beside a refusal
+
+abbrev pub actedNumber : Acted → ℕ
+actedNumber (acted.Moved t) = 0
+actedNumber (acted.Refused n p) = n
+
+abbrev pub actedPlace : Acted → ℕ
+actedPlace (acted.Moved t) = 0
+actedPlace (acted.Refused n p) = p
+
+abbrev pub actedMoved : Acted → ℤ
+actedMoved (acted.Moved t) = t
+actedMoved (acted.Refused n p) = pos 0
+
 -- ---- in numbers; `pour` tells the two acts apart
 
 -- an amount of 1..589,824
