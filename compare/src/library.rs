@@ -14,7 +14,7 @@ use crate::small::{Small, SMALL};
 use crate::source::Source;
 use cases::Case;
 
-/// Cases by seed; each is handed to all eight functions.
+/// Cases by seed; each is handed to all functions.
 const SEEDS: u64 = 50_000;
 
 /// What a call answers: number and place of the refusal, 0 0 if there is none, and its other values as bits.
@@ -38,6 +38,9 @@ type Call = fn(&mut Case) -> Reply;
 type Pair = (&'static str, Call, Call);
 
 const CHECK: Pair = ("check", calls::check, reference::check);
+const LOAD: Pair = ("load", calls::load, reference::load);
+const COUNT: Pair = ("count", calls::surface_count, reference::surface_count);
+const NEXT: Pair = ("next", calls::surface_next, reference::surface_next);
 const STEP: Pair = ("step", calls::step, reference::step);
 const RUN: Pair = ("run", calls::run, reference::run);
 const READ: Pair = ("read", calls::read, reference::read);
@@ -46,13 +49,16 @@ const PLACE: Pair = ("place", calls::place, reference::place);
 const POINT: Pair = ("point", calls::point, reference::point);
 const DEPTH: Pair = ("depth", calls::depth, reference::depth);
 
-const ALL: [Pair; 8] = [CHECK, STEP, RUN, READ, WRITE, PLACE, POINT, DEPTH];
+const ALL: [Pair; 11] = [CHECK, LOAD, COUNT, NEXT, STEP, RUN, READ, WRITE, PLACE, POINT, DEPTH];
 
-/// All that the functions can answer; accepted depths by their kind.
+/// All that the functions can answer; accepted depths and cells by their kind.
 const ANSWERS: &Wanted = &[
     ("check", &["0", "1", "2", "4", "5", "6"]),
-    ("step", &["0", "1", "2", "3", "4", "5", "6", "7", "8"]),
-    ("run", &["0", "1", "2", "3", "4", "5", "6", "7", "8", "9"]),
+    ("load", &["0", "1", "2", "4", "5", "6", "14"]),
+    ("count", &["0", "1", "2"]),
+    ("next", &["found", "none", "1", "2", "13"]),
+    ("step", &["0", "1", "2", "3", "4", "5", "6", "7", "8", "14"]),
+    ("run", &["0", "1", "2", "3", "4", "5", "6", "7", "8", "9", "14"]),
     ("read", &["0", "1", "2", "3", "4", "5", "6", "10", "11"]),
     ("write", &["0", "1", "2", "3", "4", "5", "6", "12"]),
     ("place", &["0", "1", "3", "13"]),
@@ -62,6 +68,8 @@ const ANSWERS: &Wanted = &[
 
 fn met(call: &'static str, reply: &Reply) -> Met {
     match (call, reply.number, reply.values.first()) {
+        ("next", 0, Some(1)) => Met::new(call, "found"),
+        ("next", 0, Some(2)) => Met::new(call, "none"),
         ("depth", 0, Some(1)) => Met::new(call, "solid"),
         ("depth", 0, Some(2)) => Met::new(call, "dry"),
         ("depth", 0, Some(3)) => Met::new(call, "deep"),
@@ -82,20 +90,20 @@ fn called((call, library, reference): Pair, case: &Case, name: &str) -> (Outcome
     (Outcome { met: met(call, &wanted), differs }, wanted, wanted_case)
 }
 
-/// A record through the reader and, where it is accepted, the set that was read through the step and the writer.
+/// A record through the reader and, where it is accepted, the set that was read through loading, the step and the writer.
 fn followed(source: Source, small: Small) -> Vec<Outcome> {
     let case = Case::of_record(source.bytes(), small.scene().state.cells.len());
     let (read, reply, after) = called(READ, &case, &source.to_string());
     let mut outcomes = vec![read];
     if let Some(case) = after.read(&reply) {
-        outcomes.extend([STEP, WRITE].map(|pair| called(pair, &case, &source.to_string()).0));
+        outcomes.extend([LOAD, STEP, WRITE].map(|pair| called(pair, &case, &source.to_string()).0));
     }
     outcomes
 }
 
 pub fn compare(wish: &Wish, total: &mut Total) {
     let title =
-        format!("the library's eight functions on raw slices, {SEEDS} cases, seeds from {}", wish.from);
+        format!("the library's eleven functions on raw slices, {SEEDS} cases, seeds from {}", wish.from);
     total.compare(&title, wish, SEEDS as usize, ANSWERS, |number| {
         let seed = wish.from + number as u64;
         let case = Case::of(seed);
@@ -112,10 +120,14 @@ pub fn compare(wish: &Wish, total: &mut Total) {
             sources.extend(others.map(|other| (Source::Changed(small, at, other), small)));
         }
     }
-    let title = "the library's reader, then step and writer, on every prefix of three small records and on each with every \
+    let title = "the library's reader, then loading, step and writer, on every prefix of three small records and on each with every \
                  single byte changed to all 255 others";
-    let wanted: &Wanted =
-        &[("read", &["0", "1", "2", "3", "4", "6", "10", "11"]), ("step", &["0", "7"]), ("write", &["0"])];
+    let wanted: &Wanted = &[
+        ("read", &["0", "1", "2", "3", "4", "6", "10", "11"]),
+        ("load", &["0"]),
+        ("step", &["0", "7"]),
+        ("write", &["0"]),
+    ];
     total.compare(title, wish, sources.len(), wanted, |number| {
         let (source, small) = sources[number];
         followed(source, small)

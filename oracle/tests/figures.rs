@@ -6,7 +6,7 @@ use std::process::{Command, Stdio};
 use oracle::grid::{Grid, Refusal};
 use oracle::lattice::{density, equilibrium, momentum, opposite, q, weight, DIRECTIONS, ONE};
 use oracle::readings::{CellPoint, Depth};
-use oracle::record::read_within;
+use oracle::record::{read_within, written_back};
 use oracle::scenes::{case_t, parts_at, Scene};
 use oracle::settings::test_flow;
 use oracle::state::{Cell, Rule, State, EMPTY, FLUID, INTERFACE, WALL};
@@ -161,12 +161,12 @@ fn case_t_record_and_text() {
     let bytes = scene.record();
     assert_eq!(bytes.len(), 199);
     assert_eq!(bytes.len(), 92 + 27 + 4 + 76);
-    let mut room = [7; 201];
+    let mut room = [7; 217];
     let store = Store::of(&scene.state);
     let length = write(scene.sides, &scene.settings, scene.origin, store.lend(), &mut room);
-    assert_eq!(length, Ok(199));
-    assert_eq!(room[..199], bytes);
-    assert_eq!(room[199..], [7, 7]);
+    assert_eq!(length, Ok(215));
+    assert_eq!(room[..215], written_back(&bytes));
+    assert_eq!(room[215..], [7, 7]);
     assert_eq!(gridstep(&bytes), CASE_T_TEXT);
 }
 

@@ -45,11 +45,13 @@ struct set {
     int32_t masses[ROOM];
     uint32_t fills[ROOM];
     int64_t carry[2];
+    uint64_t words[2];
+    uint64_t count[2];
 };
 
-/* Lengths under which a set is lent, and marks and room besides. */
+/* Lengths under which a set and its index are lent, and marks and room besides. */
 struct lengths {
-    size_t flags, parts, masses, fills, carry, marks;
+    size_t flags, parts, masses, fills, carry, words, count, marks;
 };
 
 struct sides {
@@ -65,6 +67,8 @@ struct site {
 };
 
 static const struct sides THREE = {3, 3, 3};
+/* No sides of a grid. */
+static const struct sides FLAT = {3, 3, 2};
 static const struct settings FALLING = {1024, 0, 0, -1024};
 static const struct site CORNER = {50, 0, 0, 0};
 
@@ -73,21 +77,23 @@ static struct lengths lengths_of(size_t cells)
     struct lengths l;
     l.flags = l.masses = l.fills = l.marks = cells;
     l.parts = SKW_PARTS * cells;
-    l.carry = 1;
+    l.carry = l.count = 1;
+    l.words = SKW_WORDS(cells);
     return l;
 }
 
-/* The lengths of case T with one of them wrong, in twelve ways. */
+/* The lengths of case T with one of them wrong, in sixteen ways. */
 static struct lengths wrong_lengths(int way)
 {
     struct lengths l = lengths_of(CELLS);
-    size_t *const each[6] = {&l.flags, &l.parts, &l.masses, &l.fills, &l.carry, &l.marks};
+    size_t *const each[8] = {&l.flags, &l.parts, &l.masses, &l.fills, &l.carry, &l.words, &l.count, &l.marks};
     size_t *const one = each[way / 2];
     *one = way % 2 ? *one + 1 : *one - 1;
     return l;
 }
-#define WRONG_LENGTHS 12
-/* Those of them that are not about the marks. */
+#define WRONG_LENGTHS 16
+/* Those of them that are about the set or its index, and about the set alone. */
+#define WRONG_HELD_LENGTHS 14
 #define WRONG_SET_LENGTHS 10
 
 /* A value that no call writes, to see what it leaves alone. */
@@ -104,13 +110,43 @@ static long check(const struct set *a, struct lengths l, struct sides s)
     return REFUSED(number, place);
 }
 
+static long load(const struct set *a, struct lengths l, struct sides s)
+{
+    size_t place = unset();
+    const uint8_t number = skw_load(a->flags, l.flags, a->parts, l.parts, a->masses, l.masses, a->fills, l.fills, a->carry, l.carry, a->words,
+                                    l.words, a->count, l.count, s.nx, s.ny, s.nz, &place);
+    return REFUSED(number, place);
+}
+
+static long surface_count(const uint64_t *words, size_t words_len, struct sides s, size_t *cells)
+{
+    size_t place = unset();
+    const uint8_t number = skw_surface_count(words, words_len, s.nx, s.ny, s.nz, cells, &place);
+    return REFUSED(number, place);
+}
+
+/* What skw_surface_next answers. */
+struct next {
+    uint8_t kind;
+    size_t cell, read;
+};
+
+static long surface_next(const uint64_t *words, size_t words_len, struct sides s, size_t start, struct next *n)
+{
+    size_t place = unset();
+    memset(n, 255, sizeof *n);
+    const uint8_t number = skw_surface_next(words, words_len, s.nx, s.ny, s.nz, start, &n->kind, &n->cell, &n->read, &place);
+    return REFUSED(number, place);
+}
+
 static long step(const struct set *a, struct lengths la, struct set *b, struct lengths lb, uint8_t *marks, struct sides s,
                  struct settings g)
 {
     size_t place = unset();
     const uint8_t number = skw_step(a->flags, la.flags, a->parts, la.parts, a->masses, la.masses, a->fills, la.fills, a->carry, la.carry,
+                                    a->words, la.words, a->count, la.count,
                                     b->flags, lb.flags, b->parts, lb.parts, b->masses, lb.masses, b->fills, lb.fills, b->carry, lb.carry,
-                                    marks, lb.marks, s.nx, s.ny, s.nz, g.p, g.gx, g.gy, g.gz, &place);
+                                    b->words, lb.words, b->count, lb.count, marks, lb.marks, s.nx, s.ny, s.nz, g.p, g.gx, g.gy, g.gz, &place);
     return REFUSED(number, place);
 }
 
@@ -119,9 +155,9 @@ static long run(size_t steps, struct set *a, struct lengths la, struct set *b, s
 {
     uint8_t number = 255;
     size_t place = unset();
-    *count = skw_run(steps, a->flags, la.flags, a->parts, la.parts, a->masses, la.masses, a->fills, la.fills, a->carry, la.carry, b->flags,
-                     lb.flags, b->parts, lb.parts, b->masses, lb.masses, b->fills, lb.fills, b->carry, lb.carry, marks, lb.marks, s.nx,
-                     s.ny, s.nz, g.p, g.gx, g.gy, g.gz, &number, &place);
+    *count = skw_run(steps, a->flags, la.flags, a->parts, la.parts, a->masses, la.masses, a->fills, la.fills, a->carry, la.carry,
+                     a->words, la.words, a->count, la.count, b->flags, lb.flags, b->parts, lb.parts, b->masses, lb.masses, b->fills, lb.fills,
+                     b->carry, lb.carry, b->words, lb.words, b->count, lb.count, marks, lb.marks, s.nx, s.ny, s.nz, g.p, g.gx, g.gy, g.gz, &number, &place);
     return REFUSED(number, place);
 }
 
@@ -137,8 +173,8 @@ static long read_record(const uint8_t *rec, size_t rec_len, struct set *a, struc
 {
     size_t place = unset();
     memset(h, 255, sizeof *h);
-    const uint8_t number = skw_read(rec, rec_len, a->parts, l.parts, a->masses, l.masses, a->fills, l.fills, a->carry, l.carry, &h->s.nx,
-                                    &h->s.ny, &h->s.nz, &h->g.p, &h->g.gx, &h->g.gy, &h->g.gz, &h->t.edge, &h->t.ox, &h->t.oy, &h->t.oz,
+    const uint8_t number = skw_read(rec, rec_len, a->parts, l.parts, a->masses, l.masses, a->fills, l.fills, a->carry, l.carry, a->words,
+                                    l.words, a->count, l.count, &h->s.nx, &h->s.ny, &h->s.nz, &h->g.p, &h->g.gx, &h->g.gy, &h->g.gz, &h->t.edge, &h->t.ox, &h->t.oy, &h->t.oz,
                                     &h->flags_from, &h->flags_to, &place);
     return REFUSED(number, place);
 }
@@ -190,12 +226,13 @@ static int same(const struct set *a, const struct set *b)
     return memcmp(a, b, sizeof *a) == 0;
 }
 
-/* Equal in the first so many cells and the carry. */
+/* Equal in the first so many cells, at most 64, the carry and the index. */
 static int same_state(const struct set *a, const struct set *b, size_t cells)
 {
     return memcmp(a->flags, b->flags, cells) == 0 && memcmp(a->parts, b->parts, SKW_PARTS * cells * sizeof a->parts[0]) == 0 &&
            memcmp(a->masses, b->masses, cells * sizeof a->masses[0]) == 0 &&
-           memcmp(a->fills, b->fills, cells * sizeof a->fills[0]) == 0 && a->carry[0] == b->carry[0];
+           memcmp(a->fills, b->fills, cells * sizeof a->fills[0]) == 0 && a->carry[0] == b->carry[0] && a->words[0] == b->words[0] &&
+           a->count[0] == b->count[0];
 }
 
 static int all(const uint8_t *bytes, size_t count, uint8_t value)
@@ -217,6 +254,17 @@ static void rest(struct set *a, size_t cell)
     }
 }
 
+/* The index of so many cells, at most 64. */
+static void mark(struct set *a, size_t cells)
+{
+    size_t c;
+    a->words[0] = a->count[0] = 0;
+    for (c = 0; c < cells; c += 1) {
+        a->words[0] |= (uint64_t)(a->flags[c] == SKW_INTERFACE) << c;
+        a->count[0] += a->flags[c] == SKW_INTERFACE;
+    }
+}
+
 /* Case T, made by hand. */
 static void case_t(struct set *a)
 {
@@ -226,6 +274,7 @@ static void case_t(struct set *a)
     rest(a, MIDDLE);
     a->masses[MIDDLE] = SKW_ONE / 2;
     a->fills[MIDDLE] = SKW_FULL / 2;
+    mark(a, CELLS);
 }
 
 /* A row of three cells between walls, in a box of 5, 3, 3: fluid, interface without water, empty. */
@@ -241,6 +290,7 @@ static void row(struct set *a)
     rest(a, ROW_FLUID), rest(a, ROW_FLUID + 1);
     a->masses[ROW_FLUID] = SKW_ONE;
     a->fills[ROW_FLUID] = SKW_FULL;
+    mark(a, ROW);
 }
 
 /* The same with its interface and its empty cell changed over, so that the fluid lies open. */
@@ -330,6 +380,70 @@ static void test_check(void)
     EXPECT(check(&a, lengths_of(ROW), FIVE) == REFUSED(SKW_BAD_LAYER, ROW_FLUID));
 }
 
+static void test_load(void)
+{
+    const struct lengths l = lengths_of(CELLS);
+    struct set a;
+    struct sides s = THREE;
+    int way;
+    case_t(&a);
+    EXPECT(load(&a, l, THREE) == ACCEPTED);
+    s.nx = 2;
+    EXPECT(load(&a, l, s) == REFUSED(SKW_BAD_SIDES, 0));
+    for (way = 0; way < WRONG_HELD_LENGTHS; way += 1) {
+        EXPECT(load(&a, wrong_lengths(way), THREE) == REFUSED(SKW_BAD_LENGTH, 0));
+    }
+    a.words[0] ^= 1;
+    EXPECT(load(&a, l, THREE) == REFUSED(SKW_BAD_INDEX, 0));
+    a.masses[5] = 1;
+    EXPECT(load(&a, l, THREE) == REFUSED(SKW_BAD_STATE, 5));
+    case_t(&a), a.words[0] |= (uint64_t)1 << CELLS;
+    EXPECT(load(&a, l, THREE) == REFUSED(SKW_BAD_INDEX, 0));
+    case_t(&a), a.count[0] = 0;
+    EXPECT(load(&a, l, THREE) == REFUSED(SKW_BAD_INDEX, 0));
+    case_t(&a), a.flags[26] = 4;
+    EXPECT(load(&a, l, THREE) == REFUSED(SKW_BAD_FLAG, 26));
+    row(&a);
+    EXPECT(load(&a, lengths_of(ROW), FIVE) == ACCEPTED);
+    open_row(&a);
+    EXPECT(load(&a, lengths_of(ROW), FIVE) == REFUSED(SKW_BAD_LAYER, ROW_FLUID));
+}
+
+static void test_surface(void)
+{
+    /* 5, 5, 5: cells 31 and 93 are interface; then with bit 61 of word 1, which would be cell 125. */
+    static const struct sides CUBE = {5, 5, 5};
+    uint64_t words[3] = {(uint64_t)1 << 31, (uint64_t)1 << 29, 0};
+    static const size_t asked[6][4] = {{0, SKW_SURFACE_FOUND, 31, 1}, {31, SKW_SURFACE_FOUND, 31, 1}, {32, SKW_SURFACE_FOUND, 93, 2},
+                                       {64, SKW_SURFACE_FOUND, 93, 1}, {94, SKW_SURFACE_NONE, 0, 1}, {125, SKW_SURFACE_NONE, 0, 0}};
+    struct next n;
+    size_t cells = unset(), start = 0, found = 0, read = 0;
+    int way;
+    EXPECT(SKW_WORDS(125) == 2 && SKW_WORDS(64) == 1 && SKW_WORDS(65) == 2 && SKW_WORDS(SKW_CELLS_MOST) == 4096);
+    EXPECT(surface_count(words, 2, CUBE, &cells) == ACCEPTED && cells == 2);
+    for (way = 0; way < 6; way += 1) {
+        EXPECT(surface_next(words, 2, CUBE, asked[way][0], &n) == ACCEPTED);
+        EXPECT(n.kind == asked[way][1] && n.cell == asked[way][2] && n.read == asked[way][3]);
+    }
+    EXPECT(surface_next(words, 2, CUBE, 126, &n) == REFUSED(SKW_OUTSIDE, 0));
+    EXPECT(n.kind == SKW_SURFACE_REFUSED && n.cell == 0 && n.read == 0);
+    EXPECT(surface_next(words, 2, CUBE, (size_t)-1, &n) == REFUSED(SKW_OUTSIDE, 0));
+
+    /* A sweep: two cells, and no more words read than two and one for each. */
+    while (surface_next(words, 2, CUBE, start, &n) == ACCEPTED && n.kind == SKW_SURFACE_FOUND) {
+        start = n.cell + 1, found += 1, read += n.read;
+    }
+    EXPECT(n.kind == SKW_SURFACE_NONE && found == 2 && read + n.read == 4);
+
+    words[1] |= (uint64_t)1 << 61;
+    EXPECT(surface_count(words, 2, CUBE, &cells) == ACCEPTED && cells == 2);
+    EXPECT(surface_next(words, 2, CUBE, 94, &n) == ACCEPTED && n.kind == SKW_SURFACE_NONE && n.read == 1);
+    EXPECT(surface_count(words, 1, CUBE, &cells) == REFUSED(SKW_BAD_LENGTH, 0) && cells == 0);
+    EXPECT(surface_next(words, 3, CUBE, 999, &n) == REFUSED(SKW_BAD_LENGTH, 0) && n.kind == SKW_SURFACE_REFUSED);
+    EXPECT(surface_count(words, 0, FLAT, &cells) == REFUSED(SKW_BAD_SIDES, 0) && cells == 0);
+    EXPECT(surface_next(words, 0, FLAT, 0, &n) == REFUSED(SKW_BAD_SIDES, 0) && n.kind == SKW_SURFACE_REFUSED);
+}
+
 static void test_step(const char *wanted)
 {
     const struct lengths l = lengths_of(CELLS);
@@ -367,7 +481,7 @@ static void test_step(const char *wanted)
     for (way = 0; way < WRONG_LENGTHS; way += 1) {
         EXPECT(step(&a, l, &b, wrong_lengths(way), marks, THREE, FALLING) == REFUSED(SKW_BAD_LENGTH, 0));
     }
-    for (way = 0; way < WRONG_SET_LENGTHS; way += 1) {
+    for (way = 0; way < WRONG_HELD_LENGTHS; way += 1) {
         EXPECT(step(&a, wrong_lengths(way), &b, l, marks, THREE, FALLING) == REFUSED(SKW_BAD_LENGTH, 0));
     }
     g = FALLING, g.p = 0;
@@ -382,8 +496,10 @@ static void test_step(const char *wanted)
     EXPECT(step(&a, l, &b, l, marks, THREE, FALLING) == REFUSED(SKW_BAD_FLAG, 0));
     open_row(&a);
     EXPECT(step(&a, lengths_of(ROW), &b, lengths_of(ROW), marks, FIVE, FALLING) == REFUSED(SKW_BAD_LAYER, ROW_FLUID));
-    case_t(&a), a.carry[0] = INT64_MAX;
+    case_t(&a), a.carry[0] = INT64_MAX, a.count[0] = 2;
     EXPECT(step(&a, l, &b, l, marks, THREE, FALLING) == REFUSED(SKW_BAD_STATE, CELLS));
+    a.carry[0] = 0;
+    EXPECT(step(&a, l, &b, l, marks, THREE, FALLING) == REFUSED(SKW_BAD_INDEX, 0));
     case_t(&a);
     EXPECT(same(&b, &dirty) && all(marks, ROOM, 7));
     g = FALLING, g.gx = 34, g.gz = -1048;
@@ -419,7 +535,7 @@ static void test_run(void)
     for (way = 0; way < WRONG_LENGTHS; way += 1) {
         EXPECT(run(1, &a, l, &b, wrong_lengths(way), marks, THREE, FALLING, &count) == REFUSED(SKW_BAD_LENGTH, 0) && count == 0);
     }
-    for (way = 0; way < WRONG_SET_LENGTHS; way += 1) {
+    for (way = 0; way < WRONG_HELD_LENGTHS; way += 1) {
         EXPECT(run(1, &a, wrong_lengths(way), &b, l, marks, THREE, FALLING, &count) == REFUSED(SKW_BAD_LENGTH, 0) && count == 0);
     }
     g.p = -1;
@@ -433,6 +549,9 @@ static void test_run(void)
     EXPECT(same(&a, &kept) && count == 0);
     case_t(&a), a.fills[0] = 1, kept = a;
     EXPECT(run(3, &a, l, &b, l, marks, THREE, FALLING, &count) == REFUSED(SKW_BAD_STATE, 0) && count == 0);
+    EXPECT(same(&a, &kept) && same(&b, &dirty) && all(marks, ROOM, 7));
+    case_t(&a), a.words[0] |= (uint64_t)1 << CELLS, kept = a;
+    EXPECT(run(3, &a, l, &b, l, marks, THREE, FALLING, &count) == REFUSED(SKW_BAD_INDEX, 0) && count == 0);
     EXPECT(same(&a, &kept) && same(&b, &dirty) && all(marks, ROOM, 7));
     case_t(&a), case_t(&kept);
 
@@ -507,7 +626,7 @@ static void test_read(const uint8_t *record)
         memcpy(bytes, record, RECORD), bytes[counts[way]] ^= 128;
         EXPECT(read_record(bytes, RECORD, &a, l, &h) == REFUSED(SKW_BAD_COUNT, way + 1) && refused_head(&h));
     }
-    for (way = 0; way < WRONG_SET_LENGTHS; way += 1) {
+    for (way = 0; way < WRONG_HELD_LENGTHS; way += 1) {
         /* The reader is lent no flags. */
         EXPECT(read_record(record, RECORD, &a, wrong_lengths(way), &h) == (way < 2 ? ACCEPTED : REFUSED(SKW_BAD_LENGTH, 0)));
         EXPECT(way < 2 || refused_head(&h));
@@ -815,6 +934,8 @@ int main(int count, char **words)
     text[length < sizeof text ? length : 0] = 0;
 
     test_check();
+    test_load();
+    test_surface();
     test_step(text);
     test_run();
     test_read(record);

@@ -7,8 +7,8 @@ use std::mem::swap;
 use crate::lent;
 use crate::state::Buffers;
 use crate::{
-    CellPoint, Counts, Depth, Index, IndexMut, Line, Point, Profile, Refusal, Settings, Sides, Site, State, StateMut,
-    Station, Stopped, Surface, Water, WALL,
+    CellPoint, Counts, Depth, Index, IndexMut, Line, Point, Profile, Refusal, Settings, Sides, Site, State,
+    StateMut, Station, Stopped, Surface, Water, WALL,
 };
 
 /// A grid of cells with its water.
@@ -116,16 +116,26 @@ impl Grid {
         }
     }
 
-    /// The interface cells from this one on, in rising order, by the words of the index; none from the number of cells on.
-    pub fn surface(&self, start: usize) -> Surface<'_> {
-        let words = if self.touched {
-            let mut buffers = self.first.clone();
-            buffers.make_index();
-            Cow::Owned(buffers.words)
-        } else {
-            Cow::Borrowed(&self.first.words[..])
-        };
-        Surface::new(self.sides, words, start)
+    /// The words of the index, made anew beside the grid where flags were changed by hand.
+    fn words(&self) -> Cow<'_, [u64]> {
+        if !self.touched {
+            return Cow::Borrowed(&self.first.words);
+        }
+        let mut words = vec![0; self.first.words.len()];
+        IndexMut { words: &mut words, count: &mut [0] }.make(&self.first.flags);
+        Cow::Owned(words)
+    }
+
+    /// How many interface cells there are, by the words of the index.
+    pub fn surface_count(&self) -> usize {
+        // Sides and words are the grid's own: there is no refusal.
+        lent::surface_count(self.sides, &self.words()).unwrap_or(0)
+    }
+
+    /// The interface cells from this one on, in rising order, by the words of the index; or refusal 13 for a start above the number of
+    /// cells.
+    pub fn surface(&self, start: usize) -> Result<Surface<'_>, Refusal> {
+        Surface::new(self.sides, self.words(), start)
     }
 
     /// Whether the state is good; else refusal 4, 5 or 6.

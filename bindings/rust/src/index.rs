@@ -4,7 +4,7 @@ use std::borrow::Cow;
 use std::iter::FusedIterator;
 
 use crate::lent;
-use crate::{Sides, State, StateMut, INTERFACE};
+use crate::{Refusal, Sides, State, StateMut, INTERFACE};
 
 /// Cells that one word of an index has a bit for.
 const BITS: usize = 64;
@@ -70,17 +70,19 @@ impl IndexMut<'_> {
 pub struct Surface<'a> {
     sides: Sides,
     words: Cow<'a, [u64]>,
-    start: usize,
+    /// What the question answers next; none where the last answer was that there is no cell.
+    ahead: Option<Next>,
     read: usize,
-    over: bool,
 }
 
 impl<'a> Surface<'a> {
-    pub(crate) fn new(sides: Sides, words: Cow<'a, [u64]>, start: usize) -> Surface<'a> {
-        Surface { sides, words, start, read: 0, over: false }
+    /// From this cell on, or refusal 13 for a start above the number of cells.
+    pub(crate) fn new(sides: Sides, words: Cow<'a, [u64]>, start: usize) -> Result<Surface<'a>, Refusal> {
+        let ahead = Some(lent::surface_next(sides, &words, start)?);
+        Ok(Surface { sides, words, ahead, read: 0 })
     }
 
-    /// How many words have been read so far.
+    /// How many words the answers so far have read.
     pub fn words_read(&self) -> usize {
         self.read
     }
@@ -90,17 +92,11 @@ impl Iterator for Surface<'_> {
     type Item = usize;
 
     fn next(&mut self) -> Option<usize> {
-        if self.over {
-            return None;
-        }
-        // Sides and words are a grid's own: what is refused is a start above its number of cells, and there is none then.
-        let next = lent::surface_next(self.sides, &self.words, self.start).ok()?;
-        self.read += next.words;
-        match next.cell {
-            Some(cell) => self.start = cell + 1,
-            None => self.over = true,
-        }
-        next.cell
+        let Next { cell, words } = self.ahead.take()?;
+        self.read += words;
+        // A cell found lies below the number of cells, so that the one after it is no start above it.
+        self.ahead = cell.and_then(|cell| lent::surface_next(self.sides, &self.words, cell + 1).ok());
+        cell
     }
 }
 

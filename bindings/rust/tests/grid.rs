@@ -1,8 +1,8 @@
 // A grid of one's own: every call on good and on bad input, held to document 01's figures.
 
 use skwarzyna::{
-    CellPoint, Counts, Depth, Grid, Point, Refusal, Settings, Sides, Site, Stopped, Water, EMPTY, FLUID,
-    FULL, INTERFACE, ONE, PARTS, WALL,
+    words_of, CellPoint, Counts, Depth, Grid, Point, Refusal, Settings, Sides, Site, Stopped, Water, EMPTY,
+    FLUID, FULL, INTERFACE, ONE, PARTS, WALL,
 };
 
 /// Case T of document 01: its record, and what the record holds.
@@ -280,4 +280,58 @@ fn points_and_depths_are_read() {
     assert_eq!(grid.depth(1, 2), Err(refusal(6, above)));
     grid.state_mut().flags[above] = 4;
     assert_eq!(grid.depth(1, 2), Err(refusal(4, above)));
+}
+
+/// The interface cells of a grid, by a walk of its flags.
+fn walked(grid: &Grid) -> Vec<usize> {
+    let flags = grid.state().flags;
+    (0..flags.len()).filter(|&cell| flags[cell] == INTERFACE).collect()
+}
+
+/// That the index answers as a walk does, from every start, and within the proved cost.
+fn expect_surface(grid: &Grid) {
+    let (cells, words) = (walked(grid), words_of(grid.state().flags.len()));
+    assert_eq!(grid.surface_count(), cells.len());
+    for start in (0..=grid.state().flags.len()).step_by(7).chain([grid.state().flags.len()]) {
+        let mut surface = grid.surface(start).unwrap();
+        let found: Vec<usize> = surface.by_ref().collect();
+        assert_eq!(found, cells.iter().copied().filter(|&cell| cell >= start).collect::<Vec<_>>());
+        assert!(surface.words_read() <= words + found.len());
+        assert_eq!(surface.next(), None);
+    }
+    assert_eq!(grid.surface(grid.state().flags.len() + 1).unwrap_err(), refusal(13, 0));
+}
+
+#[test]
+fn a_grid_keeps_its_index() {
+    let mut grid = case_t();
+    expect_surface(&grid);
+    assert_eq!(grid.index().words, [1 << MIDDLE]);
+    assert_eq!(grid.index().count, [1]);
+
+    let sides = Sides::new(12, 9, 8);
+    let mut grid = Grid::new(sides).unwrap();
+    for (x, y, z) in [(1, 1, 1), (2, 1, 1), (1, 2, 1), (1, 1, 2), (6, 4, 3)] {
+        grid.set_fluid(sides.cell(x, y, z).unwrap(), ONE).unwrap();
+        expect_surface(&grid);
+    }
+    for steps in [1, 10, 100] {
+        grid.step(FALLING).unwrap();
+        expect_surface(&grid);
+        grid.run(steps, FALLING).unwrap();
+        expect_surface(&grid);
+    }
+    let again = Grid::read(&grid.write(FALLING, CORNER).unwrap()).unwrap().grid;
+    expect_surface(&again);
+    expect_surface(&Grid::of(sides, grid.state()).unwrap());
+
+    // Flags changed by hand, and stepped: the index follows.
+    let cell = walked(&grid)[0];
+    let state = grid.state_mut();
+    state.flags[cell] = WALL;
+    state.parts[PARTS * cell..PARTS * (cell + 1)].fill(0);
+    (state.masses[cell], state.fills[cell]) = (0, 0);
+    expect_surface(&grid);
+    grid.step(FALLING).unwrap();
+    expect_surface(&grid);
 }

@@ -1,7 +1,12 @@
 // Lent slices: every refusal number that each call can give, and what a refusal leaves in the buffers.
 
-use skwarzyna::lent::{check, depth, place, point, read, run, step, write};
-use skwarzyna::{Depth, Grid, Point, Refusal, Settings, Sides, Site, State, StateMut, Stopped, ONE, PARTS};
+use skwarzyna::lent::{
+    check, depth, load, place, point, read, run, step, surface_count, surface_next, write,
+};
+use skwarzyna::{
+    Depth, Grid, Held, HeldMut, Index, IndexMut, Next, Point, Refusal, Settings, Sides, Site, State,
+    StateMut, Stopped, ONE, PARTS,
+};
 
 const CASE_T: &[u8] = include_bytes!("../../../crates/gridstep/stdin");
 const CELLS: usize = 27;
@@ -18,18 +23,23 @@ struct Set {
     masses: Vec<i32>,
     fills: Vec<u32>,
     carry: Vec<i64>,
+    words: Vec<u64>,
+    count: Vec<u64>,
     marks: Vec<u8>,
 }
 
 impl Set {
     fn of(grid: &Grid) -> Set {
         let state = grid.state();
+        let index = oracle::IndexStore::of(state.flags);
         Set {
             flags: state.flags.to_vec(),
             parts: state.parts.to_vec(),
             masses: state.masses.to_vec(),
             fills: state.fills.to_vec(),
             carry: state.carry.to_vec(),
+            words: index.words,
+            count: index.count,
             marks: vec![7; state.flags.len()],
         }
     }
@@ -46,6 +56,8 @@ impl Set {
             masses: vec![-6; cells],
             fills: vec![70_000; cells],
             carry: vec![-8],
+            words: vec![!9; cells.div_ceil(64)],
+            count: vec![!10],
             marks: vec![7; cells],
         }
     }
@@ -60,7 +72,11 @@ impl Set {
         }
     }
 
-    fn lend_mut(&mut self) -> (StateMut<'_>, &mut [u8]) {
+    fn hold(&self) -> Held<'_> {
+        Held { state: self.lend(), index: Index { words: &self.words, count: &self.count } }
+    }
+
+    fn hold_mut(&mut self) -> (HeldMut<'_>, &mut [u8]) {
         let state = StateMut {
             flags: &mut self.flags,
             parts: &mut self.parts,
@@ -68,7 +84,8 @@ impl Set {
             fills: &mut self.fills,
             carry: &mut self.carry,
         };
-        (state, &mut self.marks)
+        let index = IndexMut { words: &mut self.words, count: &mut self.count };
+        (HeldMut { state, index }, &mut self.marks)
     }
 }
 
@@ -90,6 +107,19 @@ const WRONG_LENGTHS: [Change; 10] = [
     |set| set.fills.push(0),
     |set| set.carry.clear(),
     |set| set.carry.push(0),
+];
+
+/// The same of an index.
+const WRONG_INDEXES: [Change; 4] =
+    [|set| set.words.clear(), |set| set.words.push(0), |set| set.count.clear(), |set| set.count.push(0)];
+
+/// Faults of an index that test 14 finds: a bit missing, one too many, one past the last cell, and counts.
+const UNTRUE: [Change; 5] = [
+    |set| set.words[0] = 0,
+    |set| set.words[0] |= 1,
+    |set| set.words[0] |= 1 << CELLS,
+    |set| set.count[0] = 0,
+    |set| set.count[0] = u64::MAX,
 ];
 
 /// Faults of a set that test 4, 5 or 6 finds, and where.
@@ -141,16 +171,62 @@ fn checks_are_refused() {
 }
 
 #[test]
+fn loads_are_refused() {
+    assert_eq!(load(THREE, Set::case_t().hold()), Ok(()));
+    for sides in SIDES {
+        assert_eq!(load(sides, Set::case_t().hold()), Err(refusal(1, 0)));
+    }
+    for change in WRONG_LENGTHS.into_iter().chain(WRONG_INDEXES) {
+        let mut set = Set::case_t();
+        change(&mut set);
+        assert_eq!(load(THREE, set.hold()), Err(refusal(2, 0)));
+    }
+    for (change, number, place) in FAULTS {
+        let mut set = Set::case_t();
+        change(&mut set);
+        assert_eq!(load(THREE, set.hold()), Err(refusal(number, place)));
+    }
+    let (sides, set) = open();
+    assert_eq!(load(sides, set.hold()), Err(refusal(5, 17)));
+    for change in UNTRUE {
+        let mut set = Set::case_t();
+        change(&mut set);
+        assert_eq!(load(THREE, set.hold()), Err(refusal(14, 0)));
+    }
+}
+
+#[test]
+fn the_surface_is_asked() {
+    let five = Sides::new(5, 5, 5);
+    let words = [1 << 31, 1 << 29];
+    let next = |start: usize| surface_next(five, &words, start).map(|next| (next.cell, next.words));
+    assert_eq!(surface_count(five, &words), Ok(2));
+    assert_eq!([next(0), next(31)], [Ok((Some(31), 1)); 2]);
+    assert_eq!([next(32), next(64)], [Ok((Some(93), 2)), Ok((Some(93), 1))]);
+    assert_eq!([next(94), next(125), next(126)], [Ok((None, 1)), Ok((None, 0)), Err(refusal(13, 0))]);
+    // Bit 61 of word 1 would be cell 125.
+    let past = [1 << 31, 1 << 29 | 1 << 61];
+    assert_eq!(surface_count(five, &past), Ok(2));
+    assert_eq!(surface_next(five, &past, 94), Ok(Next { cell: None, words: 1 }));
+    assert_eq!(surface_count(five, &words[1..]), Err(refusal(2, 0)));
+    assert_eq!(surface_next(five, &[0; 3], 0), Err(refusal(2, 0)));
+    for sides in SIDES {
+        assert_eq!(surface_count(sides, &words), Err(refusal(1, 0)));
+        assert_eq!(surface_next(sides, &words, usize::MAX), Err(refusal(1, 0)));
+    }
+}
+
+#[test]
 fn refused_steps_and_runs_write_nothing() {
     let tried = |sides: Sides, settings: Settings, first: Set, second: Set, wanted: Refusal| {
         let mut lent = second.clone();
-        let (state, marks) = lent.lend_mut();
-        assert_eq!(step(sides, settings, first.lend(), state, marks), Err(wanted));
+        let (state, marks) = lent.hold_mut();
+        assert_eq!(step(sides, settings, first.hold(), state, marks), Err(wanted));
         assert_eq!(lent, second);
 
         let mut run_first = first.clone();
-        let (state, marks) = lent.lend_mut();
-        let (run_state, _) = run_first.lend_mut();
+        let (state, marks) = lent.hold_mut();
+        let (run_state, _) = run_first.hold_mut();
         let stopped = Stopped { count: 0, refusal: wanted };
         assert_eq!(run(sides, settings, 3, run_state, state, marks), Err(stopped));
         assert_eq!((&lent, &run_first), (&second, &first));
@@ -159,7 +235,7 @@ fn refused_steps_and_runs_write_nothing() {
     for sides in SIDES {
         tried(sides, FALLING, good.clone(), soiled.clone(), refusal(1, 0));
     }
-    for change in WRONG_LENGTHS {
+    for change in WRONG_LENGTHS.into_iter().chain(WRONG_INDEXES) {
         let (mut first, mut second) = (good.clone(), soiled.clone());
         change(&mut first);
         tried(THREE, FALLING, first, soiled.clone(), refusal(2, 0));
@@ -181,13 +257,25 @@ fn refused_steps_and_runs_write_nothing() {
     }
     let (sides, set) = open();
     tried(sides, FALLING, set, Set::soiled(36), refusal(5, 17));
+    for change in UNTRUE {
+        let mut first = good.clone();
+        change(&mut first);
+        tried(THREE, FALLING, first.clone(), soiled.clone(), refusal(14, 0));
+        // A broken rule comes first, and 14 before 7.
+        first.masses[3] = 1;
+        tried(THREE, FALLING, first, soiled.clone(), refusal(6, 3));
+        let mut first = pushed();
+        change(&mut first);
+        let fast = Settings { p: 1500, gx: 1048, gy: 0, gz: 0 };
+        tried(THREE, fast, first, soiled.clone(), refusal(14, 0));
+    }
 }
 
 #[test]
 fn too_many_steps_come_first() {
     let (mut first, mut second) = (Set::soiled(3), Set::soiled(5));
-    let (state, marks) = first.lend_mut();
-    let (other, _) = second.lend_mut();
+    let (state, marks) = first.hold_mut();
+    let (other, _) = second.hold_mut();
     let ran = run(Sides::new(0, 0, 0), Settings { p: 0, ..FALLING }, 1001, state, other, marks);
     assert_eq!(ran, Err(Stopped { count: 0, refusal: refusal(9, 0) }));
     assert_eq!((first, second), (Set::soiled(3), Set::soiled(5)));
@@ -196,17 +284,17 @@ fn too_many_steps_come_first() {
 #[test]
 fn accepted_steps_and_runs_fill_the_second_set() {
     let (first, mut second) = (Set::case_t(), Set::soiled(CELLS));
-    let (state, marks) = second.lend_mut();
-    assert_eq!(step(THREE, FALLING, first.lend(), state, marks), Ok(()));
+    let (state, marks) = second.hold_mut();
+    assert_eq!(step(THREE, FALLING, first.hold(), state, marks), Ok(()));
     assert_eq!(second.marks, [0; CELLS]);
     assert_eq!(second.parts[PARTS * MIDDLE + 5], 32_673);
     assert_eq!((&second.flags, &second.masses, &second.fills), (&first.flags, &first.masses, &first.fills));
 
     let (mut one, mut other) = (first.clone(), Set::soiled(CELLS));
-    let (state, _) = one.lend_mut();
-    let (second_state, marks) = other.lend_mut();
+    let (state, _) = one.hold_mut();
+    let (second_state, marks) = other.hold_mut();
     assert_eq!(run(THREE, FALLING, 1, state, second_state, marks), Ok(()));
-    assert_eq!((one.lend(), other.lend()), (second.lend(), second.lend()));
+    assert_eq!((one.hold(), other.hold()), (second.hold(), second.hold()));
     assert_eq!(other.marks, [0; CELLS]);
 }
 
@@ -223,11 +311,11 @@ fn pushed() -> Set {
 fn after_7_and_8_the_second_set_is_the_first() {
     for (p, gx, number) in [(1500, 1048, 8), (1024, 1048, 0), (1024, -1048, 0), (1, 0, 0)] {
         let (first, mut second) = (pushed(), Set::soiled(CELLS));
-        let (state, marks) = second.lend_mut();
-        let answer = step(THREE, Settings { p, gx, gy: 0, gz: 0 }, first.lend(), state, marks);
+        let (state, marks) = second.hold_mut();
+        let answer = step(THREE, Settings { p, gx, gy: 0, gz: 0 }, first.hold(), state, marks);
         match number {
             0 => assert_eq!(answer, Ok(())),
-            _ => assert_eq!((answer, second.lend()), (Err(refusal(number, MIDDLE)), first.lend())),
+            _ => assert_eq!((answer, second.hold()), (Err(refusal(number, MIDDLE)), first.hold())),
         }
         assert_eq!(second.marks, [0; CELLS]);
     }
@@ -237,22 +325,23 @@ fn after_7_and_8_the_second_set_is_the_first() {
     }
     let (kept, mut second) = (first.clone(), Set::soiled(CELLS));
     let against = Settings { p: 1024, gx: 1048, gy: 0, gz: 0 };
-    let (state, marks) = second.lend_mut();
-    assert_eq!(step(THREE, against, first.lend(), state, marks), Err(refusal(7, MIDDLE)));
-    assert_eq!((second.lend(), &second.marks), (kept.lend(), &vec![0; CELLS]));
+    let (state, marks) = second.hold_mut();
+    assert_eq!(step(THREE, against, first.hold(), state, marks), Err(refusal(7, MIDDLE)));
+    assert_eq!((second.hold(), &second.marks), (kept.hold(), &vec![0; CELLS]));
     let mut second = Set::soiled(CELLS);
-    let (state, marks) = second.lend_mut();
-    let (first_state, _) = first.lend_mut();
+    let (state, marks) = second.hold_mut();
+    let (first_state, _) = first.hold_mut();
     let stopped = Stopped { count: 0, refusal: refusal(7, MIDDLE) };
     assert_eq!(run(THREE, against, 9, first_state, state, marks), Err(stopped));
-    assert_eq!((first.lend(), second.lend()), (kept.lend(), kept.lend()));
+    assert_eq!((first.hold(), second.hold()), (kept.hold(), kept.hold()));
     assert_eq!(second.marks, [0; CELLS]);
 }
 
 #[test]
 fn records_are_read_into_lent_slices() {
     fn read_into<'a>(record: &'a [u8], set: &mut Set) -> Result<skwarzyna::lent::Head<'a>, Refusal> {
-        read(record, &mut set.parts, &mut set.masses, &mut set.fills, &mut set.carry)
+        let index = IndexMut { words: &mut set.words, count: &mut set.count };
+        read(record, &mut set.parts, &mut set.masses, &mut set.fills, &mut set.carry, index)
     }
     let mut set = Set::soiled(CELLS);
     let head = read_into(CASE_T, &mut set).unwrap();
@@ -290,7 +379,7 @@ fn records_are_read_into_lent_slices() {
     refused(&changed(51, 1), 3, 0);
     refused(&changed(84 + MIDDLE, 9), 4, MIDDLE);
     refused(&changed(79, 1), 6, CELLS);
-    for change in &WRONG_LENGTHS[2..] {
+    for change in WRONG_LENGTHS[2..].iter().chain(&WRONG_INDEXES) {
         let mut set = Set::soiled(CELLS);
         change(&mut set);
         let kept = set.clone();

@@ -134,7 +134,7 @@ fn advanced(record: &[u8], steps: u64) -> Vec<u8> {
 }
 
 /// Every command with what it must have, on the record of standard input.
-const CALLS: [&[&str]; 9] = [
+const CALLS: [&[&str]; 10] = [
     &["check"],
     &["water"],
     &["step"],
@@ -143,6 +143,7 @@ const CALLS: [&[&str]; 9] = [
     &["place", "60", "60", "60"],
     &["point", "13"],
     &["depth", "1", "1"],
+    &["surface"],
     &["draw"],
 ];
 
@@ -187,6 +188,13 @@ fn good_records_are_answered() {
     );
     assert_eq!(out(&["depth", "1", "1"]).text(), "0.5000 cells, 32768/65536, 25.0 mm\n");
     assert_eq!(out(&["depth", "0", "1"]).text(), "solid\n");
+    assert_eq!(
+        out(&["surface"]).text(),
+        "1 interface cell of 27 cells\n    cell    x    y    z   fill\n      13    1    1    1  32768\n"
+    );
+    assert_eq!(out(&["surface", "-n"]).text(), "1 interface cell of 27 cells\n");
+    assert_eq!(out(&["surface", "--from", "14"]).text(), "1 interface cell of 27 cells, 0 from cell 14 on\n");
+    assert_eq!(out(&["surface", "-f", "27"]).text(), "1 interface cell of 27 cells, 0 from cell 27 on\n");
     assert_eq!(out(&["write"]).out, CASE_T);
     assert_eq!(
         out(&["step", "-q"]),

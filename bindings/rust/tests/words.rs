@@ -27,6 +27,7 @@ fn refusals_are_told() {
         (11, 5, "refusal 11: a section's count is wrong, in section 5"),
         (12, 199, "refusal 12: room for the record too small, 199 bytes needed"),
         (13, 0, "refusal 13: column, cell or point outside"),
+        (14, 0, "refusal 14: a word is not the one that the flags make, or the stored count is wrong"),
         (3, 4, "refusal 3: a setting, origin or point coordinate out of range, at point 4"),
         (22, 0, "refusal 22: the list has not 1 to 2,000 points"),
         (23, 3, "refusal 23: a chainage is not above the one before, at point 3"),

@@ -34,10 +34,72 @@ pub fn check(case: &mut Case) -> Reply {
     Reply { number, place, values: vec![] }
 }
 
+pub fn load(case: &mut Case) -> Reply {
+    let [nx, ny, nz] = case.sides;
+    let (set, index) = (&case.first, &case.first_index);
+    let mut place = BEFORE;
+    let number = unsafe {
+        raw::skw_load(
+            set.flags.as_ptr(),
+            set.flags.len(),
+            set.parts.as_ptr(),
+            set.parts.len(),
+            set.masses.as_ptr(),
+            set.masses.len(),
+            set.fills.as_ptr(),
+            set.fills.len(),
+            set.carry.as_ptr(),
+            set.carry.len(),
+            index.words.as_ptr(),
+            index.words.len(),
+            index.count.as_ptr(),
+            index.count.len(),
+            nx,
+            ny,
+            nz,
+            &mut place,
+        )
+    };
+    Reply { number, place, values: vec![] }
+}
+
+/// Its value is the number of cells.
+pub fn surface_count(case: &mut Case) -> Reply {
+    let [nx, ny, nz] = case.sides;
+    let words = &case.first_index.words;
+    let (mut cells, mut place) = (BEFORE, BEFORE);
+    let number =
+        unsafe { raw::skw_surface_count(words.as_ptr(), words.len(), nx, ny, nz, &mut cells, &mut place) };
+    Reply { number, place, values: vec![cells as u64] }
+}
+
+/// Its values are the kind, the cell and the words read.
+pub fn surface_next(case: &mut Case) -> Reply {
+    let [nx, ny, nz] = case.sides;
+    let words = &case.first_index.words;
+    let (mut kind, mut cell, mut read, mut place) = (BEFORE as u8, BEFORE, BEFORE, BEFORE);
+    let number = unsafe {
+        raw::skw_surface_next(
+            words.as_ptr(),
+            words.len(),
+            nx,
+            ny,
+            nz,
+            case.start,
+            &mut kind,
+            &mut cell,
+            &mut read,
+            &mut place,
+        )
+    };
+    Reply { number, place, values: vec![kind.into(), cell as u64, read as u64] }
+}
+
 pub fn step(case: &mut Case) -> Reply {
     let [nx, ny, nz] = case.sides;
     let [gx, gy, gz] = case.gravity;
     let (first, second) = (&case.first, &mut case.second);
+    let (index, index2) = (&case.first_index, &mut case.second_index);
     let mut place = BEFORE;
     let number = unsafe {
         raw::skw_step(
@@ -51,6 +113,10 @@ pub fn step(case: &mut Case) -> Reply {
             first.fills.len(),
             first.carry.as_ptr(),
             first.carry.len(),
+            index.words.as_ptr(),
+            index.words.len(),
+            index.count.as_ptr(),
+            index.count.len(),
             second.flags.as_mut_ptr(),
             second.flags.len(),
             second.parts.as_mut_ptr(),
@@ -61,6 +127,10 @@ pub fn step(case: &mut Case) -> Reply {
             second.fills.len(),
             second.carry.as_mut_ptr(),
             second.carry.len(),
+            index2.words.as_mut_ptr(),
+            index2.words.len(),
+            index2.count.as_mut_ptr(),
+            index2.count.len(),
             case.marks.as_mut_ptr(),
             case.marks.len(),
             nx,
@@ -81,6 +151,7 @@ pub fn run(case: &mut Case) -> Reply {
     let [nx, ny, nz] = case.sides;
     let [gx, gy, gz] = case.gravity;
     let (first, second) = (&mut case.first, &mut case.second);
+    let (index, index2) = (&mut case.first_index, &mut case.second_index);
     let (mut number, mut place) = (BEFORE as u8, BEFORE);
     let count = unsafe {
         raw::skw_run(
@@ -95,6 +166,10 @@ pub fn run(case: &mut Case) -> Reply {
             first.fills.len(),
             first.carry.as_mut_ptr(),
             first.carry.len(),
+            index.words.as_mut_ptr(),
+            index.words.len(),
+            index.count.as_mut_ptr(),
+            index.count.len(),
             second.flags.as_mut_ptr(),
             second.flags.len(),
             second.parts.as_mut_ptr(),
@@ -105,6 +180,10 @@ pub fn run(case: &mut Case) -> Reply {
             second.fills.len(),
             second.carry.as_mut_ptr(),
             second.carry.len(),
+            index2.words.as_mut_ptr(),
+            index2.words.len(),
+            index2.count.as_mut_ptr(),
+            index2.count.len(),
             case.marks.as_mut_ptr(),
             case.marks.len(),
             nx,
@@ -123,7 +202,7 @@ pub fn run(case: &mut Case) -> Reply {
 
 /// Its values are sides, p, gravity, edge, origin, and from where to where the flags stand in the record.
 pub fn read(case: &mut Case) -> Reply {
-    let lent = &mut case.second;
+    let (lent, index) = (&mut case.second, &mut case.second_index);
     let [mut nx, mut ny, mut nz, mut from, mut to, mut place] = [BEFORE; 6];
     let [mut p, mut gx, mut gy, mut gz, mut edge, mut ox, mut oy, mut oz] = [BEFORE_SIGNED; 8];
     let number = unsafe {
@@ -138,6 +217,10 @@ pub fn read(case: &mut Case) -> Reply {
             lent.fills.len(),
             lent.carry.as_mut_ptr(),
             lent.carry.len(),
+            index.words.as_mut_ptr(),
+            index.words.len(),
+            index.count.as_mut_ptr(),
+            index.count.len(),
             &mut nx,
             &mut ny,
             &mut nz,

@@ -3,16 +3,17 @@
 use std::fmt::Debug;
 
 use oracle::damage::bad;
+use oracle::index::words_of;
 use oracle::random::Random;
 use oracle::record::Reading;
 use oracle::scenes::good;
 use oracle::state::{CARRY_LIMIT, FLUID, INTERFACE, MASS_LIMIT, PART_LIMIT, WALL};
-use oracle::Store;
+use oracle::{IndexStore, Store};
 
 use super::Reply;
 use crate::lengths::{changed, CHANGES};
 
-/// What the eight functions are lent; sides and lengths may be wrong.
+/// What the functions are lent; sides and lengths may be wrong.
 #[derive(Clone)]
 pub struct Case {
     pub sides: [usize; 3],
@@ -23,12 +24,17 @@ pub struct Case {
     pub first: Store,
     /// Of step and run; the reader writes into all of it but the flags.
     pub second: Store,
+    pub first_index: IndexStore,
+    /// As the second set: of step, run and reader.
+    pub second_index: IndexStore,
     pub marks: Vec<u8>,
     pub steps: usize,
     pub record: Vec<u8>,
     pub room: Vec<u8>,
     pub point: [i64; 3],
     pub cell: usize,
+    /// Where the question "next" begins.
+    pub start: usize,
     pub column: [usize; 2],
 }
 
@@ -57,6 +63,11 @@ fn junk_store(random: &mut Random, n: usize, carries: usize) -> Store {
         fills: junk(random, n, |bits| bits as u32),
         carry: junk(random, carries, |bits| bits as i64),
     }
+}
+
+/// An index that is no state's, for so many cells.
+fn junk_index(random: &mut Random, n: usize, counts: usize) -> IndexStore {
+    IndexStore { words: junk(random, words_of(n), |bits| bits), count: junk(random, counts, |bits| bits) }
 }
 
 impl Case {
@@ -91,6 +102,7 @@ impl Case {
         let steps = random.pick(&[0, 1, 2, 3, 5, 7, 12, 60]);
         let sides = scene.sides.map(|side| side as usize);
         let [x, y] = [sides[0], sides[1]].map(|side| random.below(side + 1));
+        let first_index = IndexStore::of(&first.flags);
         Case {
             sides,
             p: scene.settings.p.into(),
@@ -99,12 +111,15 @@ impl Case {
             origin: scene.origin,
             first,
             second: junk_store(random, n, 1),
+            first_index,
+            second_index: junk_index(random, n, 1),
             marks: junk(random, n, |bits| bits as u8),
             steps: if random.percent(5) { random.pick(&[1001, 4096, 1 << 32, usize::MAX]) } else { steps },
             record: if random.percent(30) { scene.record() } else { bad(seed).bytes },
             room: junk(random, room, |bits| bits as u8),
             point: point(random, sides, scene.settings.edge.into(), scene.origin),
             cell: if random.percent(10) { any(random) as usize } else { random.below(n + 1) },
+            start: if random.percent(10) { any(random) as usize } else { random.below(n + 2) },
             column: if random.percent(10) { [any(random) as usize, y] } else { [x, y] },
         }
     }
@@ -121,12 +136,15 @@ impl Case {
             origin: [0; 3],
             first: blank,
             second: junk_store(random, n, 1),
+            first_index: IndexStore::blank(0),
+            second_index: junk_index(random, n, 1),
             marks: vec![7; n],
             steps: 0,
             record,
             room: vec![],
             point: [0; 3],
             cell: 0,
+            start: 0,
             column: [0; 2],
         }
     }
@@ -140,6 +158,7 @@ impl Case {
             gravity: reading.settings.gravity.map(i64::from),
             edge: reading.settings.edge.into(),
             origin: reading.origin,
+            first_index: IndexStore::of(&first.flags),
             first,
             ..Case::of_record(vec![], n)
         }
@@ -158,6 +177,7 @@ impl Case {
             edge: edge as i64,
             origin: [ox, oy, oz].map(|number| number as i64),
             first: Store { flags, ..self.second.clone() },
+            first_index: self.second_index.clone(),
             room: vec![0x5a; self.record.len() + 5],
             ..Case::of_record(self.record.clone(), self.marks.len())
         })
@@ -176,7 +196,11 @@ impl Case {
             self.first.fills.iter_mut().for_each(|fill| *fill %= 65_537);
         }
         self.second = junk_store(random, n, 1);
+        self.first_index =
+            if random.percent(30) { IndexStore::of(&self.first.flags) } else { junk_index(random, n, 1) };
+        self.second_index = junk_index(random, n, 1);
         self.marks = vec![1; n];
+        self.start = random.below(n + 2);
         self.cell = random.below(n);
         self.column = [random.below(self.sides[0]), random.below(self.sides[1])];
     }
@@ -194,6 +218,11 @@ impl Case {
             }
         };
         (self.first, self.second) = (store(random), store(random));
+        let index = |random: &mut Random| {
+            let (cells, counts) = (64 * random.below(4), random.below(3));
+            junk_index(random, cells, counts)
+        };
+        (self.first_index, self.second_index) = (index(random), index(random));
         self.marks.truncate(random.below(41));
         self.room.truncate(random.below(500));
     }
@@ -205,7 +234,7 @@ impl Case {
         let at = random.below(self.first.parts.len().max(1));
         let near = random.between(-2, 2) as i64;
         let anything = any(random) as i64;
-        match random.below(18) {
+        match random.below(22) {
             0 => {
                 self.sides[random.below(3)] =
                     random.pick(&[0, 1, 2, 3, 128, 129, 1 << 20, 1 << 32, usize::MAX])
@@ -253,10 +282,39 @@ impl Case {
                 let other = random.pick(&[fill ^ 1, 65_536, 65_537, fill ^ 1 << 31, anything as u32]);
                 put(&mut self.first.fills, c, other);
             }
-            _ => {
+            17 => {
                 let end = random.pick(&[CARRY_LIMIT as i64, -CARRY_LIMIT as i64]);
                 let other = random.pick(&[end + near, i64::MIN, i64::MAX, anything]);
                 put(&mut self.first.carry, 0, other);
+            }
+            _ => self.mark(random),
+        }
+    }
+
+    /// Another index of the first set: a bit changed, one past the cells set, a wrong count, or the words of flags that are not its own.
+    fn mark(&mut self, random: &mut Random) {
+        let IndexStore { words, count } = &mut self.first_index;
+        let n = self.first.flags.len();
+        match random.below(5) {
+            0 => {
+                let k = random.below(words.len().max(1));
+                if let Some(word) = words.get_mut(k) {
+                    *word ^= 1 << random.below(64);
+                }
+            }
+            1 if n % 64 > 0 => {
+                if let Some(word) = words.last_mut() {
+                    *word |= 1 << (n % 64 + random.below(64 - n % 64));
+                }
+            }
+            2 => {
+                let change = random.pick(&[1, u64::MAX, 1 << 32]);
+                count.iter_mut().for_each(|count| *count = count.wrapping_add(change));
+            }
+            3 => words.fill(random.pick(&[0, u64::MAX])),
+            _ => {
+                let turned: Vec<u8> = self.first.flags.iter().rev().copied().collect();
+                self.first_index = IndexStore::of(&turned);
             }
         }
     }
@@ -264,13 +322,19 @@ impl Case {
     /// Another length for one of the lent slices.
     fn resize(&mut self, random: &mut Random) {
         let change = random.below(CHANGES);
-        let set = if random.percent(50) { &mut self.first } else { &mut self.second };
-        match random.below(6) {
+        let (set, index) = if random.percent(50) {
+            (&mut self.first, &mut self.first_index)
+        } else {
+            (&mut self.second, &mut self.second_index)
+        };
+        match random.below(8) {
             0 => changed(&mut set.flags, change),
             1 => changed(&mut set.parts, change),
             2 => changed(&mut set.masses, change),
             3 => changed(&mut set.fills, change),
             4 => changed(&mut set.carry, change),
+            5 => changed(&mut index.words, change),
+            6 => changed(&mut index.count, change),
             _ => changed(&mut self.marks, change),
         }
     }
@@ -289,7 +353,16 @@ impl Case {
                 .or_else(|| apart(&format!("{name} fills"), &wanted.fills, &given.fills))
                 .or_else(|| apart(&format!("{name} carry"), &wanted.carry, &given.carry))
         });
+        let indexes = [
+            ("first", &self.first_index, &given.first_index),
+            ("second", &self.second_index, &given.second_index),
+        ];
+        let indexed = indexes.into_iter().find_map(|(name, wanted, given)| {
+            apart(&format!("{name} words"), &wanted.words, &given.words)
+                .or_else(|| apart(&format!("{name} count"), &wanted.count, &given.count))
+        });
         differs
+            .or(indexed)
             .or_else(|| apart("marks", &self.marks, &given.marks))
             .or_else(|| apart("record", &self.record, &given.record))
             .or_else(|| apart("room", &self.room, &given.room))

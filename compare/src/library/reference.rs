@@ -1,7 +1,8 @@
 // The independent program's functions, each on what a case lends. Values beside a refusal are 0, but for the run's count.
 
+use oracle::index;
 use oracle::readings::Depth;
-use oracle::{Refusal, Settings};
+use oracle::{Held, HeldMut, Refusal, Settings};
 
 use super::cases::Case;
 use super::Reply;
@@ -35,19 +36,37 @@ pub fn check(case: &mut Case) -> Reply {
     reply(oracle::check(sides(case), case.first.lend()).map(|()| []))
 }
 
+pub fn load(case: &mut Case) -> Reply {
+    let held = Held { set: case.first.lend(), index: case.first_index.lend() };
+    reply(oracle::load(sides(case), held).map(|()| []))
+}
+
+pub fn surface_count(case: &mut Case) -> Reply {
+    reply(oracle::surface_count(sides(case), &case.first_index.words).map(|cells| [cells as u64]))
+}
+
+pub fn surface_next(case: &mut Case) -> Reply {
+    let outcome = oracle::surface_next(sides(case), &case.first_index.words, case.start);
+    reply(outcome.map(|next| match next.cell {
+        Some(cell) => [1, cell as u64, next.words as u64],
+        None => [2, 0, next.words as u64],
+    }))
+}
+
 pub fn step(case: &mut Case) -> Reply {
     let (sides, settings) = (sides(case), settings(case));
-    let second = case.second.lend_mut();
-    let outcome =
-        oracle::step(sides, settings.p, settings.gravity, case.first.lend(), second, &mut case.marks);
+    let first = Held { set: case.first.lend(), index: case.first_index.lend() };
+    let second = HeldMut { set: case.second.lend_mut(), index: case.second_index.lend_mut() };
+    let outcome = index::step(sides, settings.p, settings.gravity, first, second, &mut case.marks);
     reply(outcome.map(|()| []))
 }
 
 pub fn run(case: &mut Case) -> Reply {
     let (sides, settings) = (sides(case), settings(case));
     let steps = u32::try_from(case.steps).unwrap_or(u32::MAX);
-    let (first, second) = (case.first.lend_mut(), case.second.lend_mut());
-    let ran = oracle::run(sides, settings.p, settings.gravity, steps, first, second, &mut case.marks);
+    let first = HeldMut { set: case.first.lend_mut(), index: case.first_index.lend_mut() };
+    let second = HeldMut { set: case.second.lend_mut(), index: case.second_index.lend_mut() };
+    let ran = index::run(sides, settings.p, settings.gravity, steps, first, second, &mut case.marks);
     let count = vec![ran.count.into()];
     match ran.refusal {
         None => Reply { number: 0, place: 0, values: count },
@@ -56,9 +75,9 @@ pub fn run(case: &mut Case) -> Reply {
 }
 
 pub fn read(case: &mut Case) -> Reply {
-    let lent = &mut case.second;
+    let (lent, made) = (&mut case.second, case.second_index.lend_mut());
     let outcome =
-        oracle::read(&case.record, &mut lent.parts, &mut lent.masses, &mut lent.fills, &mut lent.carry);
+        index::read(&case.record, &mut lent.parts, &mut lent.masses, &mut lent.fills, &mut lent.carry, made);
     reply(outcome.map(|reading| {
         let [nx, ny, nz] = reading.sides.map(u64::from);
         let [gx, gy, gz] = reading.settings.gravity.map(|number| i64::from(number) as u64);

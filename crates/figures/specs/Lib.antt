@@ -1,3 +1,4 @@
 pub mod Cases
 pub mod Gutter
+pub mod Surface
 pub mod Table

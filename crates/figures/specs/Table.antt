@@ -6,6 +6,7 @@ use lib.IntN.{ℤ, pos, negsuc}
 use lib.ListN.{getD}
 use Rattle.whole.specs.Fold.{tab}
 use Rattle.lattice.specs.Cell.{fillOf, exchange, over, under, share, gravityGood}
+use Rattle.grid.specs.declared.Answer.{Answer}
 use Rattle.grid.specs.State.{Lent, Scene}
 use Rattle.grid.specs.Step.{newFlag, excess, normal, gift}
 use Rattle.lattice.specs.Body.{eqZ}
@@ -13,6 +14,10 @@ use Rattle.grid.specs.Outcome.{numberOf, placeOf, checkAnswer, sceneOf, stepAns
 use Rattle.pumps.specs.Three.{numberIn, withTotals}
 use Rattle.pumps.specs.Acts.{actedNumber, actedPlace, actedMoved, movedOf, actAnswer, actSet, actedBy}
 use Rattle.pumps.specs.Demands.{balance}
+use Rattle.index.specs.declared.Counted.{Counted}
+use Rattle.index.specs.declared.Next.{Next}
+use Rattle.index.specs.Index.{Index, index, indexOf}
+use Rattle.index.specs.Outcome.{loadAnswer, countAnswer, countNumber, countPlace, countCells, nextAnswer, nextNumber, nextPlace, nextKind, nextCell, nextWords}
 use Rattle.tunnel.specs.declared.Placed.{Placed}
 use Rattle.tunnel.specs.Place.{refusalNumber, axisOf}
 use Rattle.tunnel.specs.Place as placing
@@ -22,6 +27,7 @@ use Rattle.profile.specs.Profile.{seen, depthAt}
 use Rattle.profile.specs.Outcome.{profileAnswer, profiledNumber, profiledPlace, wetOf, deepestOf}
 use Rattle.figures.specs.Cases.{sides, settings, falling, single, rest, fallen, caseT, marks, calm, rowSides, row, poolSides, pool}
 use Rattle.figures.specs.Gutter.{points, chainages, along}
+use Rattle.figures.specs.Surface.{wordsT, cube, two, wordsTwo, past}
 
 -- a figure: what the definitions give, and what the document says
 pub record Figure : Type 0 where
@@ -64,6 +70,24 @@ answered a = pos (profiledNumber a) ∷ pos (profiledPlace a) ∷ pos (wetOf a) 
 abbrev profiled : Profiled → ℕ → ℕ → ℕ → ℕ → Figure
 profiled a number place wet deepest =
     record { worked = answered a; said = pos number ∷ pos place ∷ pos wet ∷ pos deepest ∷ [] }
+
+-- an index as one list; what loading and the two questions answer: number and place, with the cells, with kind, cell and words
+abbrev words : Index → List ℕ → Figure
+words x said = record { worked = map pos (x .words ++ x .count); said = map pos said }
+
+abbrev loads : Answer → ℕ → Figure
+loads a number = record { worked = pos (numberOf a) ∷ pos (placeOf a) ∷ []; said = pos number ∷ pos 0 ∷ [] }
+
+abbrev counts : Counted → ℕ → Figure
+counts a cells =
+    record { worked = map pos (countNumber a ∷ countPlace a ∷ countCells a ∷ []); said = pos 0 ∷ pos 0 ∷ pos cells ∷ [] }
+
+abbrev asks : Next → ℕ → ℕ → ℕ → ℕ → Figure
+asks a number kind cell read =
+    record {
+      worked = map pos (nextNumber a ∷ nextPlace a ∷ nextKind a ∷ nextCell a ∷ nextWords a ∷ []);
+      said = map pos (number ∷ 0 ∷ kind ∷ cell ∷ read ∷ []);
+    }
 
 abbrev ONE : ℤ
 ONE = pos 589824
@@ -146,6 +170,8 @@ figures =
     ∷ profiled (profileAnswer (along (pos 50) (points 10000000001)) (chainages 2000) 7 7) 23 3 0 0
     ∷ profiled (profileAnswer (along (pos 0) (points 10000000001)) (chainages 2000) 7 7) 3 0 0 0
     ∷ profiled (profileAnswer (along (pos 0) (points 10000000001)) (chainages 2000) 6 7) 2 0 0 0
+    -- no points: 22 at 0
+    ∷ profiled (profileAnswer (along (pos 50) []) [] 0 0) 22 0 0 0
     -- P5, case T, one act after another: pour 100,000 at 13; take 589,824; take 5; pour 589,825, at 12, at 27; pour 589,824 four times; pour 1
     ∷ record { worked = told true 13 (pos 100000) still; said = pos 0 ∷ pos 0 ∷ pos 100000 ∷ [] }
     ∷ record { worked = centre (actSet true 13 (pos 100000) still); said = pos 394912 ∷ pos 43879 ∷ pos 100000 ∷ pos 0 ∷ pos 294912 ∷ [] }
@@ -159,8 +185,29 @@ figures =
     ∷ record { worked = told true 13 ONE (actSet true 13 ONE (actSet true 13 ONE (actSet true 13 ONE drained))); said = pos 0 ∷ pos 0 ∷ ONE ∷ [] }
     ∷ record { worked = centre full; said = pos 2359296 ∷ pos 65536 ∷ pos 2459296 ∷ pos 394912 ∷ pos 294912 ∷ [] }
     ∷ record { worked = told true 13 (pos 1) full; said = pos 16 ∷ pos 0 ∷ pos 0 ∷ [] }
-    -- no points: 22 at 0
-    ∷ profiled (profileAnswer (along (pos 50) []) [] 0 0) 22 0 0 0
+    -- case T: one word 8,192, count 1; next from 0 and 13: cell 13, 1 word; from 14: none, 1; from 27: none, 0; from 28: 13 at 0
+    ∷ words (indexOf 27 (caseT .flags)) (8192 ∷ 1 ∷ [])
+    ∷ loads (loadAnswer sides caseT (index wordsT (1 ∷ []))) 0
+    ∷ counts (countAnswer sides wordsT) 1
+    ∷ asks (nextAnswer sides wordsT 0) 0 1 13 1
+    ∷ asks (nextAnswer sides wordsT 13) 0 1 13 1
+    ∷ asks (nextAnswer sides wordsT 14) 0 2 0 1
+    ∷ asks (nextAnswer sides wordsT 27) 0 2 0 0
+    ∷ asks (nextAnswer sides wordsT 28) 13 0 0 0
+    -- 5×5×5: words 2,147,483,648 and 536,870,912, count 2; with a stored count of 3 loading answers 14
+    ∷ words (indexOf 125 (two .flags)) (2147483648 ∷ 536870912 ∷ 2 ∷ [])
+    ∷ loads (loadAnswer cube two (index wordsTwo (2 ∷ []))) 0
+    ∷ loads (loadAnswer cube two (index wordsTwo (3 ∷ []))) 14
+    -- next from 0: 31, 1 word; 32: 93, 2; 64: 93, 1; 94: none, 1; 125: none, 0
+    ∷ asks (nextAnswer cube wordsTwo 0) 0 1 31 1
+    ∷ asks (nextAnswer cube wordsTwo 32) 0 1 93 2
+    ∷ asks (nextAnswer cube wordsTwo 64) 0 1 93 1
+    ∷ asks (nextAnswer cube wordsTwo 94) 0 2 0 1
+    ∷ asks (nextAnswer cube wordsTwo 125) 0 2 0 0
+    -- a bit past N: loading 14 at 0; how many still 2; next from 94 none, 1
+    ∷ loads (loadAnswer cube two (index past (2 ∷ []))) 14
+    ∷ counts (countAnswer cube past) 2
+    ∷ asks (nextAnswer cube past 94) 0 2 0 1
     ∷ []
 
 -- two lists of numbers are the same

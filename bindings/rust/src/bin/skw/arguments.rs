@@ -114,9 +114,19 @@ impl Arguments {
 
     /// The next word as a whole number; what it is called is the usage's word for it.
     pub fn number<T: FromStr>(&mut self, called: &str) -> Result<T, Failure> {
-        let Some(word) = self.words.pop_front() else {
-            return Err(self.wrong(format!("{called} is missing")));
-        };
+        match self.words.pop_front() {
+            Some(word) => self.whole(called, &word),
+            None => Err(self.wrong(format!("{called} is missing"))),
+        }
+    }
+
+    /// What was said behind an option, as a whole number.
+    pub fn chosen<T: FromStr>(&self, choice: &Choice) -> Result<Option<T>, Failure> {
+        let called = choice.value.unwrap_or(choice.name);
+        self.value(choice).map(|word| self.whole(called, word)).transpose()
+    }
+
+    fn whole<T: FromStr>(&self, called: &str, word: &OsStr) -> Result<T, Failure> {
         let text = word.to_str().unwrap_or("");
         let digits = text.strip_prefix('-').unwrap_or(text);
         let plain = !digits.is_empty() && digits.bytes().all(|byte| byte.is_ascii_digit());

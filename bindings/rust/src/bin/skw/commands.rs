@@ -8,6 +8,7 @@ mod point;
 mod profile;
 mod run;
 mod step;
+mod surface;
 mod water;
 mod write;
 
@@ -38,5 +39,6 @@ pub const COMMANDS: &[Command] = &[
     point::COMMAND,
     depth::COMMAND,
     profile::COMMAND,
+    surface::COMMAND,
     draw::COMMAND,
 ];
