@@ -1,4 +1,4 @@
-// Three small records, whose every prefix and every changed byte is tried.
+// Four small records, whose every prefix and every changed byte is tried.
 
 use oracle::grid::Grid;
 use oracle::lattice::ONE;
@@ -10,18 +10,21 @@ use oracle::Settings;
 pub enum Small {
     /// Case T of document 01.
     CaseT,
+    /// The same with three numbers in section 4, after a pour and a take.
+    Pumped,
     /// An interface cell that fills towards an empty one.
     Filling,
     /// Fluid, and beside it an interface cell that empties.
     Emptying,
 }
 
-pub const SMALL: [Small; 3] = [Small::CaseT, Small::Filling, Small::Emptying];
+pub const SMALL: [Small; 4] = [Small::CaseT, Small::Pumped, Small::Filling, Small::Emptying];
 
 impl Small {
     pub fn name(self) -> &'static str {
         match self {
             Small::CaseT => "case T",
+            Small::Pumped => "case T, pumped",
             Small::Filling => "the filling cell",
             Small::Emptying => "the emptying cell",
         }
@@ -34,6 +37,7 @@ impl Small {
         };
         match self {
             Small::CaseT => case_t(),
+            Small::Pumped => pumped(),
             Small::Filling => pair([still(INTERFACE, ONE + 2000), Cell::blank(EMPTY)]),
             Small::Emptying => pair([still(FLUID, ONE), still(INTERFACE, -3000)]),
         }
@@ -42,6 +46,16 @@ impl Small {
     pub fn record(self) -> Vec<u8> {
         self.scene().record()
     }
+}
+
+/// Case T with 100,000 poured and 5,000 taken.
+fn pumped() -> Scene {
+    let mut scene = case_t();
+    let cell = &mut scene.state.cells[13];
+    cell.mass += 95_000;
+    cell.fill = cell.worked_out_fill();
+    (scene.state.poured, scene.state.taken, scene.numbers) = (100_000, 5_000, 3);
+    scene
 }
 
 /// Two cells along x with walls around them.

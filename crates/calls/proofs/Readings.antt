@@ -177,10 +177,10 @@ module _ (r : List ℕ) (a : Held) where
         yes = told ∙ not-false u w
 
         abbrev part : List ℕ
-        part = let z = promise.spanOf (length r) h in take (z .to - z .from) (drop (z .from) r)
+        part = let z = promise.spanOf r h in take (z .to - z .from) (drop (z .from) r)
 
         pub part-is : part ≡ base.readFlags r (a .set)
-        part-is = ap (λ (g : Head). let z = promise.spanOf (length r) g in take (z .to - z .from) (drop (z .from) r)) (d .head-is) ∙ span-read r (a .set) .0
+        part-is = ap (λ (g : Head). let z = promise.spanOf r g in take (z .to - z .from) (drop (z .from) r)) (d .head-is) ∙ span-read r (a .set) .0
 
         pub part-length : length part ≡ cellsIn r
         part-length =

@@ -1,11 +1,11 @@
 -- `reading::take::take`: the passes leave the state of the record, and behind them the three totals are written. Assumes nothing.
 use borrow.Author.Needs.{needs}
-use mathlib.Core.Path.{_≡_, sym, ap, ap₂, _∙_}
+use mathlib.Core.Path.{_≡_, sym, ap, _∙_, subst}
 use mathlib.Core.List.{List, [], _∷_}
-use Prim.Native.Nat.{ℕ, _+_, _*_, _-_, _≤_}
+use Prim.Native.Nat.{ℕ, _+_, _*_, _-_, _≤_, _<_}
 use native.Mathlib.Omega.{arith}
 use lib.IntN.{ℤ}
-use lib.ListN.{length, take, drop, set}
+use lib.ListN.{length, take, drop, set, length-set}
 use denote.Ref.{now}
 use mir.Syntax.{w64}
 use mir.ValLaws.{toZ-ofZ}
@@ -152,14 +152,17 @@ later-in-requires c κs = (d (first c) .pre .0 .totals .inside, omega arith)
 later-in-requires-2 : tie.Need-later-in-requires-2
 later-in-requires-2 c κs = (d (first (c .before)) .pre .0 .totals .inside, omega arith)
 
+held : (c : tie.After-later-in2) → length (now (d (first (c .before .before)) .args .carry)) ≡ 3
+held c = d (first (c .before .before)) .pre .1 .1 .1 .1 .1 .1
+
 slice-set-from-kept : tie.Need-slice-set-from-kept
-slice-set-from-kept c = search needs
+slice-set-from-kept c = omega (arith, held c)
 
 slice-set-from-poured : tie.Need-slice-set-from-poured
-slice-set-from-poured c = search needs
+slice-set-from-poured c = subst (λ (m : ℕ). 1 < m) (sym (length-set _ 0 _ ∙ held c)) (omega arith)
 
 slice-set-from-taken : tie.Need-slice-set-from-taken
-slice-set-from-taken c = search needs
+slice-set-from-taken c = subst (λ (m : ℕ). 2 < m) (sym (length-set _ 1 _ ∙ length-set _ 0 _ ∙ held c)) (omega arith)
 
 same-length : tie.Need-same-length
 same-length c = search needs
@@ -178,7 +181,7 @@ three : (l : List ℤ) {x y z u v w : ℤ} → length l ≡ 3 → x ≡ u → y 
 three [] h e g k = absurd (omega arith)
 three (a ∷ []) h e g k = absurd (omega arith)
 three (a ∷ b ∷ []) h e g k = absurd (omega arith)
-three (a ∷ b ∷ c ∷ []) {u = u} h e g k = ap₂ (λ (x y : ℤ). x ∷ y ∷ _ ∷ []) e g ∙ ap (λ (z : ℤ). u ∷ _ ∷ z ∷ []) k
+three (a ∷ b ∷ c ∷ []) h e g k = λ i. e i ∷ g i ∷ k i ∷ []
 three (a ∷ b ∷ c ∷ m ∷ l) h e g k = absurd (omega arith)
 
 returns : tie.Need-returns
