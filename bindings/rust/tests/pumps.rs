@@ -86,7 +86,7 @@ fn skw_pours_and_takes_from_record_to_record() {
     let poured = skw(&["pour", "13", "100000"], CASE_T);
     assert_eq!(poured.status.code(), Some(0));
     let told = String::from_utf8(poured.stderr).unwrap();
-    assert_eq!(told, "skw: 100,000 poured, 394,912 in cell 13, balance 294,912\n");
+    assert_eq!(told, "100,000 units poured; cell 13 holds 394,912; balance 294,912 units\n");
     let taken = skw(&["take", "13", "589824", "-q"], &poured.stdout);
     assert_eq!((taken.status.code(), &taken.stderr[..]), (Some(0), &b""[..]));
     let grid = Grid::read(&taken.stdout).unwrap().grid;

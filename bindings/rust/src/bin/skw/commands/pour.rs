@@ -31,7 +31,7 @@ fn act(mut arguments: Arguments) -> Result<(), Failure> {
     if !arguments.has(&QUIET) {
         let (left, balance) = (record.grid.state().masses[cell], record.grid.water().balance());
         remark(&format!(
-            "skw: {} poured, {} in cell {cell}, balance {}",
+            "{} units poured; cell {cell} holds {}; balance {} units",
             grouped(moved),
             grouped(left),
             grouped(balance)

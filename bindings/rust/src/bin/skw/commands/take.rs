@@ -32,7 +32,7 @@ fn act(mut arguments: Arguments) -> Result<(), Failure> {
     if !arguments.has(&QUIET) {
         let (left, balance) = (record.grid.state().masses[cell], record.grid.water().balance());
         remark(&format!(
-            "skw: {} taken, {} in cell {cell}, balance {}",
+            "{} units taken; cell {cell} holds {}; balance {} units",
             grouped(moved),
             grouped(left),
             grouped(balance)
