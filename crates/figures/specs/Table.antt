@@ -110,7 +110,6 @@ drained = actSet false 13 (pos 589824) (actSet true 13 (pos 100000) still)
 abbrev full : Lent
 full = actSet true 13 ONE (actSet true 13 ONE (actSet true 13 ONE (actSet true 13 ONE drained)))
 
-
 -- the table
 abbrev pub figures : List Figure
 figures =
