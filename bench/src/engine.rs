@@ -1,6 +1,6 @@
-// What every step in whole numbers offers here: the step and the run of document 01 over the same lent sets.
+// What every step in whole numbers offers here: the step and the run of document 01 over the same lent sets, each with its index.
 
-use oracle::{Set, SetMut};
+use oracle::{Held, HeldMut, SetMut};
 
 /// The settings that a step takes.
 #[derive(Clone, Copy, Debug, PartialEq, Eq)]
@@ -31,10 +31,10 @@ pub struct Ran {
     pub answer: Answer,
 }
 
-pub type Step = fn([usize; 3], Settings, Set, SetMut, &mut [u8]) -> Answer;
-pub type Run = fn([usize; 3], Settings, usize, SetMut, SetMut, &mut [u8]) -> Ran;
+pub type Step = fn([usize; 3], Settings, Held, HeldMut, &mut [u8]) -> Answer;
+pub type Run = fn([usize; 3], Settings, usize, HeldMut, HeldMut, &mut [u8]) -> Ran;
 
-/// One implementation of document 01's step and run.
+/// One implementation of document 01's step and run. Only the proved one looks at the index, and keeps it.
 #[derive(Clone, Copy)]
 pub struct Engine {
     pub name: &'static str,

@@ -4,7 +4,7 @@ use std::ops::Range;
 
 use oracle::random::Random;
 use oracle::scenes::good;
-use oracle::{Refusal, Store};
+use oracle::{Held, HeldMut, IndexStore, Refusal, Store};
 
 use crate::engine::{Answer, Engine, Ran, Settings, ACCEPTED};
 use crate::lattice::Grid;
@@ -74,7 +74,13 @@ fn oracle_run(
     Ran { count: ran.count as usize, answer: numbered(ran.refusal) }
 }
 
-pub const ORACLE: Engine = Engine { name: "oracle", step: oracle_step, run: oracle_run };
+pub const ORACLE: Engine = Engine {
+    name: "oracle",
+    step: |sides, settings, first, second, marks| oracle_step(sides, settings, first.set, second.set, marks),
+    run: |sides, settings, steps, first, second, marks| {
+        oracle_run(sides, settings, steps, first.set, second.set, marks)
+    },
+};
 
 impl Case {
     /// The scene's state in the first set; the second set and the marks hold what a step must overwrite.
@@ -92,13 +98,23 @@ impl Case {
         Case::of(scene.sides, scene.settings, &scene.store)
     }
 
+    /// The first set's own, and one to be written: what an engine makes of them, compare/ looks at.
+    fn indexes(&self) -> [IndexStore; 2] {
+        let index = IndexStore::of(&self.first.flags);
+        [index.clone(), index]
+    }
+
     pub fn step(&mut self, engine: Engine) -> Answer {
-        let second = self.second.lend_mut();
-        (engine.step)(self.sides, self.settings, self.first.lend(), second, &mut self.marks)
+        let [index, mut other] = self.indexes();
+        let first = Held { set: self.first.lend(), index: index.lend() };
+        let second = HeldMut { set: self.second.lend_mut(), index: other.lend_mut() };
+        (engine.step)(self.sides, self.settings, first, second, &mut self.marks)
     }
 
     pub fn run(&mut self, engine: Engine, steps: usize) -> Ran {
-        let (first, second) = (self.first.lend_mut(), self.second.lend_mut());
+        let [mut index, mut other] = self.indexes();
+        let first = HeldMut { set: self.first.lend_mut(), index: index.lend_mut() };
+        let second = HeldMut { set: self.second.lend_mut(), index: other.lend_mut() };
         (engine.run)(self.sides, self.settings, steps, first, second, &mut self.marks)
     }
 

@@ -2,7 +2,7 @@
 
 use std::time::Instant;
 
-use oracle::Store;
+use oracle::HeldStore;
 
 use crate::engine::{Answer, Engine, Settings, ACCEPTED};
 use crate::float::{self, FloatStore};
@@ -52,9 +52,9 @@ pub enum Way {
 pub struct Bench {
     sides: [usize; 3],
     settings: Settings,
-    start: Store,
-    first: Store,
-    second: Store,
+    start: HeldStore,
+    first: HeldStore,
+    second: HeldStore,
     marks: Vec<u8>,
 }
 
@@ -68,7 +68,10 @@ pub struct FloatBench {
     marks: Vec<u8>,
 }
 
-fn copy(from: &Store, to: &mut Store) {
+fn copy(from: &HeldStore, to: &mut HeldStore) {
+    to.index.words.copy_from_slice(&from.index.words);
+    to.index.count.copy_from_slice(&from.index.count);
+    let (from, to) = (&from.set, &mut to.set);
     to.flags.copy_from_slice(&from.flags);
     to.parts.copy_from_slice(&from.parts);
     to.masses.copy_from_slice(&from.masses);
@@ -84,12 +87,12 @@ fn expect_accepted(name: &str, answer: Answer) {
 impl Bench {
     /// The scene's own state, or that after so many steps.
     pub fn new(scene: &Scene, warm_up: usize) -> Bench {
-        let (first, second) = (scene.store.clone(), scene.store.clone());
-        let marks = vec![0; first.flags.len()];
+        let start = HeldStore::of(scene.store.clone());
+        let marks = vec![0; scene.store.flags.len()];
         let (sides, settings) = (scene.sides, scene.settings);
-        let mut bench = Bench { sides, settings, start: scene.store.clone(), first, second, marks };
+        let mut bench = Bench { sides, settings, first: start.clone(), second: start.clone(), start, marks };
         bench.go(PLAIN, Way::Run, warm_up);
-        bench.start = bench.first.clone();
+        bench.start = HeldStore::of(bench.first.set.clone());
         bench
     }
 
@@ -117,7 +120,7 @@ impl Bench {
 
 impl FloatBench {
     pub fn new(bench: &Bench) -> FloatBench {
-        let start = FloatStore::of(&bench.start);
+        let start = FloatStore::of(&bench.start.set);
         FloatBench {
             grid: Grid::new(bench.sides).expect("a scene's sides are in range"),
             settings: bench.settings,
@@ -177,13 +180,13 @@ pub fn measure(scene: &Scene, engines: &[Engine], effort: Effort) -> Vec<Measure
         }
     }
     let names = engines.iter().map(|engine| engine.name).chain(["f32"]);
-    let liquid = liquid_cells(&bench.start.flags);
+    let liquid = liquid_cells(&bench.start.set.flags);
     names
         .zip(rounds)
         .map(|(name, [step, run])| Measured {
             scene: scene.name,
             side: scene.sides[0],
-            cells: bench.start.flags.len(),
+            cells: bench.start.set.flags.len(),
             liquid,
             name,
             step: Time::of(step),

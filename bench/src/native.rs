@@ -15,8 +15,8 @@ pub fn proved() -> Option<Engine> {
 
 #[cfg(feature = "library")]
 mod linked {
-    use oracle::{Set, SetMut};
-    use skwarzyna::{lent, Refusal, State, StateMut};
+    use oracle::{Held, HeldMut};
+    use skwarzyna::{lent, Index, IndexMut, Refusal, State, StateMut};
 
     use crate::engine::{Answer, Ran, Settings, ACCEPTED};
 
@@ -28,20 +28,38 @@ mod linked {
         skwarzyna::Settings { p, gx, gy, gz }
     }
 
-    fn state(Set { flags, parts, masses, fills, carry }: Set) -> State {
-        State { flags, parts, masses, fills, carry }
+    fn held(Held { set, index }: Held) -> skwarzyna::Held {
+        skwarzyna::Held {
+            state: State {
+                flags: set.flags,
+                parts: set.parts,
+                masses: set.masses,
+                fills: set.fills,
+                carry: set.carry,
+            },
+            index: Index { words: index.words, count: index.count },
+        }
     }
 
-    fn state_mut(SetMut { flags, parts, masses, fills, carry }: SetMut) -> StateMut {
-        StateMut { flags, parts, masses, fills, carry }
+    fn held_mut(HeldMut { set, index }: HeldMut) -> skwarzyna::HeldMut {
+        skwarzyna::HeldMut {
+            state: StateMut {
+                flags: set.flags,
+                parts: set.parts,
+                masses: set.masses,
+                fills: set.fills,
+                carry: set.carry,
+            },
+            index: IndexMut { words: index.words, count: index.count },
+        }
     }
 
     fn refused(refusal: Refusal) -> Answer {
         Answer { number: refusal.number, place: refusal.place }
     }
 
-    pub fn step(size: [usize; 3], wish: Settings, first: Set, second: SetMut, marks: &mut [u8]) -> Answer {
-        lent::step(sides(size), settings(wish), state(first), state_mut(second), marks)
+    pub fn step(size: [usize; 3], wish: Settings, first: Held, second: HeldMut, marks: &mut [u8]) -> Answer {
+        lent::step(sides(size), settings(wish), held(first), held_mut(second), marks)
             .map_or_else(refused, |()| ACCEPTED)
     }
 
@@ -49,11 +67,11 @@ mod linked {
         size: [usize; 3],
         wish: Settings,
         steps: usize,
-        first: SetMut,
-        second: SetMut,
+        first: HeldMut,
+        second: HeldMut,
         marks: &mut [u8],
     ) -> Ran {
-        match lent::run(sides(size), settings(wish), steps, state_mut(first), state_mut(second), marks) {
+        match lent::run(sides(size), settings(wish), steps, held_mut(first), held_mut(second), marks) {
             Ok(()) => Ran { count: steps, answer: ACCEPTED },
             Err(stopped) => Ran { count: stopped.count, answer: refused(stopped.refusal) },
         }

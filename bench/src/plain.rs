@@ -7,7 +7,13 @@ use crate::lattice::{
     add, at, opposite, put, Changes, Grid, EMPTIED, EMPTY, FILLED, FLUID, INTERFACE, NOTHING, OPEN, WALL,
 };
 
-pub const PLAIN: Engine = Engine { name: "plain i64", step, run };
+pub const PLAIN: Engine = Engine {
+    name: "plain i64",
+    step: |sides, settings, first, second, marks| step(sides, settings, first.set, second.set, marks),
+    run: |sides, settings, steps, first, second, marks| {
+        run(sides, settings, steps, first.set, second.set, marks)
+    },
+};
 
 const FULL: i64 = 65_536;
 const PART_LIMIT: i64 = 1_179_648;
