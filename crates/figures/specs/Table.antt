@@ -11,6 +11,9 @@ use Rattle.grid.specs.State.{Lent, Scene}
 use Rattle.grid.specs.Step.{newFlag, newPart, newMass, newFill, excess, normal, gift}
 use Rattle.lattice.specs.Body.{eqZ}
 use Rattle.grid.specs.Outcome.{numberOf, placeOf, checkAnswer, sceneOf, stepAnswer, stepSecond, stepMarks}
+use Rattle.pumps.specs.Three.{numberIn, withTotals}
+use Rattle.pumps.specs.Acts.{actedNumber, actedPlace, actedMoved, movedOf, actAnswer, actSet, actedBy}
+use Rattle.pumps.specs.Demands.{balance}
 use Rattle.index.specs.declared.Counted.{Counted}
 use Rattle.index.specs.declared.Next.{Next}
 use Rattle.index.specs.Index.{Index, index, indexOf}
@@ -93,6 +96,24 @@ asks a number kind cell read =
 abbrev ONE : ℤ
 ONE = pos 589824
 
+-- an act on case T, whose carry slice holds three numbers: number, place and what was moved; and mass, fill, poured, taken and the balance after it
+abbrev still : Lent
+still = withTotals caseT (pos 0) (pos 0)
+
+abbrev told : Bool → ℕ → ℤ → Lent → List ℤ
+told pour c amount a =
+    let r = actedBy (actAnswer pour sides c amount a) (movedOf pour amount (getD (a .masses) c (pos 0))) in
+    pos (actedNumber r) ∷ pos (actedPlace r) ∷ actedMoved r ∷ []
+
+abbrev centre : Lent → List ℤ
+centre a = getD (a .masses) 13 (pos 0) ∷ pos (getD (a .fills) 13 0) ∷ numberIn a 1 ∷ numberIn a 2 ∷ balance sides a ∷ []
+
+abbrev drained : Lent
+drained = actSet false 13 (pos 589824) (actSet true 13 (pos 100000) still)
+
+abbrev full : Lent
+full = actSet true 13 ONE (actSet true 13 ONE (actSet true 13 ONE (actSet true 13 ONE drained)))
+
 -- the table
 abbrev pub figures : List Figure
 figures =
@@ -160,6 +181,19 @@ figures =
     ∷ profiled (profileAnswer (along (pos 0) (points 10000000001)) (chainages 2000) 6 7) 2 0 0 0
     -- no points: 22 at 0
     ∷ profiled (profileAnswer (along (pos 50) []) [] 0 0) 22 0 0 0
+    -- P5, case T, one act after another: pour 100,000 at 13; take 589,824; take 5; pour 589,825, at 12, at 27; pour 589,824 four times; pour 1
+    ∷ record { worked = told true 13 (pos 100000) still; said = pos 0 ∷ pos 0 ∷ pos 100000 ∷ [] }
+    ∷ record { worked = centre (actSet true 13 (pos 100000) still); said = pos 394912 ∷ pos 43879 ∷ pos 100000 ∷ pos 0 ∷ pos 294912 ∷ [] }
+    ∷ record { worked = told false 13 ONE (actSet true 13 (pos 100000) still); said = pos 0 ∷ pos 0 ∷ pos 394912 ∷ [] }
+    ∷ record { worked = centre drained; said = pos 0 ∷ pos 0 ∷ pos 100000 ∷ pos 394912 ∷ pos 294912 ∷ [] }
+    ∷ record { worked = told false 13 (pos 5) drained; said = pos 0 ∷ pos 0 ∷ pos 0 ∷ [] }
+    ∷ record { worked = centre (actSet false 13 (pos 5) drained); said = pos 0 ∷ pos 0 ∷ pos 100000 ∷ pos 394912 ∷ pos 294912 ∷ [] }
+    ∷ record { worked = told true 13 (pos 589825) drained; said = pos 16 ∷ pos 0 ∷ pos 0 ∷ [] }
+    ∷ record { worked = told true 12 (pos 1) drained; said = pos 15 ∷ pos 12 ∷ pos 0 ∷ [] }
+    ∷ record { worked = told true 27 (pos 1) drained; said = pos 13 ∷ pos 0 ∷ pos 0 ∷ [] }
+    ∷ record { worked = told true 13 ONE (actSet true 13 ONE (actSet true 13 ONE (actSet true 13 ONE drained))); said = pos 0 ∷ pos 0 ∷ ONE ∷ [] }
+    ∷ record { worked = centre full; said = pos 2359296 ∷ pos 65536 ∷ pos 2459296 ∷ pos 394912 ∷ pos 294912 ∷ [] }
+    ∷ record { worked = told true 13 (pos 1) full; said = pos 16 ∷ pos 0 ∷ pos 0 ∷ [] }
     -- case T: one word 8,192, count 1; next from 0 and 13: cell 13, 1 word; from 14: none, 1; from 27: none, 0; from 28: 13 at 0
     ∷ words (indexOf 27 (caseT .flags)) (8192 ∷ 1 ∷ [])
     ∷ loads (loadAnswer sides caseT (index wordsT (1 ∷ []))) 0

@@ -5,6 +5,7 @@ pub mod Closed
 pub mod Pairs
 pub mod Total
 pub mod Same
+pub mod Arrays
 pub mod Accepted
 pub mod Reached
 pub mod Listed

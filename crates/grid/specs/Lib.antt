@@ -9,4 +9,5 @@ pub mod Passes
 pub mod Between
 pub mod Sight
 pub mod Pasted
+pub mod Fill
 pub mod Halfway

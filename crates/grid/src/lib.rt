@@ -3,6 +3,7 @@ pub mod cells;
 pub mod checking;
 pub mod copying;
 pub mod extent;
+pub mod fill;
 pub mod fluid;
 pub mod kinds;
 pub mod layer;

@@ -62,7 +62,7 @@ fn save(
     io::write_all(STDOUT_FILENO, &room[..n]);
 }
 
-// The run and its line; whether a state was reached.
+// The run and its line; whether a state was reached. The run is lent the carry alone: poured and taken stay beside it.
 fn go(
     steps: usize,
     flags: &mut [u8],
@@ -79,13 +79,16 @@ fn go(
     s: Sides,
     g: Settings,
 ) -> bool {
+    if carry.len() == 0 {
+        return false;
+    }
     let ran = running::run(
         steps,
         flags,
         parts,
         masses,
         fills,
-        carry,
+        &mut carry[..1],
         flags2,
         parts2,
         masses2,

@@ -1,5 +1,6 @@
 -- From a layer's own promise to the exported call's: number and place of the answer, the rest as it stands. Assumes nothing.
 use mathlib.Core.Path.{_≡_, ap, _∙_, subst}
+use mathlib.Core.Bool.{Bool}
 use mathlib.Core.List.{List}
 use Prim.Native.Nat.{ℕ, _-_}
 use lib.IntN.{ℤ}
@@ -10,6 +11,8 @@ use Rattle.grid.specs.declared.Sides.{Sides}
 use Rattle.grid.specs.declared.Answer.{Answer}
 use Rattle.grid.specs.State.{Lent}
 use Rattle.grid.specs.Outcome.{numberOf, placeOf}
+use Rattle.pumps.specs.declared.Acted.{Acted}
+use Rattle.pumps.specs.Acts.{actedNumber, actedPlace, actedMoved, ActTold}
 use Rattle.record.specs.declared.Site.{Site}
 use Rattle.record.specs.declared.Written.{Written}
 use Rattle.record.specs.declared.Head.{Head}
@@ -27,7 +30,7 @@ use Rattle.profile.specs.declared.Frame.{Frame}
 use Rattle.profile.specs.declared.Profiled.{Profiled}
 use Rattle.profile.specs.Profile.{survey}
 use Rattle.profile.specs.Outcome.{profiledNumber, profiledPlace, wetOf, deepestOf, Told}
-use Rattle.host.specs.Promise.{StepTold, RunTold, ReadTold, WriteTold, PlaceTold, ProfileTold}
+use Rattle.host.specs.Promise.{ActDone, StepTold, RunTold, ReadTold, WriteTold, PlaceTold, ProfileTold}
 
 -- the settings k that the layer was given are the call's own, g
 pub step-told : {s : Sides} {g k : Settings} {a b : Held} {marks : List ℕ} {answer : Answer} {number place : ℕ} {second : Held} {after : List ℕ}
@@ -43,6 +46,13 @@ pub run-told : {steps : ℕ} {s : Sides} {g k : Settings} {a b : Held} {marks : 
 run-told {steps} {s} {a = a} {b = b} {marks = marks} {count = count} {number = number} {place = place} {first = first} {second = second} {after = after} e h n p =
     subst (λ (x : Settings). RunTold steps s x a b marks count number place first second after) e
     (record { count-is = h .count-is; number-is = n ∙ ap numberOf (h .answer-is); place-is = p ∙ ap placeOf (h .answer-is); first-is = h .first-is; second-is = h .second-is; marks-are = h .marks-are })
+
+-- the amount that the act was given is the call's own
+pub act-told : {pour : Bool} {s : Sides} {c : ℕ} {amount k : ℤ} {a : Lent} {r : Acted} {number place : ℕ} {moved : ℤ} {after : Lent}
+    → k ≡ amount → ActTold pour s c k a r after → number ≡ actedNumber r → place ≡ actedPlace r → moved ≡ actedMoved r → ActDone pour s c amount a number place moved after
+act-told {pour} {s} {c} {a = a} {number = number} {place = place} {moved = moved} {after = after} e h n p m =
+    subst (λ (x : ℤ). ActDone pour s c x a number place moved after) e
+    (record { number-is = n ∙ ap actedNumber (h .answer-is); place-is = p ∙ ap actedPlace (h .answer-is); moved-is = m ∙ ap actedMoved (h .answer-is); set-is = h .set-is })
 
 -- and so is the site
 pub write-told : {s : Sides} {g k : Settings} {t u : Site} {a : Lent} {room : List ℕ} {w : Written} {number place bytes : ℕ} {after : List ℕ}
@@ -68,11 +78,11 @@ place-told {s} ee eo eq h n p c =
 
 -- the head's numbers, and where its flags stand
 pub read-told : {r : List ℕ} {a : Held} {head : Head} {span : Span} {number place : ℕ} {s : Sides} {g : Settings} {t : Site} {parts masses : List ℤ} {fills : List ℕ} {carry : List ℤ} {index : Index}
-    → Read r a head parts masses fills carry index → span ≡ spanOf (length r) head → number ≡ numberOf (head .answer) → place ≡ placeOf (head .answer)
+    → Read r a head parts masses fills carry index → span ≡ spanOf r head → number ≡ numberOf (head .answer) → place ≡ placeOf (head .answer)
     → s ≡ head .sides → g ≡ head .settings → t ≡ head .site
     → ReadTold r a number place s g t (span .from) (span .to) parts masses fills carry index
 read-told {r} {a} h f n p es eg et =
-    let e = f ∙ ap (spanOf (length r)) (h .head-is) in
+    let e = f ∙ ap (spanOf r) (h .head-is) in
     record {
       number-is = n ∙ ap (λ (x : Head). numberOf (x .answer)) (h .head-is);
       place-is = p ∙ ap (λ (x : Head). placeOf (x .answer)) (h .head-is);

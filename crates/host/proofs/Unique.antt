@@ -1,5 +1,6 @@
 -- Unique: no second number, place or value, and no second content of a lent slice, fits what an exported call promises. Assumes nothing.
 use mathlib.Core.Path.{_≡_, sym, _∙_}
+use mathlib.Core.Bool.{Bool}
 use mathlib.Core.List.{List}
 use Prim.Native.Nat.{ℕ}
 use lib.Dec.{lit<}
@@ -20,13 +21,17 @@ use Rattle.tunnel.specs.Kinds.{readingSum}
 use Rattle.profile.specs.Profile.{Survey}
 use Rattle.profile.specs.Outcome.{testsAnswer}
 use Rattle.profile.proofs.Telling.{by-one}
-use Rattle.host.specs.Promise.{CheckTold, LoadTold, CountTold, NextTold, StepTold, RunTold, ReadTold, WriteTold, PlaceTold, PointTold, DepthTold, ProfileTold}
+use Rattle.host.specs.Promise.{CheckTold, LoadTold, ActDone, CountTold, NextTold, StepTold, RunTold, ReadTold, WriteTold, PlaceTold, PointTold, DepthTold, ProfileTold}
 
 pub check-unique : (s : Sides) (a : Lent) {n m p q : ℕ} → CheckTold s a n p → CheckTold s a m q → (n ≡ m) × (p ≡ q)
 check-unique s a x y = (x .number-is ∙ sym (y .number-is), x .place-is ∙ sym (y .place-is))
 
 pub load-unique : (s : Sides) (a : Held) {n m p q : ℕ} → LoadTold s a n p → LoadTold s a m q → (n ≡ m) × (p ≡ q)
 load-unique s a x y = (x .number-is ∙ sym (y .number-is), x .place-is ∙ sym (y .place-is))
+
+pub act-unique : (pour : Bool) (s : Sides) (c : ℕ) (amount : ℤ) (a : Lent) {n m p q : ℕ} {u v : ℤ} {x y : Lent} → ActDone pour s c amount a n p u x → ActDone pour s c amount a m q v y
+    → (n ≡ m) × (p ≡ q) × (u ≡ v) × (x ≡ y)
+act-unique pour s c amount a x y = (x .number-is ∙ sym (y .number-is), x .place-is ∙ sym (y .place-is), x .moved-is ∙ sym (y .moved-is), x .set-is ∙ sym (y .set-is))
 
 pub count-unique : (s : Sides) (words : List ℕ) {n m p q i j : ℕ} → CountTold s words n p i → CountTold s words m q j → (n ≡ m) × (p ≡ q) × (i ≡ j)
 count-unique s words x y = (x .number-is ∙ sym (y .number-is), x .place-is ∙ sym (y .place-is), x .cells-are ∙ sym (y .cells-are))

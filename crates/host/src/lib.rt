@@ -1,4 +1,4 @@
-// The C interface: check, loading, the surface's two questions, step, run, reader, writer, placing, cell point, depth and profile, over numbers and slices
+// The C interface: check, pour and take, loading, the surface's two questions, step, run, reader, writer, placing, cell point, depth and profile, over numbers and slices
 // alone. A slice passes as pointer, then length; a result as the refusal's number, 0 if accepted, with place and values through the numbers lent for them.
 mod answers;
 pub mod check;
@@ -9,6 +9,8 @@ pub mod many_steps;
 pub mod one_step;
 pub mod place;
 pub mod point;
+pub mod pour;
 pub mod read;
 pub mod surface;
+pub mod take;
 pub mod write;

@@ -17,7 +17,7 @@ use Rattle.lattice.specs.Body.{vec, Tame}
 use Rattle.lattice.specs.declared.Flow.{Flow}
 use Rattle.grid.proofs.Same.{density-same}
 use Rattle.flow.proofs.Spans.{short}
-use Rattle.turn.specs.Filled.{Weighty}
+use Rattle.grid.specs.Fill.{Weighty}
 
 -- ---- the formulas of stages 4 and 5
 module _ {ρ : ℤ} (low : pos 294912 ≤ℤ ρ) (high : Within ρ 1179648) where

@@ -35,7 +35,8 @@ use Rattle.flow.proofs.Collisions.{relaxation-of}
 use Rattle.flow.proofs.Onward.{collided-seen}
 use Rattle.flow.proofs.Spans.{streamed-in, weight-low}
 use Rattle.turn.specs.Born.{Tested, flowSight}
-use Rattle.turn.specs.Filled.{Weighty, Fillable, Refilled, partOf, fillAt, fairMass, fairAt}
+use Rattle.grid.specs.Fill.{Weighty, partOf}
+use Rattle.turn.specs.Filled.{Fillable, Refilled, fillAt, fairMass, fairAt}
 use Rattle.turn.proofs.Births.{wet-low}
 use Rattle.turn.proofs.Means.{born-tame}
 use Rattle.turn.proofs.Offspring.{tested, within, born-seen, fed, is-born, new-part}

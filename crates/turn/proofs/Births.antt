@@ -20,7 +20,7 @@ use Rattle.grid.proofs.Same.{density-same, momentum-same, body-same}
 use Rattle.flow.proofs.Spans.{streamed-in}
 use Rattle.turn.specs.Born.{NewFlow, Joined, Added, Begins, flowSight}
 use Rattle.turn.specs.declared.birth.Sum.{Sum}
-use Rattle.turn.proofs.Arrays.{part-is, density-is, momentum-is, bounded-is}
+use Rattle.grid.proofs.Arrays.{part-is, density-is, momentum-is, bounded-is}
 
 -- a liquid cell is no wall
 pub wet-low : (f : ℕ) → liquid f ≡ true → f < 3

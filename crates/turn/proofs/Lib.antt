@@ -1,4 +1,3 @@
-pub mod Arrays
 pub mod Weighed
 pub mod Fills
 pub mod Picked

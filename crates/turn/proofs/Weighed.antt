@@ -13,7 +13,8 @@ use Rattle.lattice.specs.Cell.{fillOf, massGood}
 use Rattle.lattice.specs.Lattice.{d3q19, density}
 use Rattle.grid.specs.Step.{fillFor}
 use Rattle.grid.proofs.Lists.{getD-there}
-use Rattle.turn.specs.Filled.{partOf, fillAt, plainFill, plainAt, fairMass, fairAt}
+use Rattle.grid.specs.Fill.{partOf}
+use Rattle.turn.specs.Filled.{fillAt, plainFill, plainAt, fairMass, fairAt}
 
 -- ---- by the flag
 pub plain-fluid : (f : ℕ) → f ≡ 2 → 65536 ≡ plainFill f

@@ -1,17 +1,12 @@
 // Stage 7: the fills, worked out afresh, and whether interface masses are still in their range.
-use grid::cells::own;
+use grid::fill::interface_fill;
 use grid::seeking::next_of;
-use lattice::fill::part_fill;
 use lattice::limits::fair_mass;
-use lattice::moments::density;
 use whole::wide;
 ghost use mathlib.Core.Path.{_≡_};
-ghost use Prim.Native.Nat.{_+_, _*_, _≤_};
 ghost use lib.ListN.{length};
 ghost use Rattle.whole.specs.Fold.{tab};
-ghost use Rattle.lattice.specs.Lattice.{d3q19, density};
-ghost use Rattle.lattice.specs.Cell.{fillOf};
-ghost use Rattle.turn.specs.Filled.{partOf, Weighty, Fillable, plainFill, plainAt, Refilled};
+ghost use Rattle.turn.specs.Filled.{Fillable, plainFill, plainAt, Refilled};
 
 // What a cell's fill is by its flag alone: a fluid cell is full, any other is taken as dry.
 fn plain_fill(f: u8) -> u32
@@ -33,14 +28,6 @@ fn plain_fills(flags: &[u8], fill: &mut [u32])
         fill[c] = plain_fill(flags[c]);
         c += 1;
     }
-}
-
-// The fill of interface cell c, whose mass is m.
-fn interface_fill(parts: &[i32], m: i64, c: usize) -> u32
-    requires { ⌜ (19 * c + 19 ≤ length (now parts)) × Weighty (partOf (now parts) c) ⌝ }
-    ensures { λ r. ⌜ r ≡ fillOf m (density d3q19 (partOf (now (parts .entry)) c)) ⌝ }
-{
-    part_fill(m, wide(density(own(parts, c))))
 }
 
 // The fill of every cell; whether every interface cell's mass is in its range.

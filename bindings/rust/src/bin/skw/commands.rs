@@ -5,10 +5,12 @@ mod depth;
 mod draw;
 mod place;
 mod point;
+mod pour;
 mod profile;
 mod run;
 mod step;
 mod surface;
+mod take;
 mod water;
 mod write;
 
@@ -34,6 +36,8 @@ pub const COMMANDS: &[Command] = &[
     water::COMMAND,
     step::COMMAND,
     run::COMMAND,
+    pour::COMMAND,
+    take::COMMAND,
     write::COMMAND,
     place::COMMAND,
     point::COMMAND,

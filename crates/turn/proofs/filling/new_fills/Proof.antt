@@ -15,7 +15,7 @@ use Rattle.lattice.specs.Lattice.{d3q19, density}
 use Rattle.lattice.specs.Cell.{fillOf, massGood}
 use Rattle.grid.proofs.Lists.{getD-there}
 use Rattle.flow.proofs.Held.{held32, held64}
-use Rattle.turn.specs.Filled.{partOf}
+use Rattle.grid.specs.Fill.{partOf}
 use Rattle.turn.proofs.Weighed.{fill-here, fair-here}
 use Rattle.turn.proofs.Fills.{Passed, passed-none, passed-interface, passed-other, passed-gap, refilled}
 use Rattle.turn.proofs.filling.new_fills.Statement.{statement}

@@ -1,20 +1,19 @@
--- `turn::filling::interface_fill`: lattice's fill, by the density of the cell's own parts. Assumes nothing.
+-- `grid::fill::interface_fill`: lattice's fill, by the density of the cell's own parts. Assumes nothing.
 use borrow.Author.Needs.{needs}
 use mathlib.Core.Path.{_≡_, _∙_, ap₂}
 use Prim.Native.Nat.{_≤_}
 use native.Mathlib.Omega.{arith}
 use lib.IntN.{natAbs}
 use lib.Signed.{natAbs-le}
-use mir.Syntax.{w64}
+use mir.Syntax.{w32, w64}
 use mir.Val.{toZ, ofZ}
 use mir.Facts.{toZ-ofZ}
 use Rattle.lattice.specs.Lattice.{d3q19, density}
 use Rattle.lattice.specs.Cell.{fillOf}
-use Rattle.flow.proofs.Held.{held32, held64}
-use Rattle.turn.specs.Filled.{partOf}
-use Rattle.turn.proofs.Arrays.{density-is, bounded-is}
-use Rattle.turn.proofs.filling.interface_fill.Statement.{statement}
-use Rattle.turn.proofs.filling.interface_fill.Tie as tie
+use Rattle.grid.specs.Fill.{partOf}
+use Rattle.grid.proofs.Arrays.{density-is, bounded-is}
+use Rattle.grid.proofs.fill.interface_fill.Statement.{statement}
+use Rattle.grid.proofs.fill.interface_fill.Tie as tie
 
 own-requires : tie.Need-own-requires
 own-requires c κs = search needs
@@ -34,7 +33,9 @@ sum-of c =
     c .density .ensures ∙ density-is (c .before .own .result) (partOf (s .args .parts .now) (s .args .c)) (c .before .own .ensures)
 
 density-of : (c : tie.After-wide) → toZ w64 (ofZ w64 (c .wide .result)) ≡ c .before .density .result
-density-of c = held64 (c .wide .result) (c .wide .ok) ∙ c .wide .ensures ∙ held32 (c .before .density .result) (c .before .density .ok)
+density-of c =
+    toZ-ofZ {w = w64} {z = c .wide .result} (record { sfits = c .wide .ok }) ∙ c .wide .ensures
+    ∙ toZ-ofZ {w = w32} {z = c .before .density .result} (record { sfits = c .before .density .ok })
 
 part-fill-requires : tie.Need-part-fill-requires
 part-fill-requires c κs =
