@@ -102,6 +102,9 @@ enum { SKW_LINE_SOLID = 1, SKW_LINE_DRY = 2, SKW_LINE_DEEP = 3, SKW_LINE_OUTSIDE
 /* Words of the index of a grid with so many cells. */
 #define SKW_WORDS(cells) (((size_t)(cells) + 63) / 64)
 
+/* More pools than this no grid with these sides has; at most 62,511, so that a mark has room in two bytes. */
+#define SKW_POOLS_MOST(nx, ny, nz) ((((size_t)(nx)-1) * ((size_t)(ny)-1) * ((size_t)(nz)-1)) / 4)
+
 /* Length in bytes of the record of a grid with so many cells, interface cells and liquid cells (fluid and interface). */
 #define SKW_RECORD_BYTES(cells, interfaces, liquids) \
     ((size_t)108 + (size_t)(cells) + (size_t)4 * (size_t)(interfaces) + (size_t)76 * (size_t)(liquids))
@@ -110,7 +113,7 @@ enum { SKW_LINE_SOLID = 1, SKW_LINE_DRY = 2, SKW_LINE_DEEP = 3, SKW_LINE_OUTSIDE
 
 /*
  * Refusals: document 01's numbers, in the words of its table, and the place beside each. Where not said otherwise the tests come in
- * ascending order and the first that fails is told. All but 7 and 8 leave every lent slice as it was.
+ * ascending order and the first that fails is told. All but 7, 8 and 21 leave every lent slice as it was.
  */
 enum {
     SKW_ACCEPTED = 0,
@@ -146,6 +149,8 @@ enum {
     SKW_NOT_INTERFACE = 15,
     /* an amount outside 1 to 589,824, or one with which the mass would pass 2,359,296, or poured or taken 10^15; place 0 */
     SKW_BAD_AMOUNT = 16,
+    /* the list has room for fewer pools than there are; place: their number */
+    SKW_BAD_POOLS = 21,
     /* a profile's list has not 1 to 2,000 points; place 0 */
     SKW_BAD_LIST = 22,
     /* a profile's chainage is not above the one before; place: the first such point, from 0 */
@@ -394,6 +399,39 @@ uint8_t skw_profile(size_t nx, size_t ny, size_t nz,
                     float *depths, size_t depths_len,
                     uint8_t *wet, size_t *deepest,
                     size_t *place);
+
+/*
+ * POOLS: which water hangs together. A pool is a greatest set of liquid cells that chains of liquid neighbours, by the 18, join. Pools
+ * are numbered from 1 in the order of their lowest cells; *pools is how many there are.
+ *
+ *     counts    R      how many cells pool k has, at [k - 1]
+ *     waters    R      the sum of their masses, which may be 0 or below, at [k - 1]; all pools' and the carry add up to the set's water
+ *     marks     N      for each cell the number of its pool, 0 where it is not liquid; a pool's lowest cell is the first with its mark
+ *     work      N      work space, whatever it holds
+ *
+ * Counts and waters are the list: both have R numbers, the room that there is. SKW_POOLS_MOST is always enough. The carry's slice has
+ * three numbers: carry, poured and taken, the last two of 0 to SKW_TOTAL_MOST.
+ *
+ * Tests 1, 2 (that counts and waters are as many, too), 4, 5, 6 (N for carry, poured or taken), then 21.
+ *
+ *     answer           *pools       counts, waters                           marks          work
+ *     accepted         how many     the pools; behind the last as it was     all            all 0
+ *     21               0            as they were                             all 0          all 0
+ *     1 to 6           0            as they were                             as they were   as it was
+ *
+ * The set is never written. 21's place is how many pools there are: a first call with little room is a way to ask for them.
+ */
+uint8_t skw_pools(const uint8_t *flags, size_t flags_len,
+                  const int32_t *parts, size_t parts_len,
+                  const int32_t *masses, size_t masses_len,
+                  const uint32_t *fills, size_t fills_len,
+                  const int64_t *carry, size_t carry_len,
+                  uint32_t *counts, size_t counts_len,
+                  int64_t *waters, size_t waters_len,
+                  uint16_t *marks, size_t marks_len,
+                  uint32_t *work, size_t work_len,
+                  size_t nx, size_t ny, size_t nz,
+                  size_t *pools, size_t *place);
 
 #ifdef __cplusplus
 }

@@ -8,6 +8,7 @@ pub mod lattice;
 pub mod measure;
 pub mod native;
 pub mod plain;
+pub mod pools;
 pub mod report;
 pub mod scenes;
 pub mod sweep;

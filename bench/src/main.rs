@@ -11,12 +11,14 @@ use bench::identical::{hunt, same_run, same_step, Case, Inputs, ORACLE};
 use bench::measure::{measure, Effort, WARM_UP};
 use bench::native;
 use bench::plain::PLAIN;
+use bench::pools;
 use bench::report::{self, Totals};
 use bench::scenes::{self, Scene};
 use bench::sweep;
 
-const USAGE: &str = "bench [--quick] [--sides A,B,..]
+const USAGE: &str = "bench [--quick] [--pools] [--sides A,B,..]
   --quick   little of everything, to see that it works: its times say nothing
+  --pools   the pools alone, at the largest side
   --sides   of the cubes, 8 to 64; 32,48,64 if not said";
 
 struct Wish {
@@ -29,6 +31,7 @@ struct Wish {
     growth_sides: Vec<usize>,
     /// Sides at which the surface is swept.
     sweep_sides: Vec<usize>,
+    pools_alone: bool,
 }
 
 fn wish(mut words: impl Iterator<Item = String>) -> Result<Wish, String> {
@@ -39,6 +42,7 @@ fn wish(mut words: impl Iterator<Item = String>) -> Result<Wish, String> {
         steps: 1000,
         growth_sides: vec![24, 32, 40, 48, 56, 64],
         sweep_sides: vec![32, 64],
+        pools_alone: false,
     };
     while let Some(word) = words.next() {
         match word.as_str() {
@@ -48,6 +52,7 @@ fn wish(mut words: impl Iterator<Item = String>) -> Result<Wish, String> {
                 (wish.sides, wish.growth_sides) = (vec![32], vec![16, 24, 32]);
                 wish.sweep_sides = vec![32];
             }
+            "--pools" => wish.pools_alone = true,
             "--sides" => {
                 let given = words.next().unwrap_or_default();
                 let side = |text: &str| text.parse().ok().filter(|side| (8..=64).contains(side));
@@ -118,9 +123,22 @@ fn count_water(engines: &[Engine], scene: &Scene, steps: usize) -> Result<Totals
     })
 }
 
+/// The pools, where the library is linked.
+fn measure_pools(wish: &Wish) {
+    let side = wish.sides.iter().copied().max().unwrap_or(64);
+    if let (Some(pools), Some(engine)) = (native::pools(), native::proved()) {
+        let tanks = pools::tanks(pools, engine, side, wish.effort);
+        report::pools(&tanks, &pools::shapes(pools, side, wish.effort));
+    }
+}
+
 fn bench(wish: &Wish) -> Result<(), String> {
     let proved = native::proved();
     report::machine(proved);
+    if wish.pools_alone {
+        measure_pools(wish);
+        return Ok(());
+    }
     let engines: Vec<Engine> = proved.into_iter().chain([PLAIN]).collect();
 
     compare_random(&engines, wish.seeds)?;
@@ -149,6 +167,7 @@ fn bench(wish: &Wish) -> Result<(), String> {
     let over_cells = growth::over_cells(&engines, &wish.growth_sides, wish.effort);
     let over_share = growth::over_share(&engines, largest, wish.effort);
     report::growth(&engines, &over_cells, &over_share);
+    measure_pools(wish);
 
     match totals.iter().find(|row| row.lost != 0) {
         Some(row) => Err(format!("{}, side {}: {} units lost", row.scene, row.side, row.lost)),

@@ -159,7 +159,7 @@ impl FloatBench {
 }
 
 impl Time {
-    fn of(mut rounds: Vec<f64>) -> Time {
+    pub fn of(mut rounds: Vec<f64>) -> Time {
         rounds.sort_by(f64::total_cmp);
         Time { best: rounds[0], median: rounds[rounds.len() / 2] }
     }

@@ -1,6 +1,22 @@
 // The proved library's step and run, called as a host calls them: through the Rust wrapper of bindings/rust, over lent slices.
 
+use oracle::Set;
+
 use crate::engine::Engine;
+
+/// How many pools a set with three totals has; none where it is refused.
+pub type Pools = fn([usize; 3], Set, &mut [u32], &mut [i64], &mut [u16], &mut [u32]) -> Option<usize>;
+
+/// The proved question, if bench/run linked the library.
+#[cfg(feature = "library")]
+pub fn pools() -> Option<Pools> {
+    Some(linked::pools)
+}
+
+#[cfg(not(feature = "library"))]
+pub fn pools() -> Option<Pools> {
+    None
+}
 
 /// The proved step and run, if bench/run linked the library.
 #[cfg(feature = "library")]
@@ -103,5 +119,16 @@ mod linked {
                 None => return read,
             }
         }
+    }
+
+    pub fn pools(
+        size: [usize; 3],
+        set: Set,
+        counts: &mut [u32],
+        waters: &mut [i64],
+        marks: &mut [u16],
+        work: &mut [u32],
+    ) -> Option<usize> {
+        lent::pools(sides(size), state(set), counts, waters, marks, work).ok()
     }
 }

@@ -4,10 +4,11 @@ use std::fs;
 use std::process::Command;
 
 use crate::engine::Engine;
-use crate::growth::{linear, power, Point};
+use crate::growth::{line, linear, power, Point};
 use crate::measure::{Measured, Time};
 use crate::plain::PLAIN;
 use crate::sweep::Swept;
+use crate::pools::Asked;
 
 /// One scene's water before and after its run.
 pub struct Totals {
@@ -250,5 +251,37 @@ pub fn growth(engines: &[Engine], over_cells: &[Point], over_share: &[Point]) {
             verdict(apart <= NEAR)
         );
     }
+    println!();
+}
+
+/// Pools: the call beside a step, and what a liquid cell costs.
+pub fn pools(tanks: &[Asked], shapes: &[Asked]) {
+    println!(
+        "pools: a call with its tests, and beside it a step with its tests from the same state; load {}",
+        load()
+    );
+    let row = |asked: &Asked| {
+        vec![
+            asked.scene.to_string(),
+            asked.side.to_string(),
+            asked.liquid.to_string(),
+            asked.pools.to_string(),
+            format!("{:.2}", asked.call.best * 1e3),
+            format!("{:.2}", asked.call.median * 1e3),
+            asked.step.map_or("".into(), |step| format!("{:.2}", step.best * 1e3)),
+            asked.step.map_or("".into(), |step| format!("{:.2}", asked.call.best / step.best)),
+        ]
+    };
+    let rows: Vec<_> = tanks.iter().chain(shapes).map(row).collect();
+    table(&["scene", "side", "liquid cells", "pools", "ms", "median", "step, ms", "over it"], &rows);
+    let points: Vec<(f64, f64)> = tanks.iter().map(|asked| (asked.liquid as f64, asked.call.best)).collect();
+    let (box_alone, cell) = line(&points);
+    let apart = |(x, y): &(f64, f64)| ((box_alone + cell * x) / y - 1.0).abs();
+    println!(
+        "tanks: {:.2} ms for the box and {:.1} ns for each liquid cell; no point further than {:.0} % from that line",
+        box_alone * 1e3,
+        cell * 1e9,
+        points.iter().map(apart).fold(0.0, f64::max) * 100.0
+    );
     println!();
 }

@@ -2,6 +2,7 @@
 
 mod lengths;
 mod library;
+mod pools;
 mod profile;
 mod programs;
 // One extern block for all who call the library.
@@ -17,7 +18,7 @@ use programs::{gridread, gridrun, gridstep, Starter};
 use report::{Total, Wish};
 
 const USAGE: &str = "compare [--from SEED] [--first] [PART...], from the top of the repository
-  PART      gridstep, gridrun, gridread, library or profile; all if not said
+  PART      gridstep, gridrun, gridread, library, profile or pools; all if not said
   --from    the first seed, 0 if not said
   --first   stop at the first difference";
 
@@ -28,12 +29,13 @@ enum Part {
     Library(&'static str, fn(&Wish, &mut Total)),
 }
 
-const PARTS: [Part; 5] = [
+const PARTS: [Part; 6] = [
     Part::Program("gridstep", gridstep::compare),
     Part::Program("gridrun", gridrun::compare),
     Part::Program("gridread", gridread::compare),
     Part::Library("library", library::compare),
     Part::Library("profile", profile::compare),
+    Part::Library("pools", pools::compare),
 ];
 
 impl Part {

@@ -959,6 +959,136 @@ static void test_profile(void)
     EXPECT(profile(&l, &deepest) == ACCEPTED && deepest == -1 && l.kinds[1] == SKW_LINE_DRY && l.depths[1] == 0);
 }
 
+/* A grid of 4 by 4 by 4 cells with water in two corners, as document 01's figures of the pools have it, and what is lent beside it. */
+#define LAKE 64
+#define LIST 4
+
+struct lake {
+    uint8_t flags[LAKE + 1];
+    int32_t parts[SKW_PARTS * LAKE + 1];
+    int32_t masses[LAKE + 1];
+    uint32_t fills[LAKE + 1];
+    int64_t carry[4];
+    uint32_t counts[LIST];
+    int64_t waters[LIST];
+    uint16_t marks[LAKE + 1];
+    uint32_t work[LAKE + 1];
+    size_t ny;
+    /* Under which lengths these are lent. */
+    size_t flags_len, parts_len, masses_len, fills_len, carry_len, counts_len, waters_len, marks_len, work_len;
+};
+
+/* Water at rest. */
+static void wet(struct lake *l, size_t cell, int32_t mass, uint32_t fill)
+{
+    int k;
+    l->flags[cell] = SKW_INTERFACE, l->masses[cell] = mass, l->fills[cell] = fill;
+    for (k = 0; k < SKW_PARTS; k += 1) {
+        l->parts[SKW_PARTS * cell + (size_t)k] = SKW_ONE / 36 * (k == 0 ? 12 : k <= 6 ? 2 : 1);
+    }
+}
+
+static void lake(struct lake *l, size_t room)
+{
+    size_t c;
+    memset(l, 0, sizeof *l);
+    for (c = 0; c < LAKE; c += 1) {
+        const size_t x = c % 4, y = c / 4 % 4, z = c / 16;
+        l->flags[c] = x % 3 == 0 || y % 3 == 0 || z % 3 == 0 ? SKW_WALL : SKW_EMPTY;
+    }
+    wet(l, 21, 1000, 111), wet(l, 42, -7, 0);
+    for (c = 0; c <= LAKE; c += 1) {
+        l->marks[c] = 777, l->work[c] = 7777;
+    }
+    for (c = 0; c < LIST; c += 1) {
+        l->counts[c] = 77, l->waters[c] = -77;
+    }
+    l->ny = 4;
+    l->flags_len = l->masses_len = l->fills_len = l->marks_len = l->work_len = LAKE, l->parts_len = SKW_PARTS * LAKE;
+    l->carry_len = 3, l->counts_len = l->waters_len = room;
+}
+
+static long ask_pools(struct lake *l, size_t *pools)
+{
+    size_t place = unset();
+    uint8_t number;
+    *pools = unset();
+    number = skw_pools(l->flags, l->flags_len, l->parts, l->parts_len, l->masses, l->masses_len, l->fills, l->fills_len, l->carry,
+                       l->carry_len, l->counts, l->counts_len, l->waters, l->waters_len, l->marks, l->marks_len, l->work, l->work_len, 4,
+                       l->ny, 4, pools, &place);
+    return REFUSED(number, place);
+}
+
+/* That it is refused so, and has written nothing. */
+static int refused_pools(struct lake *l, long answer)
+{
+    static struct lake before;
+    size_t pools;
+    before = *l;
+    return ask_pools(l, &pools) == answer && pools == 0 && memcmp(l, &before, sizeof before) == 0;
+}
+
+/* That marks and work are 0 but for these marks, and nothing behind them is written. */
+static int marked(const struct lake *l, unsigned at21, unsigned at22, unsigned at42)
+{
+    size_t c;
+    for (c = 0; c < LAKE; c += 1) {
+        const unsigned mark = c == 21 ? at21 : c == 22 ? at22 : c == 42 ? at42 : 0;
+        if (l->marks[c] != mark || l->work[c] != 0) {
+            return 0;
+        }
+    }
+    return l->marks[LAKE] == 777 && l->work[LAKE] == 7777;
+}
+
+static void test_pools(void)
+{
+    static struct lake l;
+    size_t pools;
+    int way;
+
+    lake(&l, LIST);
+    EXPECT(ask_pools(&l, &pools) == ACCEPTED && pools == 2 && marked(&l, 1, 0, 2));
+    EXPECT(l.counts[0] == 1 && l.counts[1] == 1 && l.counts[2] == 77 && l.waters[0] == 1000 && l.waters[1] == -7 && l.waters[2] == -77);
+    lake(&l, 2);
+    EXPECT(ask_pools(&l, &pools) == ACCEPTED && pools == 2);
+    lake(&l, 1);
+    EXPECT(ask_pools(&l, &pools) == REFUSED(SKW_BAD_POOLS, 2) && pools == 0 && marked(&l, 0, 0, 0) && l.counts[0] == 77 && l.waters[0] == -77);
+    lake(&l, 1), wet(&l, 22, 50, 5);
+    EXPECT(ask_pools(&l, &pools) == ACCEPTED && pools == 1 && marked(&l, 1, 1, 1) && l.counts[0] == 3 && l.waters[0] == 1043);
+    lake(&l, 0), memset(l.flags, SKW_WALL, LAKE), memset(l.parts, 0, sizeof l.parts), memset(l.masses, 0, sizeof l.masses),
+        memset(l.fills, 0, sizeof l.fills);
+    EXPECT(ask_pools(&l, &pools) == ACCEPTED && pools == 0 && marked(&l, 0, 0, 0));
+    EXPECT(SKW_POOLS_MOST(64, 64, 64) == 62511 && SKW_POOLS_MOST(5, 5, 5) == 16);
+
+    lake(&l, 2), l.carry[0] = -SKW_CARRY_MOST, l.carry[1] = l.carry[2] = SKW_TOTAL_MOST;
+    EXPECT(ask_pools(&l, &pools) == ACCEPTED && pools == 2);
+
+    /* each fault is added to those before it, and is found before them */
+    lake(&l, 0), l.carry[2] = SKW_TOTAL_MOST + 1;
+    EXPECT(refused_pools(&l, REFUSED(SKW_BAD_STATE, LAKE)));
+    l.fills[42] = 1;
+    EXPECT(refused_pools(&l, REFUSED(SKW_BAD_STATE, 42)));
+    l.flags[41] = SKW_FLUID;
+    EXPECT(refused_pools(&l, REFUSED(SKW_BAD_LAYER, 41)));
+    l.flags[63] = SKW_EMPTY;
+    EXPECT(refused_pools(&l, REFUSED(SKW_BAD_FLAG, 63)));
+    l.waters_len = 1;
+    EXPECT(refused_pools(&l, REFUSED(SKW_BAD_LENGTH, 0)));
+    l.ny = 2;
+    EXPECT(refused_pools(&l, REFUSED(SKW_BAD_SIDES, 0)));
+
+    lake(&l, 2), l.carry[1] = -1;
+    EXPECT(refused_pools(&l, REFUSED(SKW_BAD_STATE, LAKE)));
+    for (way = 0; way < 18; way += 1) {
+        size_t *const each[9] = {&l.flags_len, &l.parts_len,  &l.masses_len, &l.fills_len, &l.carry_len,
+                                 &l.marks_len, &l.work_len, &l.counts_len, &l.waters_len};
+        lake(&l, 2);
+        *each[way / 2] = way % 2 ? *each[way / 2] + 1 : *each[way / 2] - 1;
+        EXPECT(refused_pools(&l, REFUSED(SKW_BAD_LENGTH, 0)));
+    }
+}
+
 /* A file of at most so many bytes; its length, or one more than fits. */
 static size_t contents(const char *name, void *bytes, size_t room)
 {
@@ -1002,6 +1132,7 @@ int main(int count, char **words)
     test_point();
     test_depth();
     test_profile();
+    test_pools();
     printf("header (%s): %d expectations, %d failed\n", LANGUAGE, tried, failed);
     return failed != 0;
 }

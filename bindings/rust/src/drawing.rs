@@ -2,6 +2,7 @@
 
 mod colours;
 pub mod long;
+pub mod pools;
 mod scale;
 mod sheet;
 mod tiles;
@@ -71,6 +72,25 @@ pub fn unit() -> String {
     format!("water in units, {} to a full cell", grouped(ONE))
 }
 
+/// A grid of these sides and where it lies, in two lines.
+fn place([nx, ny, nz]: [usize; 3], site: Site) -> [String; 2] {
+    let [x, y, z] = [site.origin.x, site.origin.y, site.origin.z].map(thousandths);
+    [
+        format!("{nx} x {ny} x {nz} cells of {} mm", site.edge),
+        format!("metres from the origin, x {x}, y {y}, z {z}"),
+    ]
+}
+
+/// A title with a name before it: what is no letter of ASCII as a question mark, and a long name cut.
+fn called(name: &str, title: &str) -> String {
+    let plain = |letter: char| if (' '..='~').contains(&letter) { letter } else { '?' };
+    let mut short: String = name.chars().map(plain).take(LONGEST_NAME).collect();
+    if name.chars().nth(LONGEST_NAME).is_some() {
+        short += "...";
+    }
+    format!("{short}: {title}")
+}
+
 impl Axis {
     /// x, y or z.
     pub fn name(self) -> &'static str {
@@ -106,12 +126,7 @@ impl Drawing {
 
     /// With a name before the title; what is no letter of ASCII is drawn as a question mark, and a long name is cut.
     pub fn named(mut self, name: &str) -> Drawing {
-        let plain = |letter: char| if (' '..='~').contains(&letter) { letter } else { '?' };
-        let mut short: String = name.chars().map(plain).take(LONGEST_NAME).collect();
-        if name.chars().nth(LONGEST_NAME).is_some() {
-            short += "...";
-        }
-        self.title = format!("{short}: {}", self.title);
+        self.title = called(name, &self.title);
         self
     }
 
@@ -130,13 +145,7 @@ impl Drawing {
 
     /// The grid and where it lies, in two lines.
     fn place(&self) -> [String; 2] {
-        let [nx, ny, nz] = self.sides;
-        let origin = self.site.origin;
-        let [x, y, z] = [origin.x, origin.y, origin.z].map(thousandths);
-        [
-            format!("{nx} x {ny} x {nz} cells of {} mm", self.site.edge),
-            format!("metres from the origin, x {x}, y {y}, z {z}"),
-        ]
+        place(self.sides, self.site)
     }
 
     /// A depth in cells as millimetres.

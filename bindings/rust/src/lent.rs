@@ -478,6 +478,51 @@ pub fn depth(sides: Sides, flags: &[u8], fills: &[u32], x: usize, y: usize) -> R
     })
 }
 
+/// The pools of a state: how many there are. Each one's cells and water go into the list, `counts` and `waters`, in the order of their
+/// lowest cells; into `marks`, one per cell, the number of its pool, 0 where it is not liquid. `work` is a number per cell, left at 0.
+///
+/// The state's carry holds three numbers: carry, poured, taken. Refusals 1, 2, 4, 5 and 6 write nothing; after 21, that the list has
+/// room for fewer pools than there are, marks and work are 0 and the list is as it was.
+pub fn pools(
+    sides: Sides,
+    state: State,
+    counts: &mut [u32],
+    waters: &mut [i64],
+    marks: &mut [u16],
+    work: &mut [u32],
+) -> Result<usize, Refusal> {
+    let (mut pools, mut place) = (0, 0);
+    let number = unsafe {
+        raw::skw_pools(
+            state.flags.as_ptr(),
+            state.flags.len(),
+            state.parts.as_ptr(),
+            state.parts.len(),
+            state.masses.as_ptr(),
+            state.masses.len(),
+            state.fills.as_ptr(),
+            state.fills.len(),
+            state.carry.as_ptr(),
+            state.carry.len(),
+            counts.as_mut_ptr(),
+            counts.len(),
+            waters.as_mut_ptr(),
+            waters.len(),
+            marks.as_mut_ptr(),
+            marks.len(),
+            work.as_mut_ptr(),
+            work.len(),
+            sides.nx,
+            sides.ny,
+            sides.nz,
+            &mut pools,
+            &mut place,
+        )
+    };
+    answered(number, place)?;
+    Ok(pools)
+}
+
 /// The profile along a list of points: a kind and a depth for each, and the deepest point, if one is wet.
 ///
 /// `chainages` rise strictly; `points` holds x, y and z of each; kinds are 1 solid, 2 dry, 3 deep and 4 outside, and a depth is 0

@@ -33,6 +33,7 @@ mod index;
 mod laying;
 pub mod lent;
 pub mod picture;
+mod pools;
 #[doc(hidden)]
 pub mod raw;
 mod readings;
@@ -44,6 +45,7 @@ mod state;
 
 pub use grid::{Grid, Record};
 pub use index::{words_of, Held, HeldMut, Index, IndexMut, Next, Surface};
+pub use pools::{Pool, Pools};
 pub use readings::{CellPoint, Depth, Line, Profile, Station};
 pub use refusal::{Place, Refusal, Stopped};
 pub use settings::{Point, Settings, Site};

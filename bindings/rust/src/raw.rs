@@ -313,4 +313,30 @@ extern "C" {
         deepest: *mut usize,
         place: *mut usize,
     ) -> u8;
+
+    pub fn skw_pools(
+        flags: *const u8,
+        flags_len: usize,
+        parts: *const i32,
+        parts_len: usize,
+        masses: *const i32,
+        masses_len: usize,
+        fills: *const u32,
+        fills_len: usize,
+        carry: *const i64,
+        carry_len: usize,
+        counts: *mut u32,
+        counts_len: usize,
+        waters: *mut i64,
+        waters_len: usize,
+        marks: *mut u16,
+        marks_len: usize,
+        work: *mut u32,
+        work_len: usize,
+        nx: usize,
+        ny: usize,
+        nz: usize,
+        pools: *mut usize,
+        place: *mut usize,
+    ) -> u8;
 }

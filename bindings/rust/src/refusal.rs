@@ -3,12 +3,12 @@
 use std::error::Error;
 use std::fmt::{Display, Formatter, Result as Written};
 
-/// Why a call was refused. Nothing is written then, but as each call says for 7 and 8.
+/// Why a call was refused. Nothing is written then, but as each call says for 7, 8 and 21.
 #[derive(Clone, Copy, Debug, PartialEq, Eq, Hash)]
 pub struct Refusal {
-    /// 1 to 16, 22 or 23; [`SIDES`](Refusal::SIDES) and so on.
+    /// 1 to 16 or 21 to 23; [`SIDES`](Refusal::SIDES) and so on.
     pub number: u8,
-    /// A cell, a byte, a section, a number of bytes, a point of a list, or 0, by the number.
+    /// A cell, a byte, a section, a number of bytes, a point of a list, a number of pools, or 0, by the number.
     pub place: usize,
 }
 
@@ -28,6 +28,8 @@ pub enum Place {
     Room(usize),
     /// A point of a profile's list, from 0.
     Point(usize),
+    /// The pools that there are.
+    Pools(usize),
 }
 
 impl Refusal {
@@ -63,6 +65,8 @@ impl Refusal {
     pub const NOT_INTERFACE: u8 = 15;
     /// An amount outside 1 to 589,824, or one with which the mass would pass 2,359,296, or poured or taken 10^15.
     pub const AMOUNT: u8 = 16;
+    /// The list has room for fewer pools than there are. Place: their number.
+    pub const POOLS: u8 = 21;
     /// A profile's list has not 1 to 2,000 points.
     pub const LIST: u8 = 22;
     /// A profile's chainage is not above the one before. Place: the first such point.
@@ -91,6 +95,7 @@ impl Refusal {
             Refusal::INDEX => "a word is not the one that the flags make, or the stored count is wrong",
             Refusal::NOT_INTERFACE => "the cell is not interface",
             Refusal::AMOUNT => "amount outside 1..589,824, or a mass or total would pass its limit",
+            Refusal::POOLS => "the list has room for fewer pools than there are",
             Refusal::LIST => "the list has not 1 to 2,000 points",
             Refusal::CHAINAGE => "a chainage is not above the one before",
             _ => "no number of document 01",
@@ -106,6 +111,7 @@ impl Refusal {
             Refusal::COUNT => Place::Section(self.place),
             Refusal::ROOM => Place::Room(self.place),
             Refusal::CHAINAGE => Place::Point(self.place),
+            Refusal::POOLS => Place::Pools(self.place),
             // 0 may be the edge or the origin as well.
             Refusal::SETTING if self.place > 0 => Place::Point(self.place),
             _ => Place::None,
@@ -126,6 +132,7 @@ impl Display for Refusal {
             Place::Section(section) => write!(text, ", in section {section}"),
             Place::Room(bytes) => write!(text, ", {bytes} bytes needed"),
             Place::Point(point) => write!(text, ", at point {point}"),
+            Place::Pools(pools) => write!(text, ", which are {pools}"),
         }
     }
 }

@@ -135,7 +135,7 @@ fn advanced(record: &[u8], steps: u64) -> Vec<u8> {
 }
 
 /// Every command with what it must have, on the record of standard input.
-const CALLS: [&[&str]; 10] = [
+const CALLS: [&[&str]; 11] = [
     &["check"],
     &["water"],
     &["step"],
@@ -145,6 +145,7 @@ const CALLS: [&[&str]; 10] = [
     &["point", "13"],
     &["depth", "1", "1"],
     &["surface"],
+    &["pools"],
     &["draw"],
 ];
 

@@ -1,3 +1,4 @@
+pub mod Lakes
 pub mod Stars
 pub mod RuledOut
 pub mod Sweeps

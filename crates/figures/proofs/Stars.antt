@@ -1,4 +1,5 @@
 -- The table of worked figures holds: every figure marked with a star is what the definitions give. Assumes nothing.
+use mathlib.Core.List.{_++_}
 use lib.Dec.{T}
 use Rattle.whole.specs.Fold.{open-fold}
 use Rattle.lattice.specs.Lattice.{open-lattice}
@@ -19,8 +20,13 @@ use Rattle.tunnel.specs.Place.{open-place}
 use Rattle.tunnel.specs.Depth.{open-depth}
 use Rattle.profile.specs.Profile.{open-profile}
 use Rattle.profile.specs.Outcome.{open-answer}
+use Rattle.figures.specs.Lakes.{poolFigures}
 use Rattle.figures.specs.Table.{figures, hold}
+use Rattle.figures.proofs.Lakes.{lakes-hold, hold-both}
 
-pub stars : T (hold figures)
+computed : T (hold figures)
 unfolding open-fold open-lattice open-cell open-body open-grid open-state open-step open-good open-outcome grid.open-demands open-three open-acts open-demands open-index index.open-outcome open-place open-depth open-profile open-answer
-stars = tt
+computed = tt
+
+pub stars : T (hold (figures ++ poolFigures))
+stars = hold-both figures poolFigures computed lakes-hold

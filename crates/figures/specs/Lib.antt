@@ -2,3 +2,4 @@ pub mod Cases
 pub mod Gutter
 pub mod Surface
 pub mod Table
+pub mod Lakes

@@ -2,3 +2,4 @@ pub mod Returned
 pub mod Told
 pub mod Depths
 pub mod Unique
+pub mod Pools

@@ -11,6 +11,25 @@ pub const ABOVE_SURFACE: Colour = [214, 236, 246];
 /// Ticks, and what is said beside the picture.
 pub const PALE_INK: Colour = [96, 104, 112];
 
+/// Of pools, told apart also by those who see few colours.
+pub const POOLS: [Colour; 10] = [
+    [26, 92, 160],
+    [222, 134, 16],
+    [10, 138, 104],
+    [178, 60, 92],
+    [112, 82, 168],
+    [134, 110, 22],
+    [24, 150, 178],
+    [196, 84, 30],
+    [92, 124, 40],
+    [150, 70, 130],
+];
+
+/// What is left of a colour in the part of a cell above its water.
+pub fn pale(colour: Colour) -> Colour {
+    colour.map(|channel| (f32::from(channel) * 0.25 + 255.0 * 0.75) as u8)
+}
+
 /// From the shallowest to the deepest, and in how many steps, so that a palette holds them all.
 const BLUES: [[f32; 3]; 3] = [[214.0, 234.0, 246.0], [72.0, 148.0, 200.0], [8.0, 44.0, 104.0]];
 const STEPS: f32 = 40.0;

@@ -5,9 +5,9 @@ use super::tiles::Tile;
 use super::{scale, unit, Drawing, View, COUNTS};
 use crate::picture::{Colour, Letters, Picture, INK};
 
-const MARGIN: usize = 24;
-const TITLE: Letters = Letters(3);
-const PLAIN: Letters = Letters(2);
+pub const MARGIN: usize = 24;
+pub const TITLE: Letters = Letters(3);
+pub const PLAIN: Letters = Letters(2);
 /// The squares: no smaller and no larger than this, and all of them in about this room.
 const SQUARES: std::ops::RangeInclusive<usize> = 6..=64;
 const ROOM: (usize, usize) = (720, 560);
@@ -15,12 +15,12 @@ const ROOM: (usize, usize) = (720, 560);
 const LINED: usize = 8;
 /// A tick, and what lies between it and its label.
 const TICK: usize = 6;
-const GAP: usize = 4;
+pub const GAP: usize = 4;
 /// Pixels that a label needs along and across a horizontal scale.
 const ALONG: usize = 84;
 const LABEL: usize = 36;
 /// A square of the legend, the letters beside it, and how high the bar of depths may be.
-const SWATCH: usize = 26;
+pub const SWATCH: usize = 26;
 const WORDS: usize = 10;
 const BAR: (usize, usize) = (120, 320);
 /// The columns of the balance in letters: names and numbers of the water, and of the cells beside it.
@@ -33,35 +33,44 @@ const COUNT_NUMBERS: usize = 8;
 const TOTAL: usize = 3;
 
 /// Where the squares lie.
-struct Plan {
-    left: usize,
-    top: usize,
-    square: usize,
-    width: usize,
-    height: usize,
+pub struct Plan {
+    pub left: usize,
+    pub top: usize,
+    pub square: usize,
+    pub width: usize,
+    pub height: usize,
     /// Where the legend begins.
-    legend: usize,
+    pub legend: usize,
 }
 
-fn letters(count: usize) -> usize {
+impl Plan {
+    /// For so many squares.
+    pub fn new(columns: usize, rows: usize) -> Plan {
+        let square = (ROOM.0 / columns).min(ROOM.1 / rows).clamp(*SQUARES.start(), *SQUARES.end());
+        let (width, height) = (square * columns, square * rows);
+        let left = MARGIN + letters(6) + GAP + TICK;
+        // Title, two lines on the grid, an empty one, one of names and one of labels.
+        let top = MARGIN + TITLE.line() + 5 * PLAIN.line() + GAP + TICK;
+        let legend = left + width + TICK + GAP + letters(6) + MARGIN;
+        Plan { left, top, square, width, height, legend }
+    }
+
+    /// Where the squares and their scales end.
+    pub fn below(&self) -> usize {
+        self.top + self.height + TICK + GAP + 2 * PLAIN.line()
+    }
+}
+
+pub fn letters(count: usize) -> usize {
     PLAIN.width(&" ".repeat(count))
 }
 
 pub fn picture(drawing: &Drawing) -> Picture {
-    let (columns, rows) = (drawing.rows[0].len(), drawing.rows.len());
-    let square = (ROOM.0 / columns).min(ROOM.1 / rows).clamp(*SQUARES.start(), *SQUARES.end());
-    let (width, height) = (square * columns, square * rows);
-    let left = MARGIN + letters(6) + GAP + TICK;
-    // Title, two lines on the grid, an empty one, one of names and one of labels.
-    let top = MARGIN + TITLE.line() + 5 * PLAIN.line() + GAP + TICK;
-    let legend = left + width + TICK + GAP + letters(6) + MARGIN;
-    let plan = Plan { left, top, square, width, height, legend };
-
-    let below_squares = height + TICK + GAP + 2 * PLAIN.line();
-    let below = top + below_squares.max(legend_height(drawing, &plan)) + PLAIN.line();
+    let plan = Plan::new(drawing.rows[0].len(), drawing.rows.len());
+    let below = plan.below().max(plan.top + legend_height(drawing, &plan)) + PLAIN.line();
     let [_, place] = drawing.place();
     let widest = [
-        legend - MARGIN + SWATCH + 2 * GAP + letters(WORDS),
+        plan.legend - MARGIN + SWATCH + 2 * GAP + letters(WORDS),
         letters(NAMES + AMOUNTS + BETWEEN + COUNT_NAMES + COUNT_NUMBERS),
         PLAIN.width(&place),
         TITLE.width(&drawing.title),
@@ -70,17 +79,17 @@ pub fn picture(drawing: &Drawing) -> Picture {
 
     let balance = (1 + drawing.balance.len() - COUNTS) * PLAIN.line();
     let mut picture = Picture::new(whole, below + balance + MARGIN);
-    heading(&mut picture, drawing);
+    heading(&mut picture, &drawing.title, &drawing.place());
     squares(&mut picture, drawing, &plan);
-    scales(&mut picture, drawing, &plan);
+    scales(&mut picture, drawing.view, drawing.site.edge, &plan);
     legends(&mut picture, drawing, &plan);
     tables(&mut picture, drawing, below);
     picture
 }
 
-fn heading(picture: &mut Picture, drawing: &Drawing) {
-    picture.text(MARGIN, MARGIN, &drawing.title, TITLE, INK);
-    for (line, text) in drawing.place().iter().enumerate() {
+pub fn heading(picture: &mut Picture, title: &str, place: &[String; 2]) {
+    picture.text(MARGIN, MARGIN, title, TITLE, INK);
+    for (line, text) in place.iter().enumerate() {
         picture.text(MARGIN, MARGIN + TITLE.line() + line * PLAIN.line(), text, PLAIN, PALE_INK);
     }
 }
@@ -118,11 +127,11 @@ fn put(picture: &mut Picture, x: usize, y: usize, square: usize, tile: &Tile, da
 }
 
 /// Cells below and to the left, metres above and to the right.
-fn scales(picture: &mut Picture, drawing: &Drawing, plan: &Plan) {
-    let (across, up) = drawing.view.axes();
+pub fn scales(picture: &mut Picture, view: View, cell_edge: i64, plan: &Plan) {
+    let (across, up) = view.axes();
     let (right, bottom) = (plan.left + plan.width, plan.top + plan.height);
     let middle = PLAIN.capital() / 2;
-    let metre = plan.square as f64 * 1000.0 / drawing.site.edge as f64;
+    let metre = plan.square as f64 * 1000.0 / cell_edge as f64;
 
     for number in scale::cells(plan.width / plan.square, plan.width / (LABEL + 12)) {
         let x = plan.left + plan.square * number + plan.square / 2;

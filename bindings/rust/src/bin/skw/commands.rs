@@ -5,6 +5,7 @@ mod depth;
 mod draw;
 mod place;
 mod point;
+mod pools;
 mod pour;
 mod profile;
 mod run;
@@ -44,5 +45,6 @@ pub const COMMANDS: &[Command] = &[
     depth::COMMAND,
     profile::COMMAND,
     surface::COMMAND,
+    pools::COMMAND,
     draw::COMMAND,
 ];

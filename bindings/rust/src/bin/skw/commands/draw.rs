@@ -8,7 +8,7 @@ use crate::failure::Failure;
 use crate::files::Input;
 use crate::records;
 
-const SECTION: Choice = Choice {
+pub const SECTION: Choice = Choice {
     name: "section",
     letter: Some('s'),
     value: Some("AXIS=N"),
@@ -54,14 +54,19 @@ fn section(text: &str) -> Option<View> {
     Some(View::Section(axis, if plain { number.parse().ok()? } else { return None }))
 }
 
-fn act(mut arguments: Arguments) -> Result<(), Failure> {
-    let text = arguments.has(&TEXT);
-    let view = match arguments.value(&SECTION) {
-        None => View::Above,
+/// From above, or the section that is asked for.
+pub fn view(arguments: &Arguments) -> Result<View, Failure> {
+    match arguments.value(&SECTION) {
+        None => Ok(View::Above),
         Some(asked) => asked.to_str().and_then(section).ok_or_else(|| {
             arguments.wrong(format!("a section is to be like y=12, and '{}' is not", asked.to_string_lossy()))
-        })?,
-    };
+        }),
+    }
+}
+
+fn act(mut arguments: Arguments) -> Result<(), Failure> {
+    let text = arguments.has(&TEXT);
+    let view = view(&arguments)?;
     let deepest = match arguments.value(&DEEPEST) {
         None => None,
         Some(asked) => {

@@ -1,0 +1,12 @@
+pub mod Counts
+pub mod Chains
+pub mod Marks
+pub mod Totals
+pub mod Bound
+pub mod Water
+pub mod Flooding
+pub mod Scanning
+pub mod Listings
+pub mod Tested
+pub mod Answered
+pub mod Guessed

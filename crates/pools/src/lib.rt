@@ -1,0 +1,11 @@
+// Layer 2, pools: which liquid cells hang together. Knows the promises of grid and pumps.
+pub mod answers;
+pub mod asking;
+mod flood;
+mod listing;
+
+// What the question answers: the number of pools, or the refusal's number and place as document 01 has them.
+pub enum Told {
+    Pools(usize),
+    Refused(u8, usize),
+}
