@@ -6,7 +6,8 @@ use crate::random::Random;
 use crate::scenes::{good, Scene};
 use crate::settings::REACH;
 use crate::state::{
-    Cell, CARRY_LIMIT, EMPTY, FLUID, HIGHEST_DENSITY, INTERFACE, LOWEST_DENSITY, MASS_LIMIT, PART_LIMIT, TOTAL_LIMIT, WALL,
+    Cell, CARRY_LIMIT, EMPTY, FLUID, HIGHEST_DENSITY, INTERFACE, LOWEST_DENSITY, MASS_LIMIT, PART_LIMIT,
+    TOTAL_LIMIT, WALL,
 };
 
 /// Where in the reader's order a fault is found: section (8 after the last), then the test within it.
@@ -20,7 +21,7 @@ pub struct Fault {
 }
 
 impl Fault {
-    fn new(rank: Rank, number: u32, place: usize) -> Fault {
+    pub(crate) fn new(rank: Rank, number: u32, place: usize) -> Fault {
         Fault { rank, refusal: Refusal { number, place: place as u64 } }
     }
 }
@@ -33,14 +34,14 @@ pub struct Damaged {
     pub faults: usize,
 }
 
-const COUNT_CUT: usize = 0;
-const COUNT_WRONG: usize = 1;
-const NUMBERS_CUT: usize = 2;
-const AFTER: usize = 3;
+pub(crate) const COUNT_CUT: usize = 0;
+pub(crate) const COUNT_WRONG: usize = 1;
+pub(crate) const NUMBERS_CUT: usize = 2;
+pub(crate) const AFTER: usize = 3;
 pub const LEFT_OVER: Rank = (8, 0);
-const SETTING: Rank = (8, 1);
-const OPEN_LAYER: Rank = (8, 2);
-const BROKEN_RULE: Rank = (8, 3);
+pub(crate) const SETTING: Rank = (8, 1);
+pub(crate) const OPEN_LAYER: Rank = (8, 2);
+pub(crate) const BROKEN_RULE: Rank = (8, 3);
 
 #[derive(Clone, Copy)]
 enum Kind {
@@ -195,12 +196,12 @@ pub fn bad(seed: u64) -> Damaged {
     Damaged { bytes, fault: faults.iter().min().copied(), faults: faults.len() }
 }
 
-fn patch(bytes: &mut [u8], at: usize, with: &[u8]) {
+pub(crate) fn patch(bytes: &mut [u8], at: usize, with: &[u8]) {
     bytes[at..at + with.len()].copy_from_slice(with);
 }
 
 /// Single bytes changed anywhere, or no record at all.
-fn at_random(random: &mut Random, mut bytes: Vec<u8>) -> Damaged {
+pub(crate) fn at_random(random: &mut Random, mut bytes: Vec<u8>) -> Damaged {
     if random.percent(10) {
         let length = random.below(300);
         bytes = (0..length).map(|_| random.bits() as u8).collect();

@@ -12,7 +12,7 @@ fn at_rest(flag: u8, mass: i128) -> Cell {
 }
 
 /// The letter of each flag.
-const LETTERS: [(char, u8); 4] = [('.', EMPTY), ('~', INTERFACE), ('w', FLUID), ('#', WALL)];
+pub(crate) const LETTERS: [(char, u8); 4] = [('.', EMPTY), ('~', INTERFACE), ('w', FLUID), ('#', WALL)];
 
 fn cell(letter: char) -> Option<Cell> {
     let (_, flag) = *LETTERS.iter().find(|(known, _)| *known == letter)?;
@@ -33,26 +33,34 @@ pub fn section(grid: &Grid, flags: &[u8]) -> String {
     (0..nz).rev().map(|z| (0..nx).map(|x| letter(x, z)).chain(['\n']).collect::<String>()).collect()
 }
 
+/// A drawing's lines of a word and its numbers, and the rows of letters after them, the highest first.
+pub(crate) fn parted(text: &str) -> Result<(Vec<(&str, Vec<i64>)>, Vec<Vec<char>>), String> {
+    let mut lines = text.lines().filter(|line| !line.starts_with("# ") && !line.is_empty());
+    let mut words = Vec::new();
+    for line in lines.by_ref().take_while(|line| *line != "section") {
+        let wrong = |_| format!("'{line}' has no numbers after its word");
+        let (word, numbers) = line.split_once(' ').ok_or(format!("'{line}' has no number"))?;
+        let numbers = numbers.split(' ').map(str::parse).collect::<Result<_, _>>().map_err(wrong)?;
+        words.push((word, numbers));
+    }
+    Ok((words, lines.map(|line| line.chars().collect()).collect()))
+}
+
 /// The scene that a text draws, as examples/sump.txt explains; or what is wrong with it.
 pub fn drawn(text: &str) -> Result<Scene, String> {
     let mut settings = Settings { p: 1024, gravity: [0; 3], edge: 50 };
     let (mut across, mut origin) = (3, [0; 3]);
-    let mut lines = text.lines().filter(|line| !line.starts_with("# ") && !line.is_empty());
-    for line in lines.by_ref().take_while(|line| *line != "section") {
-        let wrong = |_| format!("'{line}' has no numbers after its word");
-        let (word, numbers) = line.split_once(' ').ok_or(format!("'{line}' has no number"))?;
-        let numbers: Vec<i64> =
-            numbers.split(' ').map(str::parse).collect::<Result<_, _>>().map_err(wrong)?;
+    let (words, rows) = parted(text)?;
+    for (word, numbers) in words {
         match (word, &numbers[..]) {
             ("across", &[cells]) => across = cells as u32,
             ("p", &[p]) => settings.p = p as i32,
             ("edge", &[edge]) => settings.edge = edge as i32,
             ("gravity", &[x, y, z]) => settings.gravity = [x, y, z].map(|number| number as i32),
             ("origin", &[x, y, z]) => origin = [x, y, z],
-            _ => return Err(format!("'{line}' is not understood")),
+            _ => return Err(format!("'{word}' with {numbers:?} is not understood")),
         }
     }
-    let rows: Vec<Vec<char>> = lines.map(|line| line.chars().collect()).collect();
     let sides = [rows.first().map_or(0, Vec::len) as u32, across, rows.len() as u32];
     let grid = Grid::new(sides).map_err(|_| format!("sides {sides:?} are out of range"))?;
     let mut cells = vec![Cell::blank(WALL); grid.n];

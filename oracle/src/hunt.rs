@@ -82,11 +82,11 @@ pub struct Tally {
 }
 
 impl Tally {
-    fn add(&mut self, event: &'static str, times: usize) {
+    pub(crate) fn add(&mut self, event: &'static str, times: usize) {
         *self.met.entry(event).or_default() += times as u64;
     }
 
-    fn add_if(&mut self, event: &'static str, happened: bool) {
+    pub(crate) fn add_if(&mut self, event: &'static str, happened: bool) {
         self.add(event, usize::from(happened));
     }
 
@@ -95,9 +95,9 @@ impl Tally {
     }
 }
 
-type Finding = Result<(), String>;
+pub(crate) type Finding = Result<(), String>;
 
-fn ensure(holds: bool, otherwise: &str) -> Finding {
+pub(crate) fn ensure(holds: bool, otherwise: &str) -> Finding {
     if holds {
         Ok(())
     } else {
@@ -414,7 +414,10 @@ fn damages(seed: u64, tally: &mut Tally) -> Finding {
     let Some(fault) = damaged.fault else {
         if answer.is_ok() {
             tally.add("damaged at random and still accepted", 1);
-            ensure(rewritten(&damaged.bytes)? == written_back(&damaged.bytes), "a damaged record was written otherwise")?;
+            ensure(
+                rewritten(&damaged.bytes)? == written_back(&damaged.bytes),
+                "a damaged record was written otherwise",
+            )?;
         }
         return Ok(());
     };

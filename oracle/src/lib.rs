@@ -3,6 +3,7 @@
 pub mod acts;
 pub mod damage;
 pub mod drawing;
+pub mod flume;
 pub mod grid;
 pub mod hunt;
 pub mod index;

@@ -7,6 +7,7 @@ use std::time::Instant;
 
 use oracle::damage::bad;
 use oracle::drawing::{drawn, section};
+use oracle::flume;
 use oracle::grid::Grid;
 use oracle::hunt::{hunt, EVENTS};
 use oracle::record::read_within;
@@ -16,7 +17,8 @@ use oracle::text::{
 };
 
 const USAGE: &str = "usage: oracle gridstep | gridrun K | gridread (place X Y Z | point C | depth X Y)... \
-| water | show | draw | make good|bad SEED | batch good|bad FROM TO DIR (TO itself left out) | hunt SEEDS STEPS";
+| water | show | draw | make good|bad SEED | batch good|bad FROM TO DIR (TO itself left out) | hunt SEEDS STEPS \
+| flume (check | run K | water | show | draw | make good|bad SEED | hunt SEEDS STEPS)";
 
 /// The record of a kind and a seed.
 type Maker = fn(u64) -> Vec<u8>;
@@ -89,6 +91,9 @@ fn obey(arguments: &[&str]) -> Option<std::io::Result<ExitCode>> {
             let (make, from, to): (_, u64, u64) = (maker(kind)?, from.parse().ok()?, to.parse().ok()?);
             let file = |seed: u64| Path::new(folder).join(format!("{seed}.rec"));
             (from..to).try_for_each(|seed| std::fs::write(file(seed), make(seed))).map(|()| ExitCode::SUCCESS)
+        }
+        ["flume", rest @ ..] => {
+            flume::commands::answer(rest, || input(u64::MAX))?.and_then(|bytes| print(&bytes))
         }
         ["hunt", seeds, steps] => Ok(hunted(seeds.parse().ok()?, steps.parse().ok()?)),
         _ => return None,

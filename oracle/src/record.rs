@@ -16,22 +16,23 @@ pub struct Reading<'a> {
 }
 
 /// The sections not yet read.
-struct Sections<'a> {
+pub(crate) struct Sections<'a> {
     bytes: &'a [u8],
-    at: usize,
+    pub(crate) at: usize,
     section: usize,
 }
 
 impl<'a> Sections<'a> {
-    fn new(bytes: &'a [u8]) -> Sections<'a> {
+    pub(crate) fn new(bytes: &'a [u8]) -> Sections<'a> {
         Sections { bytes, at: 0, section: 0 }
     }
 
-    fn next(&mut self, count: usize, size: usize) -> Result<&'a [u8], Refusal> {
+    /// The next section's numbers as bytes. The place of 10 is the byte of the section's count.
+    pub(crate) fn next(&mut self, count: usize, size: usize) -> Result<&'a [u8], Refusal> {
         self.one_of(&[count], size)
     }
 
-    /// The next section's numbers as bytes, where its count is one of these. The place of 10 is the byte of the section's count.
+    /// The same where the count is one of these.
     fn one_of(&mut self, counts: &[usize], size: usize) -> Result<&'a [u8], Refusal> {
         self.section += 1;
         let rest = &self.bytes[self.at..];
@@ -50,15 +51,15 @@ impl<'a> Sections<'a> {
     }
 }
 
-fn numbers_u32(bytes: &[u8]) -> Vec<u32> {
+pub(crate) fn numbers_u32(bytes: &[u8]) -> Vec<u32> {
     bytes.chunks_exact(4).map(|b| u32::from_le_bytes([b[0], b[1], b[2], b[3]])).collect()
 }
 
-fn numbers_i32(bytes: &[u8]) -> Vec<i32> {
+pub(crate) fn numbers_i32(bytes: &[u8]) -> Vec<i32> {
     numbers_u32(bytes).into_iter().map(|number| number as i32).collect()
 }
 
-fn numbers_i64(bytes: &[u8]) -> Vec<i64> {
+pub(crate) fn numbers_i64(bytes: &[u8]) -> Vec<i64> {
     let halves = numbers_u32(bytes);
     halves.chunks_exact(2).map(|half| (u64::from(half[0]) | u64::from(half[1]) << 32) as i64).collect()
 }
@@ -105,7 +106,8 @@ pub fn read<'a>(
 
     let mut mass = read_masses.into_iter().map(i128::from);
     let mut part = read_parts.into_iter().map(i128::from);
-    let mut state = State { cells: Vec::with_capacity(n), carry: total(0), poured: total(1), taken: total(2) };
+    let mut state =
+        State { cells: Vec::with_capacity(n), carry: total(0), poured: total(1), taken: total(2) };
     for &flag in flags {
         let mut cell = Cell::blank(flag);
         if cell.liquid() {
@@ -136,7 +138,13 @@ pub fn read_within(bytes: &[u8], room: usize) -> Result<(Reading<'_>, Store), Re
 }
 
 /// The bytes of a record with three numbers in section 4 or only the carry there, of a good state or of a damaged one.
-pub fn encode(sides: [u32; 3], settings: &Settings, origin: [i64; 3], state: &State, numbers: usize) -> Vec<u8> {
+pub fn encode(
+    sides: [u32; 3],
+    settings: &Settings,
+    origin: [i64; 3],
+    state: &State,
+    numbers: usize,
+) -> Vec<u8> {
     let interface = state.cells.iter().filter(|cell| cell.flag == INTERFACE);
     let liquid = state.cells.iter().filter(|cell| cell.liquid());
     let masses: Vec<i32> = interface.map(|cell| cell.mass as i32).collect();

@@ -1,0 +1,36 @@
+// The flume's run: steps until the number asked is made or one is refused.
+
+use crate::flume::sets::put;
+use crate::flume::step::{next_state, tested};
+use crate::grid::Refusal;
+use crate::run::{Run, MOST_STEPS};
+use crate::sets::SetMut;
+
+pub fn run(
+    sides: [u32; 2],
+    p: i32,
+    gravity: [i32; 2],
+    steps: u32,
+    mut first: SetMut,
+    mut second: SetMut,
+    marks: &mut [u8],
+) -> Run {
+    if steps > MOST_STEPS {
+        return Run { count: 0, refusal: Some(Refusal { number: 9, place: 0 }) };
+    }
+    let (grid, mut state) = match tested(sides, p, gravity, first.as_set(), second.as_set(), marks) {
+        Ok(accepted) => accepted,
+        Err(refusal) => return Run { count: 0, refusal: Some(refusal) },
+    };
+    let mut outcome = Run { count: 0, refusal: None };
+    while outcome.count < steps && outcome.refusal.is_none() {
+        match next_state(&grid, &state, p, gravity) {
+            Ok(next) => (state, outcome.count) = (next, outcome.count + 1),
+            Err(refusal) => outcome.refusal = Some(refusal),
+        }
+    }
+    put(&mut first, &state);
+    put(&mut second, &state);
+    marks.fill(0);
+    outcome
+}
