@@ -44,7 +44,7 @@ pub fn sweep() -> Option<Sweep> {
 
 #[cfg(feature = "library")]
 mod linked {
-    use oracle::{Held, HeldMut};
+    use oracle::{Held, HeldMut, Set};
     use skwarzyna::{lent, Index, IndexMut, Refusal, State, StateMut};
 
     use crate::engine::{Answer, Ran, Settings, ACCEPTED};
@@ -57,17 +57,12 @@ mod linked {
         skwarzyna::Settings { p, gx, gy, gz }
     }
 
+    fn state(set: Set) -> State {
+        State { flags: set.flags, parts: set.parts, masses: set.masses, fills: set.fills, carry: set.carry }
+    }
+
     fn held(Held { set, index }: Held) -> skwarzyna::Held {
-        skwarzyna::Held {
-            state: State {
-                flags: set.flags,
-                parts: set.parts,
-                masses: set.masses,
-                fills: set.fills,
-                carry: set.carry,
-            },
-            index: Index { words: index.words, count: index.count },
-        }
+        skwarzyna::Held { state: state(set), index: Index { words: index.words, count: index.count } }
     }
 
     fn held_mut(HeldMut { set, index }: HeldMut) -> skwarzyna::HeldMut {

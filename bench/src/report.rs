@@ -7,8 +7,8 @@ use crate::engine::Engine;
 use crate::growth::{line, linear, power, Point};
 use crate::measure::{Measured, Time};
 use crate::plain::PLAIN;
-use crate::sweep::Swept;
 use crate::pools::Asked;
+use crate::sweep::Swept;
 
 /// One scene's water before and after its run.
 pub struct Totals {
