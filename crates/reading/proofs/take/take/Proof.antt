@@ -8,6 +8,7 @@ use lib.IntN.{ℤ}
 use lib.ListN.{length, take, drop, set, length-set}
 use denote.Ref.{now}
 use mir.Syntax.{w64}
+use mir.Val.{toZ, ofZ}
 use mir.ValLaws.{toZ-ofZ}
 use Rattle.grid.specs.Grid.{cellsOf}
 use Rattle.grid.specs.State.{lentOf}
@@ -159,10 +160,15 @@ slice-set-from-kept : tie.Need-slice-set-from-kept
 slice-set-from-kept c = omega (arith, held c)
 
 slice-set-from-poured : tie.Need-slice-set-from-poured
-slice-set-from-poured c = subst (λ (m : ℕ). 1 < m) (sym (length-set _ 0 _ ∙ held c)) (omega arith)
+slice-set-from-poured c =
+    let l = now (d (first (c .before .before)) .args .carry) in
+    subst (λ (m : ℕ). 1 < m) (sym (length-set l 0 (toZ w64 (ofZ w64 (c .before .before .i64-at .result))) ∙ held c)) (omega arith)
 
 slice-set-from-taken : tie.Need-slice-set-from-taken
-slice-set-from-taken c = subst (λ (m : ℕ). 2 < m) (sym (length-set _ 1 _ ∙ length-set _ 0 _ ∙ held c)) (omega arith)
+slice-set-from-taken c =
+    let l = now (d (first (c .before .before)) .args .carry) in
+    let x = toZ w64 (ofZ w64 (c .before .before .i64-at .result)) in
+    subst (λ (m : ℕ). 2 < m) (sym (length-set (set l 0 x) 1 (toZ w64 (ofZ w64 (c .before .later-in .result))) ∙ length-set l 0 x ∙ held c)) (omega arith)
 
 same-length : tie.Need-same-length
 same-length c = search needs
