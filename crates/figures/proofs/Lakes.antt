@@ -21,7 +21,7 @@ use Rattle.pumps.specs.Three.{open-three}
 use Rattle.pools.specs.Outcome as pools
 use Rattle.pools.specs.Outcome.{tested}
 use Rattle.pools.proofs.Guessed.{Right, guessed, guess-right, toldGuess, roomGuess, open-guess}
-use Rattle.figures.specs.Lakes.{lakeSides, lake, space, toldList, twoPools, noRoom, onePool, poolFigures}
+use Rattle.figures.specs.Lakes.{lakeSides, lake, space, toldList, asked, twoPools, noRoom, onePool, poolFigures}
 use Rattle.figures.specs.Table.{Figure, sameZ, hold}
 
 -- the lowest cells: each its own, and with 22 between them 21
@@ -32,9 +32,13 @@ is-done : (a : Answer) → T (accepted a) → a ≡ Done
 is-done Done t = refl
 is-done (Refused n p) t = absurd t
 
-and-T : (a b : Bool) → T a → T b → T (a && b)
-and-T true b s t = t
-and-T false b s t = s
+-- a figure before others
+more : (f : Figure) (fs : List Figure) → T (sameZ (f .worked) (f .said)) → T (hold fs) → T (hold (f ∷ fs))
+more f fs s t = go (sameZ (f .worked) (f .said)) s
+  where
+    go : (b : Bool) → T b → T (b && hold fs)
+    go true u = t
+    go false u = u
 
 -- ---- the tests, computed
 passes-two : T (accepted (tested lakeSides (lake false) (space 3)))
@@ -81,9 +85,9 @@ module _ (between : Bool) (n : ℕ) (said : List ℤ) where
 
 pub lakes-hold : T (hold poolFigures)
 lakes-hold =
-    and-T _ _ (by-guess false 3 twoPools passes-two guess-two told-two)
-    (and-T _ _ (by-guess false 1 noRoom passes-short guess-two told-short)
-    (and-T _ true (by-guess true 1 onePool passes-one guess-one told-one) tt))
+    more (asked false 3 twoPools) (asked false 1 noRoom ∷ asked true 1 onePool ∷ []) (by-guess false 3 twoPools passes-two guess-two told-two)
+    (more (asked false 1 noRoom) (asked true 1 onePool ∷ []) (by-guess false 1 noRoom passes-short guess-two told-short)
+    (more (asked true 1 onePool) [] (by-guess true 1 onePool passes-one guess-one told-one) tt))
 
 -- one table after another
 pub hold-both : (xs ys : List Figure) → T (hold xs) → T (hold ys) → T (hold (xs ++ ys))

@@ -48,7 +48,7 @@ abbrev cells : ℕ → ℕ → ℕ → List ℤ
 cells first between second =
     tab 64 (λ c. pos (cond (eqb c 21) first (cond (eqb c 22) between (cond (eqb c 42) second 0)))) ++ replicate 64 (pos 0)
 
-abbrev asked : Bool → ℕ → List ℤ → Figure
+abbrev pub asked : Bool → ℕ → List ℤ → Figure
 asked between n said = record { worked = toldList (poolsAnswer lakeSides (lake between) (space n)) (poolsRoom lakeSides (lake between) (space n)); said = said }
 
 -- two corners, room for three: 2 pools, counts 1, 1, waters 1,000, −7, what stands behind them as it was
