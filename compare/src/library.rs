@@ -199,7 +199,8 @@ pub fn compare(wish: &Wish, total: &mut Total) {
         .flat_map(|&small| (0..small.record().len() + 20).map(move |room| (small, room)))
         .collect();
     let wanted: &Wanted = &[("write", &["0", "12"])];
-    let title = "the library's writer on four small records, every size of room up to a little more than enough";
+    let title =
+        "the library's writer on four small records, every size of room up to a little more than enough";
     total.compare(title, wish, rooms.len(), wanted, |number| {
         let (small, room) = rooms[number];
         let record = small.record();

@@ -6,7 +6,8 @@ use crate::random::Random;
 use crate::scenes::{good, Scene};
 use crate::settings::REACH;
 use crate::state::{
-    Cell, CARRY_LIMIT, EMPTY, FLUID, HIGHEST_DENSITY, INTERFACE, LOWEST_DENSITY, MASS_LIMIT, PART_LIMIT, TOTAL_LIMIT, WALL,
+    Cell, CARRY_LIMIT, EMPTY, FLUID, HIGHEST_DENSITY, INTERFACE, LOWEST_DENSITY, MASS_LIMIT, PART_LIMIT,
+    TOTAL_LIMIT, WALL,
 };
 
 /// Where in the reader's order a fault is found: section (8 after the last), then the test within it.

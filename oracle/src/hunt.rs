@@ -414,7 +414,10 @@ fn damages(seed: u64, tally: &mut Tally) -> Finding {
     let Some(fault) = damaged.fault else {
         if answer.is_ok() {
             tally.add("damaged at random and still accepted", 1);
-            ensure(rewritten(&damaged.bytes)? == written_back(&damaged.bytes), "a damaged record was written otherwise")?;
+            ensure(
+                rewritten(&damaged.bytes)? == written_back(&damaged.bytes),
+                "a damaged record was written otherwise",
+            )?;
         }
         return Ok(());
     };

@@ -105,7 +105,8 @@ pub fn read<'a>(
 
     let mut mass = read_masses.into_iter().map(i128::from);
     let mut part = read_parts.into_iter().map(i128::from);
-    let mut state = State { cells: Vec::with_capacity(n), carry: total(0), poured: total(1), taken: total(2) };
+    let mut state =
+        State { cells: Vec::with_capacity(n), carry: total(0), poured: total(1), taken: total(2) };
     for &flag in flags {
         let mut cell = Cell::blank(flag);
         if cell.liquid() {
@@ -136,7 +137,13 @@ pub fn read_within(bytes: &[u8], room: usize) -> Result<(Reading<'_>, Store), Re
 }
 
 /// The bytes of a record with three numbers in section 4 or only the carry there, of a good state or of a damaged one.
-pub fn encode(sides: [u32; 3], settings: &Settings, origin: [i64; 3], state: &State, numbers: usize) -> Vec<u8> {
+pub fn encode(
+    sides: [u32; 3],
+    settings: &Settings,
+    origin: [i64; 3],
+    state: &State,
+    numbers: usize,
+) -> Vec<u8> {
     let interface = state.cells.iter().filter(|cell| cell.flag == INTERFACE);
     let liquid = state.cells.iter().filter(|cell| cell.liquid());
     let masses: Vec<i32> = interface.map(|cell| cell.mass as i32).collect();

@@ -110,9 +110,14 @@ fn wrong_lengths_are_refused_and_nothing_is_written() {
 #[test]
 fn reader_tests_lengths_right_after_the_sides() {
     let bytes = case_t().record();
-    for (parts, masses, fills, carry) in
-        [(512, 27, 27, 3), (513, 26, 27, 3), (513, 27, 28, 3), (513, 27, 27, 1), (513, 27, 27, 2), (513, 27, 27, 4)]
-    {
+    for (parts, masses, fills, carry) in [
+        (512, 27, 27, 3),
+        (513, 26, 27, 3),
+        (513, 27, 28, 3),
+        (513, 27, 27, 1),
+        (513, 27, 27, 2),
+        (513, 27, 27, 4),
+    ] {
         let answer = read(
             &bytes[..16],
             &mut vec![0; parts],

@@ -100,7 +100,9 @@ impl Refusal {
     /// The place as what it is.
     pub fn at(&self) -> Place {
         match self.number {
-            Refusal::FLAG | Refusal::LAYER | Refusal::FLOW | Refusal::NOT_INTERFACE => Place::Cell(self.place),
+            Refusal::FLAG | Refusal::LAYER | Refusal::FLOW | Refusal::NOT_INTERFACE => {
+                Place::Cell(self.place)
+            }
             Refusal::STATE | Refusal::NEXT => Place::CellOrCarry(self.place),
             Refusal::END => Place::Byte(self.place),
             Refusal::COUNT => Place::Section(self.place),
@@ -120,7 +122,10 @@ impl Display for Refusal {
             Place::None => Ok(()),
             Place::Cell(cell) => write!(text, ", at cell {cell}"),
             Place::CellOrCarry(cell) => {
-                write!(text, ", at cell {cell} (the carry, poured or taken, where that is the number of cells)")
+                write!(
+                    text,
+                    ", at cell {cell} (the carry, poured or taken, where that is the number of cells)"
+                )
             }
             Place::Byte(byte) => write!(text, ", at byte {byte}"),
             Place::Section(section) => write!(text, ", in section {section}"),

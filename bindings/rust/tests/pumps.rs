@@ -65,7 +65,8 @@ fn the_balance_never_changes() {
                     let surface: Vec<usize> = (0..flags.len()).filter(|&c| flags[c] == INTERFACE).collect();
                     let cell = if surface.is_empty() { 0 } else { random.pick(&surface) };
                     let amount = random.between(0, 589_825) as i64;
-                    let _ = if random.percent(50) { grid.pour(cell, amount) } else { grid.take(cell, amount) };
+                    let _ =
+                        if random.percent(50) { grid.pour(cell, amount) } else { grid.take(cell, amount) };
                 }
             }
             assert_eq!((grid.water().balance(), grid.check()), (balance, Ok(())), "seed {seed}");

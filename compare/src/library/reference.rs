@@ -48,7 +48,8 @@ pub fn take(case: &mut Case) -> Reply {
 
 /// Loading, step and run are lent the carry alone: they neither test nor write poured and taken.
 fn carry_alone(case: &mut Case, call: fn(&mut Case) -> Reply) -> Reply {
-    let kept = [&case.first, &case.second].map(|set| set.carry.get(1..).map(<[i64]>::to_vec).unwrap_or_default());
+    let kept =
+        [&case.first, &case.second].map(|set| set.carry.get(1..).map(<[i64]>::to_vec).unwrap_or_default());
     for set in [&mut case.first, &mut case.second] {
         set.carry.iter_mut().skip(1).for_each(|total| *total = 0);
     }

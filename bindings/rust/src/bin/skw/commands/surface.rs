@@ -7,12 +7,7 @@ use crate::arguments::{Arguments, Choice, OUTPUT};
 use crate::failure::Failure;
 use crate::records;
 
-const FROM: Choice = Choice {
-    name: "from",
-    letter: Some('f'),
-    value: Some("C"),
-    help: "begin at cell C",
-};
+const FROM: Choice = Choice { name: "from", letter: Some('f'), value: Some("C"), help: "begin at cell C" };
 const NUMBER: Choice =
     Choice { name: "number", letter: Some('n'), value: None, help: "say how many there are, and no more" };
 
