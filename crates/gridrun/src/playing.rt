@@ -82,13 +82,15 @@ fn go(
     if carry.len() == 0 {
         return false;
     }
+    let mut kept = [0i64; 1];
+    kept[0] = carry[0];
     let ran = running::run(
         steps,
         flags,
         parts,
         masses,
         fills,
-        &mut carry[..1],
+        &mut kept,
         flags2,
         parts2,
         masses2,
@@ -98,6 +100,7 @@ fn go(
         s,
         g,
     );
+    carry[0] = kept[0];
     let a = ran.answer;
     tell(ran.count, a);
     reached(a)
