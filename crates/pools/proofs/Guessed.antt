@@ -19,6 +19,7 @@ use Rattle.whole.specs.Tab.{tab-cong}
 use Rattle.lattice.specs.Lattice.{Lattice, d3q19}
 use Rattle.lattice.proofs.Paired.{Paired, paired19}
 use Rattle.grid.specs.declared.Sides.{Sides}
+use Rattle.grid.specs.declared.Answer.{Answer}
 use Rattle.grid.specs.declared.Answer.the-variants as answer
 use Rattle.grid.specs.Grid.{Grid, cellsOf, gridOf}
 use Rattle.grid.specs.State.{Lent, liquid, stateOf}
@@ -171,7 +172,7 @@ module _ (L : Lattice) (G : Grid) (flag low : ℕ → ℕ) (p : Paired L) (laid 
       sum-cong (G .cells) (λ c. cond (eqb (mark q G flag c) k) (mass c) (pos 0)) (λ c. cond (eqb (markGuess q G flag low c) k) (mass c) (pos 0))
       (λ c h. ap (λ (m : ℕ). cond (eqb m k) (mass c) (pos 0)) (marks c h))
 
--- ---- the outcome of a lent set, from a guess
+-- ---- the outcome of a lent set that passes tests 1 to 6, from a guess
 
 module _ (s : Sides) (a : Lent) (r : Room) (low : ℕ → ℕ) where
   abbrev flag : ℕ → ℕ
@@ -181,11 +182,11 @@ module _ (s : Sides) (a : Lent) (r : Room) (low : ℕ → ℕ) where
   number = countGuess 18 (gridOf s) flag low
 
   unfoldable pub toldGuess : Told
-  toldGuess = byTests (tested s a r) (leb number (length (r .counts))) Refused (Refused 21 number) (Pools number)
+  toldGuess = byTests answer.Done (leb number (length (r .counts))) Refused (Refused 21 number) (Pools number)
 
   unfoldable pub roomGuess : Room
   roomGuess =
-      byTests (tested s a r) (leb number (length (r .counts))) (λ n p. r)
+      byTests answer.Done (leb number (length (r .counts))) (λ n p. r)
       (room (replicate (cellsOf s) 0) (replicate (cellsOf s) 0) (r .counts) (r .waters))
       (room (tab (cellsOf s) (markGuess 18 (gridOf s) flag low)) (replicate (cellsOf s) 0)
       (tab number (λ k. cellsGuess 18 (gridOf s) flag low (suc k)) ++ drop number (r .counts))
@@ -209,14 +210,20 @@ module _ (s : Sides) (a : Lent) (r : Room) (low : ℕ → ℕ) where
       = tab-cong number (λ k. waterIn s a (suc k)) (λ k. waterGuess 18 (gridOf s) flag low (stateOf 18 a .mass) (suc k)) (pos 0)
       (λ k h. waters d3q19 (gridOf s) flag low paired19 (grid-laid s) outer passes (stateOf 18 a .mass) (suc k)) in
       record {
-        told-is = ap (λ (k : ℕ). byTests (tested s a r) (leb k (length (r .counts))) Refused (Refused 21 k) (Pools k)) n;
+        told-is = ap (λ (k : ℕ). byTests (tested s a r) (leb k (length (r .counts))) Refused (Refused 21 k) (Pools k)) n
+            ∙ ap (λ (x : Answer). byTests x (leb number (length (r .counts))) Refused (Refused 21 number) (Pools number)) done;
         room-is =
             ap (λ (k : ℕ). byTests (tested s a r) (leb k (length (r .counts))) (λ n p. r)
             (room (replicate (cellsOf s) 0) (replicate (cellsOf s) 0) (r .counts) (r .waters))
             (room (tab (cellsOf s) (markOf s (a .flags))) (replicate (cellsOf s) 0)
             (tab k (λ k. cellsIn s (a .flags) (suc k)) ++ drop k (r .counts))
             (tab k (λ k. waterIn s a (suc k)) ++ drop k (r .waters)))) n
-            ∙ three m c w;
+            ∙ three m c w
+            ∙ ap (λ (x : Answer). byTests x (leb number (length (r .counts))) (λ n p. r)
+            (room (replicate (cellsOf s) 0) (replicate (cellsOf s) 0) (r .counts) (r .waters))
+            (room (tab (cellsOf s) (markGuess 18 (gridOf s) flag low)) (replicate (cellsOf s) 0)
+            (tab number (λ k. cellsGuess 18 (gridOf s) flag low (suc k)) ++ drop number (r .counts))
+            (tab number (λ k. waterGuess 18 (gridOf s) flag low (stateOf 18 a .mass) (suc k)) ++ drop number (r .waters)))) done;
       }
     where
       three : {m m′ c c′ : List ℕ} {w w′ : List ℤ} → m ≡ m′ → c ≡ c′ → w ≡ w′
