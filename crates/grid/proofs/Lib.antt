@@ -27,6 +27,8 @@ pub mod Slopes
 pub mod Prepared
 pub mod Blocks
 pub mod Moved
+pub mod Picked
+pub mod Dense
 pub mod Fair
 pub mod Ranges
 pub mod Rules

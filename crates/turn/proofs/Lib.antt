@@ -1,7 +1,6 @@
 pub mod Arrays
 pub mod Weighed
 pub mod Fills
-pub mod Picked
 pub mod Births
 pub mod Means
 pub mod Newborns
