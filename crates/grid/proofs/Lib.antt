@@ -14,6 +14,7 @@ pub mod Level
 pub mod Accurate
 pub mod Unique
 pub mod Counted
+pub mod Arrived
 pub mod Offsets
 pub mod Coordinates
 pub mod Copies
