@@ -2,7 +2,7 @@
 
 use std::env;
 
-/// The object or archive of crates/host, and the object that compare/callable makes.
+/// The object of the crates host.., and the object that compare/callable makes.
 const OBJECTS: [&str; 2] = ["SKWARZYNA_OBJECT", "GRIDSTEP_OBJECT"];
 
 fn main() {

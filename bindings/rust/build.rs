@@ -1,4 +1,4 @@
-// Links the compiled library: the object or static library of crates/host that SKWARZYNA_OBJECT names.
+// Links the compiled library: the object of the crates host.. that SKWARZYNA_OBJECT names.
 
 use std::path::{Path, PathBuf};
 use std::process::Command;

@@ -1,4 +1,4 @@
-// What crates/host exports, as include/skwarzyna.h has it: a slice passes as pointer, then length.
+// What the crates host.. export, as include/skwarzyna.h has it: a slice passes as pointer, then length.
 
 extern "C" {
     pub fn skw_check(

@@ -1,5 +1,1 @@
 pub mod Returned
-pub mod Told
-pub mod Depths
-pub mod Unique
-pub mod Pools

@@ -3,7 +3,7 @@ use grid::Answer;
 ghost use mathlib.Core.Path.{_≡_};
 ghost use Rattle.grid.specs.Outcome.{numberOf, placeOf};
 
-pub(crate) fn number_of(a: Answer) -> u8
+pub fn number_of(a: Answer) -> u8
     ensures { λ r. ⌜ r ≡ numberOf a ⌝ }
 {
     match a {
@@ -12,7 +12,7 @@ pub(crate) fn number_of(a: Answer) -> u8
     }
 }
 
-pub(crate) fn place_of(a: Answer) -> usize
+pub fn place_of(a: Answer) -> usize
     ensures { λ r. ⌜ r ≡ placeOf a ⌝ }
 {
     match a {

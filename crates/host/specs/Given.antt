@@ -1,0 +1,11 @@
+-- What the layers take, from the numbers that a call is given. Assumes nothing.
+use Prim.Native.Nat.{ℕ}
+use lib.IntN.{ℤ}
+use Rattle.lattice.specs.declared.Settings.{Settings}
+use Rattle.grid.specs.declared.Sides.{Sides}
+
+abbrev pub sidesOf : ℕ → ℕ → ℕ → Sides
+sidesOf nx ny nz = record { nx = nx; ny = ny; nz = nz }
+
+abbrev pub settingsOf : ℤ → ℤ → ℤ → ℤ → Settings
+settingsOf p gx gy gz = record { p = p; gx = gx; gy = gy; gz = gz }

@@ -1,0 +1,70 @@
+// The run.
+use calls::running;
+use grid::Sides;
+use host::answers::number_of;
+use host::answers::place_of;
+use lattice::Settings;
+ghost use Rattle.grid.specs.State.{lent};
+ghost use Rattle.index.specs.Index.{index};
+ghost use Rattle.calls.specs.Outcome.{held};
+ghost use Rattle.host.specs.Given.{sidesOf, settingsOf};
+ghost use Rattle.hoststep.specs.Promise.{RunTold};
+
+// At most `steps` steps between the two sets, each with its index; how many were made.
+#[no_mangle]
+pub extern "C" fn skw_run(
+    steps: usize,
+    flags: &mut [u8],
+    parts: &mut [i32],
+    masses: &mut [i32],
+    fills: &mut [u32],
+    carry: &mut [i64],
+    words: &mut [u64],
+    count: &mut [u64],
+    flags2: &mut [u8],
+    parts2: &mut [i32],
+    masses2: &mut [i32],
+    fills2: &mut [u32],
+    carry2: &mut [i64],
+    words2: &mut [u64],
+    count2: &mut [u64],
+    marks: &mut [u8],
+    nx: usize,
+    ny: usize,
+    nz: usize,
+    p: i64,
+    gx: i64,
+    gy: i64,
+    gz: i64,
+    number: &mut u8,
+    place: &mut usize,
+) -> usize
+    ensures { λ r. ⌜ RunTold steps (sidesOf nx ny nz) (settingsOf p gx gy gz) (held (lent (now (flags .entry)) (now (parts .entry)) (now (masses .entry)) (now (fills .entry)) (now (carry .entry))) (index (now (words .entry)) (now (count .entry)))) (held (lent (now (flags2 .entry)) (now (parts2 .entry)) (now (masses2 .entry)) (now (fills2 .entry)) (now (carry2 .entry))) (index (now (words2 .entry)) (now (count2 .entry)))) (now (marks .entry)) r (now (number .exit)) (now (place .exit)) (held (lent (now (flags .exit)) (now (parts .exit)) (now (masses .exit)) (now (fills .exit)) (now (carry .exit))) (index (now (words .exit)) (now (count .exit)))) (held (lent (now (flags2 .exit)) (now (parts2 .exit)) (now (masses2 .exit)) (now (fills2 .exit)) (now (carry2 .exit))) (index (now (words2 .exit)) (now (count2 .exit)))) (now (marks .exit)) ⌝ }
+{
+    let s = Sides { nx, ny, nz };
+    let g = Settings { p, gx, gy, gz };
+    let ran = running::run(
+        steps,
+        flags,
+        parts,
+        masses,
+        fills,
+        carry,
+        words,
+        count,
+        flags2,
+        parts2,
+        masses2,
+        fills2,
+        carry2,
+        words2,
+        count2,
+        marks,
+        s,
+        g,
+    );
+    let a = ran.answer;
+    *number = number_of(a);
+    *place = place_of(a);
+    ran.count
+}

@@ -1,0 +1,4 @@
+pub mod Returned
+pub mod Told
+pub mod Depths
+pub mod Unique
