@@ -30,9 +30,9 @@ pub record Swept (s : Sides) (words : List ℕ) (start : ℕ) (cells : List ℕ)
   pub most : length cells ≤ howMany (cellsOf s) words
 
 -- of a loaded set: its interface cells from the start on, each once, in rising order, for at most the words and as many more as there are interface cells
-pub record SurfaceSwept (s : Sides) (a : Lent) (start : ℕ) (cells : List ℕ) (read : ℕ) : Type 0 where
+pub record SurfaceSwept (s : Sides) (a : Lent) (start : ℕ) (cells : List ℕ) (looked : ℕ) : Type 0 where
   pub each : cells ≡ listFrom (cellsOf s - start) start (interface (a .flags))
-  pub cost : read ≤ wordsOf (cellsOf s) + length cells
+  pub cost : looked ≤ wordsOf (cellsOf s) + length cells
   pub most : length cells ≤ surfaceCells (cellsOf s) (a .flags)
 
 -- names every definition of this file: whoever unfolds this computes with all of them

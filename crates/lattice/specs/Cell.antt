@@ -53,7 +53,7 @@ coordinateGood x = leZ (negsuc 9999999999) x && leZ x (pos 10000000000)
 
 -- ---- the stages
 
--- stage 1, towards an empty cell: cut(w·16,384·(2ρ² + 9(e·j)² − 3j²)/ρ²), what both opposite parts add up to
+-- stage 1, where a part is rebuilt: cut(w·16,384·(2ρ² + 9(e·j)² − 3j²)/ρ²), what both opposite parts add up to
 unfoldable pub gas : ℕ → ℤ → ℤ → ℤ → ℤ
 gas w ρ ej jj = cut (pos (w * 16384) *ℤ (pos 2 *ℤ (ρ *ℤ ρ) +ℤ pos 9 *ℤ (ej *ℤ ej) -ℤ pos 3 *ℤ jj)) (ρ *ℤ ρ)
 

@@ -1,4 +1,4 @@
-// Stage 1: what a cell rebuilds beside an empty one.
+// Stage 1: what a cell rebuilds, towards an empty neighbour or along its normal.
 use lattice::Flow;
 use lattice::moments::speed_squared;
 use lattice::moments::times;
