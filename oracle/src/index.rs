@@ -3,7 +3,7 @@
 
 use crate::grid::{refuse, Grid, Refusal};
 use crate::record::{self, opened, Reading};
-use crate::run::{Run, MOST_STEPS};
+use crate::run::{advance, Run, MOST_STEPS};
 use crate::sets::{Set, SetMut, Store};
 use crate::settings::test_flow;
 use crate::state::{good_state, State, INTERFACE};
@@ -244,16 +244,7 @@ pub fn run(
         Ok(accepted) => accepted,
         Err(refusal) => return Run { count: 0, refusal: Some(refusal) },
     };
-    let mut outcome = Run { count: 0, refusal: None };
-    while outcome.count < steps && outcome.refusal.is_none() {
-        match next_state(&grid, &state, p, gravity) {
-            Ok(next) => {
-                state = next;
-                outcome.count += 1;
-            }
-            Err(refusal) => outcome.refusal = Some(refusal),
-        }
-    }
+    let outcome = advance(&grid, &mut state, p, gravity, steps);
     first.put(&state);
     second.put(&state);
     marks.fill(0);

@@ -1,7 +1,8 @@
 // The run: steps until the number asked is made or one is refused.
 
-use crate::grid::Refusal;
+use crate::grid::{Grid, Refusal};
 use crate::sets::SetMut;
+use crate::state::State;
 use crate::step::{next_state, tested};
 
 pub const MOST_STEPS: u32 = 1000;
@@ -11,6 +12,21 @@ pub const MOST_STEPS: u32 = 1000;
 pub struct Run {
     pub count: u32,
     pub refusal: Option<Refusal>,
+}
+
+/// Step after step from a good state, until one is refused or so many are made.
+pub(crate) fn advance(grid: &Grid, state: &mut State, p: i32, gravity: [i32; 3], steps: u32) -> Run {
+    let mut outcome = Run { count: 0, refusal: None };
+    while outcome.count < steps && outcome.refusal.is_none() {
+        match next_state(grid, state, p, gravity) {
+            Ok(next) => {
+                *state = next;
+                outcome.count += 1;
+            }
+            Err(refusal) => outcome.refusal = Some(refusal),
+        }
+    }
+    outcome
 }
 
 pub fn run(
@@ -29,16 +45,7 @@ pub fn run(
         Ok(accepted) => accepted,
         Err(refusal) => return Run { count: 0, refusal: Some(refusal) },
     };
-    let mut outcome = Run { count: 0, refusal: None };
-    while outcome.count < steps && outcome.refusal.is_none() {
-        match next_state(&grid, &state, p, gravity) {
-            Ok(next) => {
-                state = next;
-                outcome.count += 1;
-            }
-            Err(refusal) => outcome.refusal = Some(refusal),
-        }
-    }
+    let outcome = advance(&grid, &mut state, p, gravity, steps);
     first.put(&state);
     second.put(&state);
     marks.fill(0);
