@@ -9,7 +9,8 @@
 
 use crate::raw;
 use crate::{
-    CellPoint, Depth, Held, HeldMut, IndexMut, Next, Point, Refusal, Settings, Sides, Site, State, Stopped,
+    CellPoint, Depth, Held, HeldMut, IndexMut, Next, Point, Refusal, Settings, Sides, Site, State, StateMut,
+    Stopped,
 };
 
 /// What the reader answers beside the slices that it fills.
@@ -27,6 +28,12 @@ fn answered(number: u8, place: usize) -> Result<(), Refusal> {
         0 => Ok(()),
         _ => Err(Refusal::new(number, place)),
     }
+}
+
+/// How many numbers of the carry's slice loading, step and run are lent: the carry alone; none, which they refuse, where the slice
+/// has not three.
+fn alone(carry: &[i64]) -> usize {
+    usize::from(carry.len() == 3)
 }
 
 /// Whether a state is good. Refusals 1, 2, 4, 5, 6.
@@ -53,6 +60,61 @@ pub fn check(sides: Sides, state: State) -> Result<(), Refusal> {
     answered(number, place)
 }
 
+/// Pours an amount into an interface cell; what was moved, which is the amount. Refusals 1, 2, 4, 5, 6, 13, 15, 16.
+pub fn pour(sides: Sides, state: StateMut, cell: usize, amount: i64) -> Result<i64, Refusal> {
+    let (mut moved, mut place) = (0, 0);
+    let number = unsafe {
+        raw::skw_pour(
+            state.flags.as_ptr(),
+            state.flags.len(),
+            state.parts.as_ptr(),
+            state.parts.len(),
+            state.masses.as_mut_ptr(),
+            state.masses.len(),
+            state.fills.as_mut_ptr(),
+            state.fills.len(),
+            state.carry.as_mut_ptr(),
+            state.carry.len(),
+            sides.nx,
+            sides.ny,
+            sides.nz,
+            cell,
+            amount,
+            &mut moved,
+            &mut place,
+        )
+    };
+    answered(number, place).map(|()| moved)
+}
+
+/// Takes from an interface cell the smaller of an amount and its mass, nothing if the mass is not above 0; what was moved.
+/// Refusals 1, 2, 4, 5, 6, 13, 15, 16.
+pub fn take(sides: Sides, state: StateMut, cell: usize, amount: i64) -> Result<i64, Refusal> {
+    let (mut moved, mut place) = (0, 0);
+    let number = unsafe {
+        raw::skw_take(
+            state.flags.as_ptr(),
+            state.flags.len(),
+            state.parts.as_ptr(),
+            state.parts.len(),
+            state.masses.as_mut_ptr(),
+            state.masses.len(),
+            state.fills.as_mut_ptr(),
+            state.fills.len(),
+            state.carry.as_mut_ptr(),
+            state.carry.len(),
+            sides.nx,
+            sides.ny,
+            sides.nz,
+            cell,
+            amount,
+            &mut moved,
+            &mut place,
+        )
+    };
+    answered(number, place).map(|()| moved)
+}
+
 /// Whether a state is good and its index true. Refusals 1, 2, 4, 5, 6, 14.
 pub fn load(sides: Sides, held: Held) -> Result<(), Refusal> {
     let Held { state, index } = held;
@@ -68,7 +130,7 @@ pub fn load(sides: Sides, held: Held) -> Result<(), Refusal> {
             state.fills.as_ptr(),
             state.fills.len(),
             state.carry.as_ptr(),
-            state.carry.len(),
+            alone(state.carry),
             index.words.as_ptr(),
             index.words.len(),
             index.count.as_ptr(),
@@ -146,7 +208,7 @@ pub fn step(
             first.fills.as_ptr(),
             first.fills.len(),
             first.carry.as_ptr(),
-            first.carry.len(),
+            alone(first.carry),
             index.words.as_ptr(),
             index.words.len(),
             index.count.as_ptr(),
@@ -160,7 +222,7 @@ pub fn step(
             second.fills.as_mut_ptr(),
             second.fills.len(),
             second.carry.as_mut_ptr(),
-            second.carry.len(),
+            alone(second.carry),
             index2.words.as_mut_ptr(),
             index2.words.len(),
             index2.count.as_mut_ptr(),
@@ -177,6 +239,9 @@ pub fn step(
             &mut place,
         )
     };
+    if matches!(number, 0 | Refusal::FLOW | Refusal::NEXT) {
+        second.carry[1..].copy_from_slice(&first.carry[1..]);
+    }
     answered(number, place)
 }
 
@@ -205,7 +270,7 @@ pub fn run(
             first.fills.as_mut_ptr(),
             first.fills.len(),
             first.carry.as_mut_ptr(),
-            first.carry.len(),
+            alone(first.carry),
             index.words.as_mut_ptr(),
             index.words.len(),
             index.count.as_mut_ptr(),
@@ -219,7 +284,7 @@ pub fn run(
             second.fills.as_mut_ptr(),
             second.fills.len(),
             second.carry.as_mut_ptr(),
-            second.carry.len(),
+            alone(second.carry),
             index2.words.as_mut_ptr(),
             index2.words.len(),
             index2.count.as_mut_ptr(),
@@ -237,6 +302,9 @@ pub fn run(
             &mut place,
         )
     };
+    if matches!(number, 0 | Refusal::FLOW | Refusal::NEXT) {
+        second.carry[1..].copy_from_slice(&first.carry[1..]);
+    }
     answered(number, place).map_err(|refusal| Stopped { count, refusal })
 }
 

@@ -8,6 +8,11 @@ const BEFORE: usize = 77;
 const BEFORE_SIGNED: i64 = -77;
 const BEFORE_FLOAT: f32 = -7.5;
 
+/// How many numbers of the carry's slice loading, step and run are lent: the carry alone; none where the slice has not three.
+fn alone(carry: &[i64]) -> usize {
+    usize::from(carry.len() == 3)
+}
+
 /// Why every call below is sound: each pointer comes from a slice of the length beside it or from a number of this frame.
 pub fn check(case: &mut Case) -> Reply {
     let [nx, ny, nz] = case.sides;
@@ -34,6 +39,64 @@ pub fn check(case: &mut Case) -> Reply {
     Reply { number, place, values: vec![] }
 }
 
+/// Its value is what was moved.
+pub fn pour(case: &mut Case) -> Reply {
+    let [nx, ny, nz] = case.sides;
+    let set = &mut case.first;
+    let (mut moved, mut place) = (BEFORE_SIGNED, BEFORE);
+    let number = unsafe {
+        raw::skw_pour(
+            set.flags.as_ptr(),
+            set.flags.len(),
+            set.parts.as_ptr(),
+            set.parts.len(),
+            set.masses.as_mut_ptr(),
+            set.masses.len(),
+            set.fills.as_mut_ptr(),
+            set.fills.len(),
+            set.carry.as_mut_ptr(),
+            set.carry.len(),
+            nx,
+            ny,
+            nz,
+            case.cell,
+            case.amount,
+            &mut moved,
+            &mut place,
+        )
+    };
+    Reply { number, place, values: vec![moved as u64] }
+}
+
+/// Its value is what was moved.
+pub fn take(case: &mut Case) -> Reply {
+    let [nx, ny, nz] = case.sides;
+    let set = &mut case.first;
+    let (mut moved, mut place) = (BEFORE_SIGNED, BEFORE);
+    let number = unsafe {
+        raw::skw_take(
+            set.flags.as_ptr(),
+            set.flags.len(),
+            set.parts.as_ptr(),
+            set.parts.len(),
+            set.masses.as_mut_ptr(),
+            set.masses.len(),
+            set.fills.as_mut_ptr(),
+            set.fills.len(),
+            set.carry.as_mut_ptr(),
+            set.carry.len(),
+            nx,
+            ny,
+            nz,
+            case.cell,
+            case.amount,
+            &mut moved,
+            &mut place,
+        )
+    };
+    Reply { number, place, values: vec![moved as u64] }
+}
+
 pub fn load(case: &mut Case) -> Reply {
     let [nx, ny, nz] = case.sides;
     let (set, index) = (&case.first, &case.first_index);
@@ -49,7 +112,7 @@ pub fn load(case: &mut Case) -> Reply {
             set.fills.as_ptr(),
             set.fills.len(),
             set.carry.as_ptr(),
-            set.carry.len(),
+            alone(&set.carry),
             index.words.as_ptr(),
             index.words.len(),
             index.count.as_ptr(),
@@ -112,7 +175,7 @@ pub fn step(case: &mut Case) -> Reply {
             first.fills.as_ptr(),
             first.fills.len(),
             first.carry.as_ptr(),
-            first.carry.len(),
+            alone(&first.carry),
             index.words.as_ptr(),
             index.words.len(),
             index.count.as_ptr(),
@@ -126,7 +189,7 @@ pub fn step(case: &mut Case) -> Reply {
             second.fills.as_mut_ptr(),
             second.fills.len(),
             second.carry.as_mut_ptr(),
-            second.carry.len(),
+            alone(&second.carry),
             index2.words.as_mut_ptr(),
             index2.words.len(),
             index2.count.as_mut_ptr(),
@@ -165,7 +228,7 @@ pub fn run(case: &mut Case) -> Reply {
             first.fills.as_mut_ptr(),
             first.fills.len(),
             first.carry.as_mut_ptr(),
-            first.carry.len(),
+            alone(&first.carry),
             index.words.as_mut_ptr(),
             index.words.len(),
             index.count.as_mut_ptr(),
@@ -179,7 +242,7 @@ pub fn run(case: &mut Case) -> Reply {
             second.fills.as_mut_ptr(),
             second.fills.len(),
             second.carry.as_mut_ptr(),
-            second.carry.len(),
+            alone(&second.carry),
             index2.words.as_mut_ptr(),
             index2.words.len(),
             index2.count.as_mut_ptr(),

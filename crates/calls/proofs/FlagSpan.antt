@@ -13,22 +13,22 @@ use Rattle.calls.specs.Reading.{readAnswer, readHead, readFlags, flagsFr
 
 -- the claim
 pub record Spans (r : List ℕ) (a : Held) : Type 0 where
-  pub bytes : let p = spanOf (length r) (readHead r a) in take (p .to - p .from) (drop (p .from) r) ≡ readFlags r a
-  pub begin : spanOf (length r) (readHead r a) .from ≡ flagsFrom r a
-  pub end : spanOf (length r) (readHead r a) .to ≡ flagsFrom r a + length (readFlags r a)
+  pub bytes : let p = spanOf r (readHead r a) in take (p .to - p .from) (drop (p .from) r) ≡ readFlags r a
+  pub begin : spanOf r (readHead r a) .from ≡ flagsFrom r a
+  pub end : spanOf r (readHead r a) .to ≡ flagsFrom r a + length (readFlags r a)
 
-part : (r : List ℕ) (a : Held) → let p = spanOf (length r) (readHead r a) in (take (p .to - p .from) (drop (p .from) r) ≡ readFlags r a) × (p .from ≡ flagsFrom r a)
+part : (r : List ℕ) (a : Held) → let p = spanOf r (readHead r a) in (take (p .to - p .from) (drop (p .from) r) ≡ readFlags r a) × (p .from ≡ flagsFrom r a)
 unfolding readHead readFlags flagsFrom
 part r a = go (accepted (readAnswer r a)) refl
   where
-    go : (t : Bool) → accepted (readAnswer r a) ≡ t → let p = spanOf (length r) (readHead r a) in (take (p .to - p .from) (drop (p .from) r) ≡ readFlags r a) × (p .from ≡ flagsFrom r a)
+    go : (t : Bool) → accepted (readAnswer r a) ≡ t → let p = spanOf r (readHead r a) in (take (p .to - p .from) (drop (p .from) r) ≡ readFlags r a) × (p .from ≡ flagsFrom r a)
     go true e = rw e (span-read r (a .set))
     go false e = rw (e, e) (refl, refl)
 
 pub spans : (r : List ℕ) (a : Held) → Spans r a
 spans r a =
-    let p = spanOf (length r) (readHead r a) in
-    let h = span-inside (length r) (readHead r a) in
+    let p = spanOf r (readHead r a) in
+    let h = span-inside r (readHead r a) in
     let e = part r a in
     record {
       bytes = e .0;

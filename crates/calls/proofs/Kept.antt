@@ -31,7 +31,7 @@ use Rattle.calls.specs.Demands.{Loads, StepKeeps, RunKeeps, AsBefore}
 use Rattle.calls.proofs.Entrance.{goes-on, may, index-is, as-base}
 use Rattle.calls.proofs.Outcomes.{move-by, entry-passed}
 
-lengths-good : (n : ℕ) (a : Lent) → Sized n a → lengthsGood n a ≡ true
+pub lengths-good : (n : ℕ) (a : Lent) → Sized n a → lengthsGood n a ≡ true
 unfolding lengthsGood
 lengths-good n a z = all (eq-eqb _ _ (z .flags)) (eq-eqb _ _ (z .parts)) (eq-eqb _ _ (z .masses)) (eq-eqb _ _ (z .fills)) (eq-eqb _ _ (z .carry))
   where

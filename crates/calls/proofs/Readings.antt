@@ -17,7 +17,7 @@ use Rattle.grid.specs.Grid.{cellsOf, sidesGood}
 use Rattle.grid.specs.Outcome.{accepted, orRefuse}
 use Rattle.grid.specs.State.{Lent}
 use Rattle.record.specs.declared.Head.{Head}
-use Rattle.record.specs.Reading.{sidesIn, cellsIn, flagsIn, slicesFit, whole, refusedHead}
+use Rattle.record.specs.Reading.{sidesIn, flagsAt, cellsIn, flagsIn, slicesFit, whole, refusedHead}
 use Rattle.record.specs.Reading as base
 use Rattle.record.specs.Promise as promise
 use Rattle.record.specs.Passes.{Sound}
@@ -177,15 +177,15 @@ module _ (r : List ℕ) (a : Held) where
         yes = told ∙ not-false u w
 
         abbrev part : List ℕ
-        part = let z = promise.spanOf (length r) h in take (z .to - z .from) (drop (z .from) r)
+        part = let z = promise.spanOf r h in take (z .to - z .from) (drop (z .from) r)
 
         pub part-is : part ≡ base.readFlags r (a .set)
-        part-is = ap (λ (g : Head). let z = promise.spanOf (length r) g in take (z .to - z .from) (drop (z .from) r)) (d .head-is) ∙ span-read r (a .set) .0
+        part-is = ap (λ (g : Head). let z = promise.spanOf r g in take (z .to - z .from) (drop (z .from) r)) (d .head-is) ∙ span-read r (a .set) .0
 
         pub part-length : length part ≡ cellsIn r
         part-length =
             let s = sound r (length (a .set .parts)) (length (a .set .masses)) (length (a .set .fills)) (length (a .set .carry)) (shape-accepted r (a .set) yes) in
-            ap length (part-is ∙ flags-read r (a .set) yes) ∙ length-flags r {n = cellsIn r} refl (omega (arith, s .flags .inside))
+            ap length (part-is ∙ flags-read r (a .set) yes) ∙ length-flags r {n = cellsIn r} {at = flagsAt r} refl refl (omega (arith, s .flags .inside))
 
         pub room : {flags : List ℕ} → flags ≡ part → Room (length flags) (a .index)
         room i = subst (λ (n : ℕ). Room n (a .index)) (sym (ap length i ∙ part-length)) (index-room r _ _ _ _ (a .index) went)

@@ -79,7 +79,7 @@ pub extern "C" fn skw_read(
     let g = h.settings;
     let t = h.site;
     let a = h.answer;
-    let f = flags::span(rec.len(), h);
+    let f = flags::span(rec, h);
     put_sides(s, nx, ny, nz);
     put_settings(g, p, gx, gy, gz);
     put_site(t, edge, ox, oy, oz);

@@ -1,14 +1,18 @@
--- A sum over those numbers below n that pass a test, beside their count: its bounds are the count times a term's. Assumes nothing.
+-- A sum over those numbers below n that pass a test, beside their count: its bounds are the count times a term's, and so its mean lies where the terms
+-- lie. Assumes nothing.
 use mathlib.Core.Path.{_≡_, refl, sym, ap, _∙_}
+use mathlib.Core.Logic.{_⊎_, inl, inr}
 use mathlib.Core.Bool.{Bool, true, false, cond}
-use Prim.Native.Nat.{ℕ, zero, suc, _+_, _*_, _<_, _≤_}
+use Prim.Native.Nat.{ℕ, zero, suc, _+_, _*_, _/_, _<_, _≤_}
+use native.Mathlib.Nat.{le-div-iff-mul-le, div-le-of-le-mul, mul-comm, not-suc-le-zero, eq-or-lt-of-le, le-of-suc-le-suc}
 use native.Mathlib.Numerals.{add-one}
 use native.Mathlib.Omega.{arith}
-use lib.IntN.{ℤ, pos, natAbs, _+ℤ_}
-use lib.Signed.{_≤ℤ_}
+use lib.IntN.{ℤ, pos, negsuc, natAbs, _+ℤ_}
+use lib.Signed.{_≤ℤ_, shrZ}
 use Rattle.whole.specs.Fold.{sum, count}
 use Rattle.whole.specs.Parts.{≤-parts, parts-≤, is-le, is-add, is-self, is-pos}
 use Rattle.whole.specs.Bounds.{abs-add}
+use Rattle.whole.specs.Machine.{Within}
 
 module _ (w : ℕ → Bool) where
   pub count-le : (n : ℕ) → count n w ≤ n
@@ -55,3 +59,22 @@ module _ (w : ℕ → Bool) where
             is-le (is-pos ((count n w + 1) * b)) (is-add (is-self (picked n)) (is-self (v n))) (omega (arith, ≤-parts k, ≤-parts (h n (omega arith) e)))
         go false e k =
             is-le (is-pos ((count n w + 0) * b)) (is-add (is-self (picked n)) (is-self (pos 0))) (omega (arith, ≤-parts k))
+
+-- one that passes is counted
+pub count-some : (n : ℕ) (f : ℕ → Bool) (a : ℕ) → a < n → f a ≡ true → 0 < count n f
+unfolding count
+count-some zero f a h e = absurd (not-suc-le-zero h)
+count-some (suc n) f a h e = go (eq-or-lt-of-le (le-of-suc-le-suc h)) (λ k. count-some n f a k e)
+  where
+    go : (a ≡ n) ⊎ (a < n) → (a < n → 0 < count n f) → 0 < count n f + cond (f n) 1 0
+    go (inl q) r = let t : f n ≡ true = ap f (sym q) ∙ e in rw t (omega arith)
+    go (inr k) r = omega (arith, r k)
+
+-- the floor of a mean lies where the terms lie
+pub floor-low : (s : ℤ) (k b : ℕ) → 0 < k → pos (k * b) ≤ℤ s → pos b ≤ℤ shrZ s k
+floor-low (pos m) k b z h = parts-≤ (let l : b ≤ m / k = le-div-iff-mul-le z .1 (omega (arith, ≤-parts h, mul-comm b k)) in omega arith)
+floor-low (negsuc m) k b z h = absurd (omega (arith, ≤-parts h))
+
+pub floor-abs : (s : ℤ) (k a b : ℕ) → pos a ≤ℤ s → natAbs s ≤ k * b → Within (shrZ s k) b
+floor-abs (pos m) k a b h l = record { abs = div-le-of-le-mul k l }
+floor-abs (negsuc m) k a b h l = absurd (omega (arith, ≤-parts h))
