@@ -1,11 +1,12 @@
 -- The span of a head lies within the bytes, and of the reader's own head it is the flag section: what is handed back is `readFlags`. Assumes nothing.
-use mathlib.Core.Path.{_≡_, refl, sym, ap, _∙_}
+use mathlib.Core.Path.{_≡_, refl, sym, ap, _∙_, subst}
 use mathlib.Core.Bool.{Bool, true, false, cond, _&&_}
 use mathlib.Core.List.{List, []}
 use Prim.Native.Nat.{ℕ, _+_, _-_, _≤_, zero-le}
 use native.Mathlib.Omega.{arith}
 use lib.Dec.{leb}
 use lib.ListN.{length, take, drop}
+use denote.Ref.{RefT, now}
 use borrow.Author.Tests.{leb-true, le-leb}
 use Rattle.whole.specs.Bools.{and-right}
 use Rattle.grid.specs.Grid.{sidesGood, cellsOf}
@@ -14,7 +15,7 @@ use Rattle.grid.specs.State.{Lent}
 use Rattle.record.specs.declared.Head.{Head}
 use Rattle.record.specs.declared.Span.{Span}
 use Rattle.record.specs.Reading.{sidesIn, flagsAt, cellsIn, flagsIn, readAnswer, readHead, readFlags, flagsFrom}
-use Rattle.record.specs.Promise.{spanOf}
+use Rattle.record.specs.Promise.{spanOf, Own, Handed}
 use Rattle.record.proofs.Shaped.{sound, shape-accepted}
 
 -- a span within n bytes
@@ -46,3 +47,9 @@ span-read r a = go (accepted (readAnswer r a)) refl
         let l : leb (flagsAt r + cellsOf (sidesIn r)) (length r) ≡ true = le-leb (flagsAt r + cellsOf (sidesIn r)) (length r) (omega (arith, k .flags .inside)) in
         let m : flagsAt r + cellsOf (sidesIn r) - flagsAt r ≡ cellsOf (sidesIn r) = omega arith in
         rw (e, k .sides, l) (ap (λ (n : ℕ). take n (drop (flagsAt r) r)) m, refl)
+
+-- the part that belongs to the reader's own head is what the reader is to hand back
+pub handed : (s : RefT (List ℕ)) (a : Lent) (h : Head) (f : RefT (List ℕ)) → h ≡ readHead (now s) a → Own s (spanOf (now s) h) f → Handed s a f
+handed s a h f e own =
+    let o : Own s (spanOf (now s) (readHead (now s) a)) f = subst (λ (k : Head). Own s (spanOf (now s) k) f) e own in
+    record { flags-are = o .bytes ∙ span-read (now s) a .0; block = o .block; place = o .place ∙ ap (λ (n : ℕ). s .ptr .1 + n) (span-read (now s) a .1) }

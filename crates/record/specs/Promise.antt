@@ -16,7 +16,7 @@ use Rattle.record.specs.declared.Site.{Site}
 use Rattle.record.specs.declared.Written.{Written}
 use Rattle.record.specs.declared.Head.{Head}
 use Rattle.record.specs.declared.Span.{Span}
-use Rattle.record.specs.Reading.{flagsAt, readHead, readSet}
+use Rattle.record.specs.Reading.{flagsAt, flagsFrom, readHead, readFlags, readSet}
 use Rattle.record.specs.Writing.{written, writtenRoom}
 
 -- the set that the reader is lent lacks the flags
@@ -42,6 +42,12 @@ pub record Own (s : RefT (List ℕ)) (p : Span) (r : RefT (List ℕ)) : Type 0 w
   pub bytes : now r ≡ take (p .to - p .from) (drop (p .from) (now s))
   pub block : r .ptr .0 ≡ s .ptr .0
   pub place : r .ptr .1 ≡ s .ptr .1 + p .from
+
+-- the reader that hands the flags back: they are the record's flag section, empty beside a refusal, and stand in the memory of the record
+pub record Handed (s : RefT (List ℕ)) (a : Lent) (flags : RefT (List ℕ)) : Type 0 where
+  pub flags-are : now flags ≡ readFlags (now s) a
+  pub block : flags .ptr .0 ≡ s .ptr .0
+  pub place : flags .ptr .1 ≡ s .ptr .1 + flagsFrom (now s) a
 
 -- the writer: its answer with the record's length, and the room
 pub record Wrote (s : Sides) (g : Settings) (t : Site) (a : Lent) (room : List ℕ) (answer : Written) (after : List ℕ) : Type 0 where

@@ -41,6 +41,7 @@ use denote.Triple.Walked.{says, Stays, stay-none-slice, gave-slice, walkOf, goes
 use denote.Triple.Clauses.{ensured, lasts}
 use denote.Exit.{yes}
 use Rattle.record.specs.Promise.{flagless, spanOf, Read, Own}
+use Rattle.record.proofs.Spanned.{handed}
 use Rattle.lattice.specs.declared.Settings.{Settings}
 use Rattle.grid.specs.declared.Sides.{Sides}
 use Rattle.grid.specs.declared.Answer.{Answer}
@@ -157,7 +158,7 @@ module _ {M : Type 1} (𝓤 : URA M) (H : Heap 𝓤) (A : Atoms 𝓤) (W : Given
       → ent 𝓤 (⋆ 𝓤 H A (Left f zs)) (Post (L′.lowered (made h f)))
   exits h f zs is e e′ m₁ m₂ m₃ m₄ =
       qed W (Left f zs) ∵
-      suffices ! _ (ends-at 𝓤 H A this.ended stayed (this.clauses 𝓤 H A mem run) W (((κ, κs), (q, qs), tt, a, vals), tt) (L′.lowered (made h f)) (made h f) zs (tt, (m₁, (m₂, (m₃, (m₄, tt)))))) $ says ! (e, e′) $
+      suffices ! _ (ends-at 𝓤 H A this.ended stayed (this.clauses 𝓤 H A mem run) W (((κ, κs), (q, qs), tt, a, vals), tt) (L′.lowered (made h f)) (made h f) zs (tt, (m₁, (m₂, (m₃, (m₄, tt)))))) $ says ! (e, handed x₀ (flagless (now x₁) (now x₂) (now x₃) (now x₄)) h f (e .head-is) e′) $
       -- the tokens
       move ! (1 ∷ []) $ split ! $ move ! (0 ∷ 4 ∷ []) $ join ! $ frame ! $
       -- [true; what flags owns; what rec owns; the last lists]: what is had of the parameters
