@@ -6,7 +6,7 @@ use Rattle.lattice.specs.declared.Settings.{Settings}
 use Rattle.grid.specs.declared.Sides.{Sides}
 use Rattle.grid.specs.declared.Answer.{Answer}
 use Rattle.grid.specs.Outcome.{numberOf, placeOf}
-use Rattle.calls.specs.Outcome.{Held}
+use Rattle.index.specs.Held.{Held}
 use Rattle.calls.specs.Promise.{Stepped, RanTo}
 use Rattle.hoststep.specs.Promise.{StepTold, RunTold}
 
