@@ -23,8 +23,8 @@ use Rattle.calls.specs.Outcome.{entryAnswer, stepAnswer, stepSecond, ste
 pub data Used (s : Sides) (a : Lent) : Lent → Type 0 where
   start : Used s a a
   acted : {b : Lent} → Used s a b → (pour : Bool) (c : ℕ) (amount : ℤ) → actAnswer pour s c amount b ≡ Done → Used s a (actSet pour c amount b)
-  stepped : {b : Held} → Used s a (b .set) → (g : Settings) (second : Held) (marks : List ℕ) → stepAnswer s g b second marks ≡ Done → Used s a (stepSecond s g b second marks .set)
-  ran : {b : Held} → Used s a (b .set) → (steps : ℕ) (g : Settings) (second : Held) (marks : List ℕ) → runEntry steps s g b second marks ≡ Done → Used s a (runFirst steps s g b second marks .set)
+  stepped : (b : Held) → Used s a (b .set) → (g : Settings) (second : Held) (marks : List ℕ) → stepAnswer s g b second marks ≡ Done → Used s a (stepSecond s g b second marks .set)
+  ran : (b : Held) → Used s a (b .set) → (steps : ℕ) (g : Settings) (second : Held) (marks : List ℕ) → runEntry steps s g b second marks ≡ Done → Used s a (runFirst steps s g b second marks .set)
 
 -- it has lived through single accepted steps and acts alone, and so holds what those hold: masses + carry + taken − poured is what it was, the check accepts it,
 -- no fluid cell touches an empty one, and the carry has changed by exactly the strays of those steps
