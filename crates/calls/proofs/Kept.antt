@@ -1,22 +1,21 @@
--- The indexes stay true: what a step or a run leaves loads again; and with good totals and a true index a step is what it was without them. Assumes nothing.
+-- The index stays true: what a step leaves loads again; and with good totals and a true index a step is what it was without them. Assumes nothing.
 use mathlib.Core.Path.{_≡_, refl, sym, ap, _∙_, subst}
 use mathlib.Core.Bool.{Bool, true, false, _&&_, cond}
 use mathlib.Core.List.{List}
 use Prim.Native.Nat.{ℕ}
 use lib.Dec.{eqb}
 use lib.ListN.{length, replicate}
-use Rattle.whole.specs.Bools.{cond-yes}
 use Rattle.lattice.specs.declared.Settings.{Settings}
 use Rattle.grid.specs.declared.Sides.{Sides}
 use Rattle.grid.specs.declared.Answer.{Answer}
 use Rattle.grid.specs.declared.Answer.the-variants.{Done, Refused}
 use Rattle.grid.specs.Grid.{cellsOf}
 use Rattle.grid.specs.State.{Lent, lentOf}
-use Rattle.grid.specs.Outcome.{accepted, orRefuse, moveAnswer, sceneOf, nextOf, byAnswer, ran}
+use Rattle.grid.specs.Outcome.{accepted, orRefuse, moveAnswer, sceneOf, nextOf, byAnswer}
 use Rattle.grid.specs.Outcome as base
 use Rattle.grid.proofs.Accepted.{accepted-done}
 use Rattle.pumps.specs.Three.{numberIn, headOf, totalsGood, threeAnswer}
-use Rattle.pumps.specs.Demands.{totalled, Lived}
+use Rattle.pumps.specs.Demands.{Lived}
 use Rattle.pumps.specs.Demands as pumps
 use Rattle.pumps.proofs.Living.{lived-holds}
 use Rattle.index.specs.Index.{Index, indexSized, indexTrue}
@@ -25,14 +24,14 @@ use Rattle.index.specs.Held.{Held, indexed, Loads}
 use Rattle.index.specs.Walked.{AsWalked}
 use Rattle.index.proofs.Indexed.{good-loads}
 use Rattle.index.proofs.Loaded.{as-walked}
-use Rattle.calls.specs.Outcome.{kept, entryAnswer, stepAnswer, stepSecond, stepMarks, runEntry, runFirst, runSecond}
-use Rattle.calls.specs.Demands.{StepKeeps, RunKeeps, AsBefore}
+use Rattle.calls.specs.Outcome.{kept, entryAnswer, stepAnswer, stepSecond, stepMarks}
+use Rattle.calls.specs.Demands.{StepKeeps, AsBefore}
 use Rattle.calls.proofs.Entrance.{goes-on, index-is, as-base, base-entry, then-true, checked-now}
-use Rattle.calls.proofs.Outcomes.{move-by, entry-passed}
-use Rattle.calls.proofs.Lives.{second-is, step-lives, reached-lives}
+use Rattle.calls.proofs.Outcomes.{move-by}
+use Rattle.calls.proofs.Lives.{second-is, step-lives}
 
 -- a set that came by steps and acts from one that the check accepts
-lived-loads : (s : Sides) (a b : Lent) → threeAnswer s a ≡ Done → Lived s a b → Loads s (indexed s b)
+pub lived-loads : (s : Sides) (a b : Lent) → threeAnswer s a ≡ Done → Lived s a b → Loads s (indexed s b)
 lived-loads s a b h r = good-loads s b (lived-holds s a b h r .still-good)
 
 -- ---- the step
@@ -84,17 +83,3 @@ module _ (s : Sides) (g : Settings) (a b : Held) (marks : List ℕ) where
           go true v = refl
           go false true = refl
           go false false = refl
-
--- ---- the run
-module _ (steps : ℕ) (s : Sides) (g : Settings) (a b : Held) (marks : List ℕ) where
-  pub run-keeps : RunKeeps steps s g a b marks
-  unfolding runFirst runSecond
-  run-keeps = record {
-    first = λ e. subst (Loads s) (sym (cond-yes _ _ (ap accepted e))) (reached e);
-    second = λ e. subst (Loads s) (sym (cond-yes _ _ (ap accepted e))) (reached e);
-  }
-    where
-      reached : runEntry steps s g a b marks ≡ Done → Loads s (kept s a (ran s g marks steps (headOf (a .set)) .reached))
-      reached e =
-          lived-loads s (a .set) (totalled (ran s g marks steps (headOf (a .set)) .reached) (a .set)) (checked-now s g a b marks (entry-passed s g a b marks steps e))
-          (reached-lives steps s (a .set) g a b marks e pumps.start)
