@@ -1,3 +1,4 @@
+pub mod ThreePut
 pub mod Entrance
 pub mod Outcomes
 pub mod Unique

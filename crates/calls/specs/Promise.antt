@@ -1,4 +1,4 @@
--- What step and run promise of their answer and of every lent slice, refused or not: each equals the outcome's definition. Assumes nothing.
+-- What the step promises of its answer and of every lent slice, refused or not: each equals the outcome's definition. Assumes nothing.
 use mathlib.Core.Path.{_≡_}
 use mathlib.Core.List.{List, [], _∷_}
 use Prim.Native.Nat.{ℕ}
@@ -8,21 +8,13 @@ use Rattle.lattice.specs.declared.Settings.{Settings}
 use Rattle.grid.specs.declared.Sides.{Sides}
 use Rattle.grid.specs.declared.Answer.{Answer}
 use Rattle.index.specs.Held.{Held}
-use Rattle.calls.specs.Outcome.{stepAnswer, stepSecond, stepMarks, runCount, runAnswer, runFirst, runSecond, runMarks}
+use Rattle.calls.specs.Outcome.{stepAnswer, stepSecond, stepMarks}
 
 -- the step: its answer, its second set with its index, and the marks
 pub record Stepped (s : Sides) (g : Settings) (a b : Held) (marks : List ℕ) (answer : Answer) (second : Held) (after : List ℕ) : Type 0 where
   pub answer-is : answer ≡ stepAnswer s g a b marks
   pub second-is : second ≡ stepSecond s g a b marks
   pub marks-are : after ≡ stepMarks s g a b marks
-
--- the run: its count, the refusal that stopped it, both sets with their indexes, and the marks
-pub record RanTo (steps : ℕ) (s : Sides) (g : Settings) (a b : Held) (marks : List ℕ) (count : ℕ) (answer : Answer) (first second : Held) (after : List ℕ) : Type 0 where
-  pub count-is : count ≡ runCount steps s g a b marks
-  pub answer-is : answer ≡ runAnswer steps s g a b marks
-  pub first-is : first ≡ runFirst steps s g a b marks
-  pub second-is : second ≡ runSecond steps s g a b marks
-  pub marks-are : after ≡ runMarks steps s g a b marks
 
 -- ---- what an inner function tells: three totals, the carry given and the other two from another slice
 abbrev pub carriedWith : ℤ → List ℤ → List ℤ

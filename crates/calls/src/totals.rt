@@ -4,7 +4,7 @@ ghost use lib.ListN.{length};
 ghost use Rattle.calls.specs.Promise.{carriedWith};
 
 // Its carry, beside the poured and taken that it has.
-pub(crate) fn put_carry(carry: i64, totals: &mut [i64])
+pub fn put_carry(carry: i64, totals: &mut [i64])
     requires { ⌜ length (now totals) ≡ 3 ⌝ }
     ensures { λ _. ⌜ now (totals .exit) ≡ carriedWith carry (now (totals .entry)) ⌝ }
 {
@@ -12,7 +12,7 @@ pub(crate) fn put_carry(carry: i64, totals: &mut [i64])
 }
 
 // Its carry, with the poured and taken of the set that it was made of.
-pub(crate) fn put_totals(carry: i64, from: &[i64], totals: &mut [i64])
+pub fn put_totals(carry: i64, from: &[i64], totals: &mut [i64])
     requires { ⌜ (length (now from) ≡ 3) × (length (now totals) ≡ 3) ⌝ }
     ensures { λ _. ⌜ now (totals .exit) ≡ carriedWith carry (now (from .entry)) ⌝ }
 {

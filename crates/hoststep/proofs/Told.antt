@@ -7,7 +7,8 @@ use Rattle.grid.specs.declared.Sides.{Sides}
 use Rattle.grid.specs.declared.Answer.{Answer}
 use Rattle.grid.specs.Outcome.{numberOf, placeOf}
 use Rattle.index.specs.Held.{Held}
-use Rattle.calls.specs.Promise.{Stepped, RanTo}
+use Rattle.calls.specs.Promise.{Stepped}
+use Rattle.runs.specs.Promise.{RanTo}
 use Rattle.hoststep.specs.Promise.{StepTold, RunTold}
 
 -- the settings k that the layer was given are the call's own, g
