@@ -13,9 +13,6 @@
  * The water of a set is the sum of its masses and its carry. No accepted step changes it by one unit; over steps, pours and takes in any
  * order the water, and what was taken, less what was poured, never changes.
  *
- * LOAD, STEP AND RUN are lent the carry alone, so that carry_len (and carry2_len) is 1 there: they neither read nor write poured and
- * taken, which a host that steps into another buffer copies beside the carry. All other calls are lent the three.
- *
  * AN INDEX of its surface stands beside a set that is loaded, stepped, run or read, so that a host finds interface cells without
  * walking the grid:
  *

@@ -110,8 +110,8 @@ fn followed(source: Source, small: Small) -> Vec<Outcome> {
     outcomes
 }
 
-/// A good state through acts and steps in random order: after each the two agree in every answer and slice, and the balance is what it was. The step is
-/// lent the carry alone, so that poured and taken are put beside what it leaves; a record now and then goes through writer and reader.
+/// A good state through acts and steps in random order: after each the two agree in every answer and slice, and the balance is what it was. A record now and
+/// then goes through writer and reader.
 fn lived(seed: u64) -> Vec<Outcome> {
     let random = &mut Random::new(seed ^ 0x0acc_0000);
     let mut case = Case::lively(seed);
@@ -125,9 +125,7 @@ fn lived(seed: u64) -> Vec<Outcome> {
         outcomes.push(outcome);
         if pair.0 == STEP.0 {
             if [0, 7, 8].contains(&reply.number) {
-                let totals = case.first.carry[1..].to_vec();
                 (case.first, case.first_index) = (after.second, after.second_index);
-                case.first.carry[1..].copy_from_slice(&totals);
             }
         } else {
             case.first = after.first;

@@ -99,12 +99,6 @@ static struct lengths wrong_lengths(int way)
 #define WRONG_HELD_LENGTHS 14
 #define WRONG_SET_LENGTHS 10
 
-/* The carry alone, as loading, step and run are lent it; a length that they refuse where the three would be refused. */
-static size_t alone(size_t carry)
-{
-    return carry == 3 ? 1 : 0;
-}
-
 /* A value that no call writes, to see what it leaves alone. */
 static size_t unset(void)
 {
@@ -122,7 +116,7 @@ static long check(const struct set *a, struct lengths l, struct sides s)
 static long load(const struct set *a, struct lengths l, struct sides s)
 {
     size_t place = unset();
-    const uint8_t number = skw_load(a->flags, l.flags, a->parts, l.parts, a->masses, l.masses, a->fills, l.fills, a->carry, alone(l.carry), a->words,
+    const uint8_t number = skw_load(a->flags, l.flags, a->parts, l.parts, a->masses, l.masses, a->fills, l.fills, a->carry, l.carry, a->words,
                                     l.words, a->count, l.count, s.nx, s.ny, s.nz, &place);
     return REFUSED(number, place);
 }
@@ -152,9 +146,9 @@ static long step(const struct set *a, struct lengths la, struct set *b, struct l
                  struct settings g)
 {
     size_t place = unset();
-    const uint8_t number = skw_step(a->flags, la.flags, a->parts, la.parts, a->masses, la.masses, a->fills, la.fills, a->carry, alone(la.carry),
+    const uint8_t number = skw_step(a->flags, la.flags, a->parts, la.parts, a->masses, la.masses, a->fills, la.fills, a->carry, la.carry,
                                     a->words, la.words, a->count, la.count,
-                                    b->flags, lb.flags, b->parts, lb.parts, b->masses, lb.masses, b->fills, lb.fills, b->carry, alone(lb.carry),
+                                    b->flags, lb.flags, b->parts, lb.parts, b->masses, lb.masses, b->fills, lb.fills, b->carry, lb.carry,
                                     b->words, lb.words, b->count, lb.count, marks, lb.marks, s.nx, s.ny, s.nz, g.p, g.gx, g.gy, g.gz, &place);
     return REFUSED(number, place);
 }
@@ -164,9 +158,9 @@ static long run(size_t steps, struct set *a, struct lengths la, struct set *b, s
 {
     uint8_t number = 255;
     size_t place = unset();
-    *count = skw_run(steps, a->flags, la.flags, a->parts, la.parts, a->masses, la.masses, a->fills, la.fills, a->carry, alone(la.carry),
+    *count = skw_run(steps, a->flags, la.flags, a->parts, la.parts, a->masses, la.masses, a->fills, la.fills, a->carry, la.carry,
                      a->words, la.words, a->count, la.count, b->flags, lb.flags, b->parts, lb.parts, b->masses, lb.masses, b->fills, lb.fills,
-                     b->carry, alone(lb.carry), b->words, lb.words, b->count, lb.count, marks, lb.marks, s.nx, s.ny, s.nz, g.p, g.gx, g.gy, g.gz, &number, &place);
+                     b->carry, lb.carry, b->words, lb.words, b->count, lb.count, marks, lb.marks, s.nx, s.ny, s.nz, g.p, g.gx, g.gy, g.gz, &number, &place);
     return REFUSED(number, place);
 }
 

@@ -30,12 +30,6 @@ fn answered(number: u8, place: usize) -> Result<(), Refusal> {
     }
 }
 
-/// How many numbers of the carry's slice loading, step and run are lent: the carry alone; none, which they refuse, where the slice
-/// has not three.
-fn alone(carry: &[i64]) -> usize {
-    usize::from(carry.len() == 3)
-}
-
 /// Whether a state is good. Refusals 1, 2, 4, 5, 6.
 pub fn check(sides: Sides, state: State) -> Result<(), Refusal> {
     let mut place = 0;
@@ -130,7 +124,7 @@ pub fn load(sides: Sides, held: Held) -> Result<(), Refusal> {
             state.fills.as_ptr(),
             state.fills.len(),
             state.carry.as_ptr(),
-            alone(state.carry),
+            state.carry.len(),
             index.words.as_ptr(),
             index.words.len(),
             index.count.as_ptr(),
@@ -208,7 +202,7 @@ pub fn step(
             first.fills.as_ptr(),
             first.fills.len(),
             first.carry.as_ptr(),
-            alone(first.carry),
+            first.carry.len(),
             index.words.as_ptr(),
             index.words.len(),
             index.count.as_ptr(),
@@ -222,7 +216,7 @@ pub fn step(
             second.fills.as_mut_ptr(),
             second.fills.len(),
             second.carry.as_mut_ptr(),
-            alone(second.carry),
+            second.carry.len(),
             index2.words.as_mut_ptr(),
             index2.words.len(),
             index2.count.as_mut_ptr(),
@@ -239,9 +233,6 @@ pub fn step(
             &mut place,
         )
     };
-    if matches!(number, 0 | Refusal::FLOW | Refusal::NEXT) {
-        second.carry[1..].copy_from_slice(&first.carry[1..]);
-    }
     answered(number, place)
 }
 
@@ -270,7 +261,7 @@ pub fn run(
             first.fills.as_mut_ptr(),
             first.fills.len(),
             first.carry.as_mut_ptr(),
-            alone(first.carry),
+            first.carry.len(),
             index.words.as_mut_ptr(),
             index.words.len(),
             index.count.as_mut_ptr(),
@@ -284,7 +275,7 @@ pub fn run(
             second.fills.as_mut_ptr(),
             second.fills.len(),
             second.carry.as_mut_ptr(),
-            alone(second.carry),
+            second.carry.len(),
             index2.words.as_mut_ptr(),
             index2.words.len(),
             index2.count.as_mut_ptr(),
@@ -302,9 +293,6 @@ pub fn run(
             &mut place,
         )
     };
-    if matches!(number, 0 | Refusal::FLOW | Refusal::NEXT) {
-        second.carry[1..].copy_from_slice(&first.carry[1..]);
-    }
     answered(number, place).map_err(|refusal| Stopped { count, refusal })
 }
 

@@ -8,11 +8,6 @@ const BEFORE: usize = 77;
 const BEFORE_SIGNED: i64 = -77;
 const BEFORE_FLOAT: f32 = -7.5;
 
-/// How many numbers of the carry's slice loading, step and run are lent: the carry alone; none where the slice has not three.
-fn alone(carry: &[i64]) -> usize {
-    usize::from(carry.len() == 3)
-}
-
 /// Why every call below is sound: each pointer comes from a slice of the length beside it or from a number of this frame.
 pub fn check(case: &mut Case) -> Reply {
     let [nx, ny, nz] = case.sides;
@@ -112,7 +107,7 @@ pub fn load(case: &mut Case) -> Reply {
             set.fills.as_ptr(),
             set.fills.len(),
             set.carry.as_ptr(),
-            alone(&set.carry),
+            set.carry.len(),
             index.words.as_ptr(),
             index.words.len(),
             index.count.as_ptr(),
@@ -175,7 +170,7 @@ pub fn step(case: &mut Case) -> Reply {
             first.fills.as_ptr(),
             first.fills.len(),
             first.carry.as_ptr(),
-            alone(&first.carry),
+            first.carry.len(),
             index.words.as_ptr(),
             index.words.len(),
             index.count.as_ptr(),
@@ -189,7 +184,7 @@ pub fn step(case: &mut Case) -> Reply {
             second.fills.as_mut_ptr(),
             second.fills.len(),
             second.carry.as_mut_ptr(),
-            alone(&second.carry),
+            second.carry.len(),
             index2.words.as_mut_ptr(),
             index2.words.len(),
             index2.count.as_mut_ptr(),
@@ -228,7 +223,7 @@ pub fn run(case: &mut Case) -> Reply {
             first.fills.as_mut_ptr(),
             first.fills.len(),
             first.carry.as_mut_ptr(),
-            alone(&first.carry),
+            first.carry.len(),
             index.words.as_mut_ptr(),
             index.words.len(),
             index.count.as_mut_ptr(),
@@ -242,7 +237,7 @@ pub fn run(case: &mut Case) -> Reply {
             second.fills.as_mut_ptr(),
             second.fills.len(),
             second.carry.as_mut_ptr(),
-            alone(&second.carry),
+            second.carry.len(),
             index2.words.as_mut_ptr(),
             index2.words.len(),
             index2.count.as_mut_ptr(),

@@ -46,33 +46,7 @@ pub fn take(case: &mut Case) -> Reply {
     reply(outcome.map(|moved| [moved as u64]))
 }
 
-/// Loading, step and run are lent the carry alone: they neither test nor write poured and taken.
-fn carry_alone(case: &mut Case, call: fn(&mut Case) -> Reply) -> Reply {
-    let kept =
-        [&case.first, &case.second].map(|set| set.carry.get(1..).map(<[i64]>::to_vec).unwrap_or_default());
-    for set in [&mut case.first, &mut case.second] {
-        set.carry.iter_mut().skip(1).for_each(|total| *total = 0);
-    }
-    let reply = call(case);
-    for (set, totals) in [&mut case.first, &mut case.second].into_iter().zip(kept) {
-        set.carry.iter_mut().skip(1).zip(totals).for_each(|(total, kept)| *total = kept);
-    }
-    reply
-}
-
 pub fn load(case: &mut Case) -> Reply {
-    carry_alone(case, load_whole)
-}
-
-pub fn step(case: &mut Case) -> Reply {
-    carry_alone(case, step_whole)
-}
-
-pub fn run(case: &mut Case) -> Reply {
-    carry_alone(case, run_whole)
-}
-
-fn load_whole(case: &mut Case) -> Reply {
     let held = Held { set: case.first.lend(), index: case.first_index.lend() };
     reply(oracle::load(sides(case), held).map(|()| []))
 }
@@ -89,7 +63,7 @@ pub fn surface_next(case: &mut Case) -> Reply {
     }))
 }
 
-fn step_whole(case: &mut Case) -> Reply {
+pub fn step(case: &mut Case) -> Reply {
     let (sides, settings) = (sides(case), settings(case));
     let first = Held { set: case.first.lend(), index: case.first_index.lend() };
     let second = HeldMut { set: case.second.lend_mut(), index: case.second_index.lend_mut() };
@@ -97,7 +71,7 @@ fn step_whole(case: &mut Case) -> Reply {
     reply(outcome.map(|()| []))
 }
 
-fn run_whole(case: &mut Case) -> Reply {
+pub fn run(case: &mut Case) -> Reply {
     let (sides, settings) = (sides(case), settings(case));
     let steps = u32::try_from(case.steps).unwrap_or(u32::MAX);
     let first = HeldMut { set: case.first.lend_mut(), index: case.first_index.lend_mut() };

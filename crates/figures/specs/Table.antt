@@ -197,7 +197,7 @@ figures =
     ∷ record { worked = told true 13 (pos 1) full; said = pos 16 ∷ pos 0 ∷ pos 0 ∷ [] }
     -- case T: one word 8,192, count 1; next from 0 and 13: cell 13, 1 word; from 14: none, 1; from 27: none, 0; from 28: 13 at 0
     ∷ words (indexOf 27 (caseT .flags)) (8192 ∷ 1 ∷ [])
-    ∷ loads (loadAnswer sides caseT (index wordsT (1 ∷ []))) 0
+    ∷ loads (loadAnswer sides still (index wordsT (1 ∷ []))) 0
     ∷ counts (countAnswer sides wordsT) 1
     ∷ asks (nextAnswer sides wordsT 0) 0 1 13 1
     ∷ asks (nextAnswer sides wordsT 13) 0 1 13 1

@@ -14,9 +14,9 @@ use Rattle.record.specs.declared.Head.{Head}
 use Rattle.record.specs.declared.Span.{Span}
 use Rattle.record.specs.Promise.{Wrote, spanOf}
 use Rattle.index.specs.Index.{Index}
-use Rattle.calls.specs.Outcome.{Held}
-use Rattle.calls.specs.Promise.{Read}
-use Rattle.calls.proofs.FlagSpan.{spans}
+use Rattle.index.specs.Held.{Held}
+use Rattle.intake.specs.Promise.{Read}
+use Rattle.intake.proofs.FlagSpan.{spans}
 use Rattle.hostrecord.specs.Promise.{ReadTold, WriteTold}
 
 -- and so is the site

@@ -5,7 +5,7 @@ use Prim.Native.Nat.{ℕ}
 use lib.IntN.{ℤ}
 use Rattle.grid.specs.declared.Sides.{Sides}
 use Rattle.grid.specs.State.{Lent}
-use Rattle.calls.specs.Outcome.{Held}
+use Rattle.index.specs.Held.{Held}
 use Rattle.hostset.specs.Promise.{CheckTold, LoadTold, ActDone}
 
 pub check-unique : (s : Sides) (a : Lent) {n m p q : ℕ} → CheckTold s a n p → CheckTold s a m q → (n ≡ m) × (p ≡ q)

@@ -10,7 +10,7 @@ use Rattle.grid.specs.Outcome.{numberOf, placeOf}
 use Rattle.pumps.specs.Three.{threeAnswer}
 use Rattle.pumps.specs.Acts.{actedNumber, actedPlace, actedMoved, movedOf, actAnswer, actSet, actedBy, setBy}
 use Rattle.index.specs.Outcome.{loadAnswer}
-use Rattle.calls.specs.Outcome.{Held}
+use Rattle.index.specs.Held.{Held}
 
 -- the check: number and place, 0 0 if accepted
 pub record CheckTold (s : Sides) (a : Lent) (number place : ℕ) : Type 0 where

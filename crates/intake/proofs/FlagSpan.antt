@@ -8,8 +8,8 @@ use lib.ListN.{length, take, drop, length-take, length-drop}
 use Rattle.grid.specs.Outcome.{accepted}
 use Rattle.record.specs.Promise.{spanOf}
 use Rattle.record.proofs.Spanned.{span-inside, span-read}
-use Rattle.calls.specs.Outcome.{Held}
-use Rattle.calls.specs.Reading.{readAnswer, readHead, readFlags, flagsFrom}
+use Rattle.index.specs.Held.{Held}
+use Rattle.intake.specs.Reading.{readAnswer, readHead, readFlags, flagsFrom}
 
 -- the claim
 pub record Spans (r : List ℕ) (a : Held) : Type 0 where

@@ -13,9 +13,9 @@ ghost use mathlib.Core.Path.{_≡_};
 ghost use Rattle.grid.specs.declared.Answer.the-variants.{Done};
 ghost use Rattle.record.specs.Promise.{flagless};
 ghost use Rattle.index.specs.Index.{index};
-ghost use Rattle.calls.specs.Outcome.{held};
-ghost use Rattle.calls.specs.Reading.{openAnswer};
-ghost use Rattle.calls.specs.Promise.{Read};
+ghost use Rattle.index.specs.Held.{held};
+ghost use Rattle.intake.specs.Reading.{openAnswer};
+ghost use Rattle.intake.specs.Promise.{Read};
 
 // Section 1, then tests 1 and 2, the index's lengths among the slices'.
 fn opened(

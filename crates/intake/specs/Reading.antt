@@ -11,7 +11,7 @@ use Rattle.record.specs.declared.Head.{Head}
 use Rattle.record.specs.Reading.{sidesIn, cellsIn, whole, slicesFit, refusedHead}
 use Rattle.record.specs.Reading as base
 use Rattle.index.specs.Index.{Index, indexOf, indexSized}
-use Rattle.calls.specs.Outcome.{Held, held}
+use Rattle.index.specs.Held.{Held, held}
 
 -- section 1, then test 1, and test 2 of the four slices and the index
 unfoldable pub openAnswer : List ℕ → ℕ → ℕ → ℕ → ℕ → Index → Answer → Answer

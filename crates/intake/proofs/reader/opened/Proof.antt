@@ -1,4 +1,4 @@
--- `calls::reader::opened`: the record's own opening, then the index's lengths. Assumes nothing.
+-- `intake::reader::opened`: the record's own opening, then the index's lengths. Assumes nothing.
 use borrow.Author.Needs.{needs}
 use mathlib.Core.Path.{_≡_, sym, ap, _∙_, subst}
 use mathlib.Core.Bool.{true}
@@ -13,9 +13,9 @@ use Rattle.record.proofs.Answers.{chain-ok}
 use Rattle.record.proofs.Shaped.{opens}
 use Rattle.index.specs.Index.{Index, index}
 use Rattle.index.proofs.Answers.{few-cells}
-use Rattle.calls.proofs.Readings.{stops, first-section, sides-pass, wrong-index, opens-all, fits-told}
-use Rattle.calls.proofs.reader.opened.Statement.{statement}
-use Rattle.calls.proofs.reader.opened.Tie as tie
+use Rattle.intake.proofs.Readings.{stops, first-section, sides-pass, wrong-index, opens-all, fits-told}
+use Rattle.intake.proofs.reader.opened.Statement.{statement}
+use Rattle.intake.proofs.reader.opened.Tie as tie
 
 abbrev held : tie.Start → Index
 held d = index (d .args .words .now) (d .args .count .now)

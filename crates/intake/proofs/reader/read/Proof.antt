@@ -1,11 +1,11 @@
--- `calls::reader::read`: the outcome's definition, whatever is lent. Assumes nothing.
+-- `intake::reader::read`: the outcome's definition, whatever is lent. Assumes nothing.
 use borrow.Author.Needs.{needs}
 use Rattle.record.specs.Promise.{flagless}
 use Rattle.index.specs.Index.{index}
-use Rattle.calls.specs.Outcome.{Held, held}
-use Rattle.calls.proofs.Readings.{refused-early, refused-late, room, read-all}
-use Rattle.calls.proofs.reader.read.Statement.{statement}
-use Rattle.calls.proofs.reader.read.Tie as tie
+use Rattle.index.specs.Held.{Held, held}
+use Rattle.intake.proofs.Readings.{refused-early, refused-late, room, read-all}
+use Rattle.intake.proofs.reader.read.Statement.{statement}
+use Rattle.intake.proofs.reader.read.Tie as tie
 
 abbrev given : tie.Start → Held
 given d = held (flagless (d .args .parts .now) (d .args .masses .now) (d .args .fills .now) (d .args .carry .now)) (index (d .args .words .now) (d .args .count .now))

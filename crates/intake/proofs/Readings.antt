@@ -29,9 +29,9 @@ use Rattle.index.specs.Index.{Index, wordsOf, indexOf, indexSized}
 use Rattle.index.specs.Laid.{Room}
 use Rattle.index.proofs.Flagged.{room-of}
 use Rattle.index.proofs.Answers.{few-cells}
-use Rattle.calls.specs.Outcome.{Held, held}
-use Rattle.calls.specs.Reading.{openAnswer, readAnswer, readHead, readHeld}
-use Rattle.calls.specs.Promise.{Read}
+use Rattle.index.specs.Held.{Held, held}
+use Rattle.intake.specs.Reading.{openAnswer, readAnswer, readHead, readHeld}
+use Rattle.intake.specs.Promise.{Read}
 
 -- ---- section 1, tests 1 and 2
 or-and : (t u : Bool) (number place : ℕ) (rest : Answer) → orRefuse (t && u) number place rest ≡ orRefuse t number place (orRefuse u number place rest)
