@@ -8,9 +8,10 @@
  *     parts     19*N   part k of cell c at [19*c + k]; a cell's density is the sum of its parts, and SKW_ONE is one density unit
  *     masses    N      the water in the cell, in the unit of the parts
  *     fills     N      how full the cell is, in 65,536ths: 0 to SKW_FULL
- *     carry     1      water that found no cell to go to, in the unit of the parts
+ *     carry     3      in the unit of the parts: water that found no cell to go to (the carry), all that was poured, all that was taken
  *
- * The water of a set is the sum of its masses and its carry. No accepted step changes it by one unit.
+ * The water of a set is the sum of its masses and its carry. No accepted step changes it by one unit; over steps, pours and takes in any
+ * order the water, and what was taken, less what was poured, never changes.
  *
  * AN INDEX of its surface stands beside a set that is loaded, stepped, run or read, so that a host finds interface cells without
  * walking the grid:
@@ -25,7 +26,7 @@
  * an edge with it); wall and empty cells have parts, mass and fill 0; a liquid cell (fluid or interface) has parts within +-1,179,648,
  * density rho of 294,912 to 1,179,648 and momentum j (sum of part times direction) with 9*|j|*|j| <= rho*rho; a fluid cell has mass
  * rho and fill 65,536; an interface cell has mass m within +-2,359,296 and fill floor(65,536*m/rho), held to 0..65,536; the carry is
- * within +-10^12.
+ * within +-10^12, poured and taken are 0 to 10^15.
  *
  * SETTINGS: p of 1 to 2037, the relaxation in 1,024ths; gx, gy, gz, gravity in cells per step and step, in 1,048,576ths, the sum of
  * their squares at most 1,099,511. edge, that of a cell, 1 to 1,000 mm. ox, oy, oz, the survey point of the grid's corner, and every
@@ -92,16 +93,18 @@ enum { SKW_LINE_SOLID = 1, SKW_LINE_DRY = 2, SKW_LINE_DEEP = 3, SKW_LINE_OUTSIDE
 #define SKW_POINTS_MOST 2000
 #define SKW_CARRY_MOST ((int64_t)1000000 * 1000000)
 #define SKW_TOTAL_MOST ((int64_t)1000000 * 1000000 * 1000)
-
-/* More pools than this no grid with these sides has; at most 62,511, so that a mark has room in two bytes. */
-#define SKW_POOLS_MOST(nx, ny, nz) ((((size_t)(nx)-1) * ((size_t)(ny)-1) * ((size_t)(nz)-1)) / 4)
+#define SKW_AMOUNT_LEAST 1
+#define SKW_AMOUNT_MOST 589824
 
 /* Words of the index of a grid with so many cells. */
 #define SKW_WORDS(cells) (((size_t)(cells) + 63) / 64)
 
+/* More pools than this no grid with these sides has; at most 62,511, so that a mark has room in two bytes. */
+#define SKW_POOLS_MOST(nx, ny, nz) ((((size_t)(nx)-1) * ((size_t)(ny)-1) * ((size_t)(nz)-1)) / 4)
+
 /* Length in bytes of the record of a grid with so many cells, interface cells and liquid cells (fluid and interface). */
 #define SKW_RECORD_BYTES(cells, interfaces, liquids) \
-    ((size_t)92 + (size_t)(cells) + (size_t)4 * (size_t)(interfaces) + (size_t)76 * (size_t)(liquids))
+    ((size_t)108 + (size_t)(cells) + (size_t)4 * (size_t)(interfaces) + (size_t)76 * (size_t)(liquids))
 /* Room in bytes that the record of any grid with so many cells fits into. */
 #define SKW_RECORD_BYTES_MOST(cells) SKW_RECORD_BYTES(cells, cells, cells)
 
@@ -121,7 +124,7 @@ enum {
     SKW_BAD_FLAG = 4,
     /* fluid beside empty; place: the lowest fluid cell that has an empty neighbour */
     SKW_BAD_LAYER = 5,
-    /* another rule of a good state is broken; place: the lowest such cell, N for the carry alone */
+    /* another rule of a good state is broken; place: the lowest such cell, N for the carry, poured or taken alone */
     SKW_BAD_STATE = 6,
     /* density or speed is out of range after streaming and gravity; place: the lowest such cell */
     SKW_BAD_FLOW = 7,
@@ -139,6 +142,10 @@ enum {
     SKW_OUTSIDE = 13,
     /* a word of the index is not the one that the flags make, or the stored count is wrong (tested after 6, before 7); place 0 */
     SKW_BAD_INDEX = 14,
+    /* the cell of a pour or a take is not interface (tested after 13); place: the cell */
+    SKW_NOT_INTERFACE = 15,
+    /* an amount outside 1 to 589,824, or one with which the mass would pass 2,359,296, or poured or taken 10^15; place 0 */
+    SKW_BAD_AMOUNT = 16,
     /* the list has room for fewer pools than there are; place: their number */
     SKW_BAD_POOLS = 21,
     /* a profile's list has not 1 to 2,000 points; place 0 */
@@ -158,6 +165,29 @@ uint8_t skw_check(const uint8_t *flags, size_t flags_len,
                   const int64_t *carry, size_t carry_len,
                   size_t nx, size_t ny, size_t nz,
                   size_t *place);
+
+/*
+ * POUR: an amount into an interface cell, in the unit of the masses. TAKE: the smaller of an amount and its mass out of it, nothing if the mass is not above 0.
+ * What is moved goes into or out of the cell's mass, and is added to poured or taken; the cell's fill is worked out again. Nothing else is
+ * written, so that an index that was true stays so.
+ * Tests 1, 2, 4, 5, 6, 13, 15, 16. Beside a refusal *moved is 0 and no slice is written.
+ */
+uint8_t skw_pour(const uint8_t *flags, size_t flags_len,
+                 const int32_t *parts, size_t parts_len,
+                 int32_t *masses, size_t masses_len,
+                 uint32_t *fills, size_t fills_len,
+                 int64_t *carry, size_t carry_len,
+                 size_t nx, size_t ny, size_t nz,
+                 size_t cell, int64_t amount,
+                 int64_t *moved, size_t *place);
+uint8_t skw_take(const uint8_t *flags, size_t flags_len,
+                 const int32_t *parts, size_t parts_len,
+                 int32_t *masses, size_t masses_len,
+                 uint32_t *fills, size_t fills_len,
+                 int64_t *carry, size_t carry_len,
+                 size_t nx, size_t ny, size_t nz,
+                 size_t cell, int64_t amount,
+                 int64_t *moved, size_t *place);
 
 /*
  * LOAD: is this set a good state, and is this its index?

@@ -1,5 +1,6 @@
-// The box of cells for the two steps written by hand: its directions, its neighbours, and all that flags alone decide.
+// The grid of cells for the steps written by hand, the box's and the flume's: its neighbours, and all that flags alone decide.
 
+use oracle::flume::lattice as flume;
 use oracle::lattice::DIRECTIONS;
 pub use oracle::state::{EMPTY, FLUID, INTERFACE, WALL};
 
@@ -49,27 +50,58 @@ pub unsafe fn add<T: std::ops::AddAssign>(slice: &mut [T], i: usize, value: T) {
     *slice.get_unchecked_mut(i) += value;
 }
 
-pub struct Grid {
+/// A grid of K directions, rest among them; the box unless it is said.
+pub struct Grid<const K: usize = 19> {
+    /// The flume has no second side: it is 1.
     pub sides: [usize; 3],
     /// N, the number of cells.
     pub n: usize,
     /// The furthest neighbour's distance: cells from here to n − low have all theirs in the slice.
     low: usize,
     /// A neighbour's cell number less the cell's own, by direction.
-    distance: [isize; 19],
+    distance: [isize; K],
     /// Where the part lies that streams straight into part k, counted from part 0 of the cell.
-    source: [isize; 19],
+    source: [isize; K],
 }
 
 impl Grid {
-    /// Test 1.
+    /// Test 1 of the box.
     pub fn new(sides: [usize; 3]) -> Option<Grid> {
         let n = sides.iter().try_fold(1, |n, &side| (3..=128).contains(&side).then_some(n * side))?;
         let [nx, ny, _] = sides.map(|side| side as i128);
         let distance = DIRECTIONS.map(|[x, y, z]| (x + nx * (y + ny * z)) as isize);
-        let source = std::array::from_fn(|k| k as isize - 19 * distance[k]);
-        let low = (1 + nx + nx * ny) as usize;
-        (n <= 262_144).then_some(Grid { sides, n, low, distance, source })
+        (n <= 262_144).then(|| Grid::laid(sides, distance))
+    }
+
+    /// Test 4 of the box.
+    pub fn wrong_flag(&self, flags: &[u8]) -> Option<usize> {
+        let [_, ny, nz] = self.sides;
+        self.wrong_in_rows(flags, |row| {
+            row % ny == 0 || row % ny == ny - 1 || row < ny || row >= ny * (nz - 1)
+        })
+    }
+}
+
+impl Grid<9> {
+    /// Test 1 of the flume.
+    pub fn flume([nx, nz]: [usize; 2]) -> Option<Grid<9>> {
+        let good = [nx, nz].iter().all(|side| (3..=512).contains(side));
+        let distance = flume::DIRECTIONS.map(|[x, z]| (x + nx as i128 * z) as isize);
+        good.then(|| Grid::laid([nx, 1, nz], distance))
+    }
+
+    /// Test 4 of the flume.
+    pub fn wrong_flag(&self, flags: &[u8]) -> Option<usize> {
+        let nz = self.sides[2];
+        self.wrong_in_rows(flags, |row| row == 0 || row == nz - 1)
+    }
+}
+
+impl<const K: usize> Grid<K> {
+    fn laid(sides: [usize; 3], distance: [isize; K]) -> Grid<K> {
+        let source = std::array::from_fn(|k| k as isize - K as isize * distance[k]);
+        let low = distance.iter().map(|distance| distance.unsigned_abs()).max().unwrap_or(0);
+        Grid { sides, n: sides.iter().product(), low, distance, source }
     }
 
     /// The neighbour of a cell inside the outer layer.
@@ -81,7 +113,7 @@ impl Grid {
     /// What streams into part k of an open cell lies here among the parts.
     #[inline(always)]
     pub fn source(&self, c: usize, k: usize) -> usize {
-        (19 * c).wrapping_add_signed(self.source[k])
+        (K * c).wrapping_add_signed(self.source[k])
     }
 
     /// Is a neighbour's byte this one? Without a way out of the loop, so that the passes below take many cells at a time.
@@ -91,30 +123,26 @@ impl Grid {
     #[inline(always)]
     unsafe fn beside(&self, bytes: &[u8], c: usize, byte: u8) -> bool {
         let mut found = false;
-        for i in 1..19 {
+        for i in 1..K {
             found |= at(bytes, self.near(c, i)) == byte;
         }
         found
     }
 
-    /// Test 4.
-    pub fn wrong_flag(&self, flags: &[u8]) -> Option<usize> {
-        let [nx, ny, nz] = self.sides;
-        for z in 0..nz {
-            for y in 0..ny {
-                let start = nx * (y + ny * z);
-                let row = &flags[start..start + nx];
-                let wrong = if y == 0 || y == ny - 1 || z == 0 || z == nz - 1 {
-                    row.iter().position(|&flag| flag != WALL)
-                } else if row[0] != WALL {
-                    Some(0)
-                } else {
-                    let wrong = row.iter().position(|&flag| flag > WALL);
-                    wrong.or((row[nx - 1] != WALL).then_some(nx - 1))
-                };
-                if let Some(x) = wrong {
-                    return Some(start + x);
-                }
+    /// Test 4, row by row of cells along x; of some rows every cell is an outer one.
+    fn wrong_in_rows(&self, flags: &[u8], outer: impl Fn(usize) -> bool) -> Option<usize> {
+        let nx = self.sides[0];
+        for (number, row) in flags.chunks_exact(nx).enumerate() {
+            let wrong = if outer(number) {
+                row.iter().position(|&flag| flag != WALL)
+            } else if row[0] != WALL {
+                Some(0)
+            } else {
+                let wrong = row.iter().position(|&flag| flag > WALL);
+                wrong.or((row[nx - 1] != WALL).then_some(nx - 1))
+            };
+            if let Some(x) = wrong {
+                return Some(nx * number + x);
             }
         }
         None
@@ -161,7 +189,7 @@ impl Grid {
         });
         for &c in &changes.filled {
             put(flags2, c, FLUID);
-            for i in 1..19 {
+            for i in 1..K {
                 let b = self.near(c, i);
                 // In the new flags, so that a cell beside two filled ones is born once.
                 if at(flags2, b) == EMPTY {
@@ -172,7 +200,7 @@ impl Grid {
         }
         for &c in &changes.emptied {
             put(flags2, c, EMPTY);
-            for i in 1..19 {
+            for i in 1..K {
                 let b = self.near(c, i);
                 if at(flags, b) == FLUID {
                     put(flags2, b, INTERFACE);

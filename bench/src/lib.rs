@@ -2,6 +2,7 @@
 
 pub mod engine;
 pub mod float;
+pub mod flume;
 pub mod growth;
 pub mod identical;
 pub mod lattice;

@@ -414,7 +414,7 @@ unsafe fn next_state(
         Err(place) => return Answer::refused(7, place),
     };
     new.flags.copy_from_slice(old.flags);
-    new.carry[0] = old.carry[0];
+    new.carry.copy_from_slice(old.carry);
     if !changes.none() {
         fair &= converted(grid, settings, old, new, marks, changes);
     }

@@ -7,12 +7,17 @@ mod reference;
 
 use std::fmt::{Display, Formatter};
 
+use oracle::random::Random;
 use oracle::record::read_within;
+use oracle::state::State;
 
 use crate::report::{Met, Outcome, Total, Wanted, Wish};
 use crate::small::{Small, SMALL};
 use crate::source::Source;
 use cases::Case;
+
+/// States by seed, each through acts and steps.
+const LIVES: u64 = 4_000;
 
 /// Cases by seed; each is handed to all functions.
 const SEEDS: u64 = 50_000;
@@ -38,6 +43,8 @@ type Call = fn(&mut Case) -> Reply;
 type Pair = (&'static str, Call, Call);
 
 const CHECK: Pair = ("check", calls::check, reference::check);
+const POUR: Pair = ("pour", calls::pour, reference::pour);
+const TAKE: Pair = ("take", calls::take, reference::take);
 const LOAD: Pair = ("load", calls::load, reference::load);
 const COUNT: Pair = ("count", calls::surface_count, reference::surface_count);
 const NEXT: Pair = ("next", calls::surface_next, reference::surface_next);
@@ -49,11 +56,13 @@ const PLACE: Pair = ("place", calls::place, reference::place);
 const POINT: Pair = ("point", calls::point, reference::point);
 const DEPTH: Pair = ("depth", calls::depth, reference::depth);
 
-const ALL: [Pair; 11] = [CHECK, LOAD, COUNT, NEXT, STEP, RUN, READ, WRITE, PLACE, POINT, DEPTH];
+const ALL: [Pair; 13] = [CHECK, POUR, TAKE, LOAD, COUNT, NEXT, STEP, RUN, READ, WRITE, PLACE, POINT, DEPTH];
 
 /// All that the functions can answer; accepted depths and cells by their kind.
 const ANSWERS: &Wanted = &[
     ("check", &["0", "1", "2", "4", "5", "6"]),
+    ("pour", &["0", "1", "2", "4", "5", "6", "13", "15", "16"]),
+    ("take", &["0", "1", "2", "4", "5", "6", "13", "15", "16"]),
     ("load", &["0", "1", "2", "4", "5", "6", "14"]),
     ("count", &["0", "1", "2"]),
     ("next", &["found", "none", "1", "2", "13"]),
@@ -101,15 +110,65 @@ fn followed(source: Source, small: Small) -> Vec<Outcome> {
     outcomes
 }
 
+/// A good state through acts and steps in random order: after each the two agree in every answer and slice, and the balance is what it was. A record now and
+/// then goes through writer and reader.
+fn lived(seed: u64) -> Vec<Outcome> {
+    let random = &mut Random::new(seed ^ 0x0acc_0000);
+    let mut case = Case::lively(seed);
+    let balance = State::of(case.first.lend()).balance();
+    let mut outcomes = Vec::new();
+    for turn in 0..10 {
+        let name = format!("lived seed {seed}, turn {turn}");
+        (case.cell, case.amount) = (cases::cell(random, &case.first.flags), cases::amount(random));
+        let pair = random.pick(&[POUR, TAKE, STEP]);
+        let (outcome, reply, after) = called(pair, &case, &name);
+        outcomes.push(outcome);
+        if pair.0 == STEP.0 {
+            if [0, 7, 8].contains(&reply.number) {
+                (case.first, case.first_index) = (after.second, after.second_index);
+            }
+        } else {
+            case.first = after.first;
+        }
+        outcomes.push(called(CHECK, &case, &name).0);
+        if turn % 5 == 4 {
+            let (outcome, reply, after) = called(WRITE, &case, &name);
+            outcomes.push(outcome);
+            let record = after.room[..reply.values[0] as usize].to_vec();
+            outcomes.push(called(READ, &Case { record, ..case.clone() }, &name).0);
+        }
+        let now = State::of(case.first.lend()).balance();
+        if now != balance {
+            let differs = Some(format!("{name}: the balance was {balance} and is {now}"));
+            outcomes.push(Outcome { met: Met::new("check", 0), differs });
+        }
+    }
+    outcomes
+}
+
 pub fn compare(wish: &Wish, total: &mut Total) {
     let title =
-        format!("the library's eleven functions on raw slices, {SEEDS} cases, seeds from {}", wish.from);
+        format!("the library's thirteen functions on raw slices, {SEEDS} cases, seeds from {}", wish.from);
     total.compare(&title, wish, SEEDS as usize, ANSWERS, |number| {
         let seed = wish.from + number as u64;
         let case = Case::of(seed);
         let name = format!("raw seed {seed}");
         ALL.map(|pair| called(pair, &case, &name).0).into()
     });
+
+    let title = format!(
+        "acts, steps, checks and records in random order, {LIVES} states, seeds from {}, whole outcomes and the balance",
+        wish.from
+    );
+    let wanted: &Wanted = &[
+        ("pour", &["0", "13", "15", "16"]),
+        ("take", &["0", "13", "15", "16"]),
+        ("step", &["0", "7", "8"]),
+        ("check", &["0"]),
+        ("write", &["0"]),
+        ("read", &["0"]),
+    ];
+    total.compare(&title, wish, LIVES as usize, wanted, |number| lived(wish.from + number as u64));
 
     let mut sources = Vec::new();
     for small in SMALL {
@@ -120,7 +179,7 @@ pub fn compare(wish: &Wish, total: &mut Total) {
             sources.extend(others.map(|other| (Source::Changed(small, at, other), small)));
         }
     }
-    let title = "the library's reader, then loading, step and writer, on every prefix of three small records and on each with every \
+    let title = "the library's reader, then loading, step and writer, on every prefix of four small records and on each with every \
                  single byte changed to all 255 others";
     let wanted: &Wanted = &[
         ("read", &["0", "1", "2", "3", "4", "6", "10", "11"]),
@@ -135,10 +194,11 @@ pub fn compare(wish: &Wish, total: &mut Total) {
 
     let rooms: Vec<(Small, usize)> = SMALL
         .iter()
-        .flat_map(|&small| (0..small.record().len() + 4).map(move |room| (small, room)))
+        .flat_map(|&small| (0..small.record().len() + 20).map(move |room| (small, room)))
         .collect();
     let wanted: &Wanted = &[("write", &["0", "12"])];
-    let title = "the library's writer on three small records, every size of room up to 3 bytes too many";
+    let title =
+        "the library's writer on four small records, every size of room up to a little more than enough";
     total.compare(title, wish, rooms.len(), wanted, |number| {
         let (small, room) = rooms[number];
         let record = small.record();

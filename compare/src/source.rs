@@ -40,7 +40,7 @@ impl Source {
             }
             Source::Solid(sides) => {
                 let cells = sides.iter().product::<u32>() as usize;
-                let state = State { cells: vec![Cell::blank(WALL); cells], carry: 0 };
+                let state = State::new(vec![Cell::blank(WALL); cells], 0);
                 Scene { sides, state, ..case_t() }.record()
             }
         }

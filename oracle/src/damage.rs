@@ -6,7 +6,8 @@ use crate::random::Random;
 use crate::scenes::{good, Scene};
 use crate::settings::REACH;
 use crate::state::{
-    Cell, CARRY_LIMIT, EMPTY, FLUID, HIGHEST_DENSITY, INTERFACE, LOWEST_DENSITY, MASS_LIMIT, PART_LIMIT, WALL,
+    Cell, CARRY_LIMIT, EMPTY, FLUID, HIGHEST_DENSITY, INTERFACE, LOWEST_DENSITY, MASS_LIMIT, PART_LIMIT,
+    TOTAL_LIMIT, WALL,
 };
 
 /// Where in the reader's order a fault is found: section (8 after the last), then the test within it.
@@ -48,6 +49,7 @@ enum Kind {
     OpenLayer,
     BrokenCell,
     Carry,
+    Total,
     Side,
     Count,
     Flag,
@@ -56,11 +58,12 @@ enum Kind {
     LeftOver,
 }
 
-const KINDS: [Kind; 10] = [
+const KINDS: [Kind; 11] = [
     Kind::Setting,
     Kind::OpenLayer,
     Kind::BrokenCell,
     Kind::Carry,
+    Kind::Total,
     Kind::Side,
     Kind::Count,
     Kind::Flag,
@@ -73,7 +76,8 @@ const KINDS: [Kind; 10] = [
 pub fn section_starts(scene: &Scene) -> [usize; 7] {
     let n = scene.state.cells.len();
     let interface = scene.state.cells.iter().filter(|cell| cell.flag == INTERFACE).count();
-    [0, 16, 40, 68, 80, 84 + n, 88 + n + 4 * interface]
+    let flags = 76 + 8 * scene.numbers;
+    [0, 16, 40, 68, flags - 4, flags + n, flags + 4 + n + 4 * interface]
 }
 
 /// The answer to a record cut to this length.
@@ -117,6 +121,13 @@ pub fn bad(seed: u64) -> Damaged {
             Kind::Carry => {
                 let past = CARRY_LIMIT + random.pick(&[1, 2, 1_000_000]);
                 scene.state.carry = random.pick(&[past, -past, i128::from(i64::MIN)]);
+                faults.push(Fault::new(BROKEN_RULE, 6, grid.n));
+            }
+            // Poured or taken out of range, in a record that has them.
+            Kind::Total if scene.numbers == 3 => {
+                let past = random.pick(&[-1, TOTAL_LIMIT + 1, i128::from(i64::MIN), i128::from(i64::MAX)]);
+                let state = &mut scene.state;
+                *if random.percent(50) { &mut state.poured } else { &mut state.taken } = past;
                 faults.push(Fault::new(BROKEN_RULE, 6, grid.n));
             }
             _ => {}

@@ -73,7 +73,7 @@ pub fn drawn(text: &str) -> Result<Scene, String> {
             cells[c] = drawn;
         }
     }
-    let mut state = State { cells, carry: 0 };
+    let mut state = State::new(cells, 0);
     state.work_out_fills();
-    Ok(Scene { sides, settings, origin, state })
+    Ok(Scene { sides, settings, origin, state, numbers: 1 })
 }

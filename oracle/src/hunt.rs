@@ -6,7 +6,7 @@ use crate::damage::{bad, cut_refusal, section_starts, LEFT_OVER};
 use crate::grid::{Grid, Refusal};
 use crate::lattice::{q, weight};
 use crate::random::Random;
-use crate::record::{read, read_within, write};
+use crate::record::{read, read_within, write, written_back};
 use crate::run::run;
 use crate::scenes::{good, settings, Scene};
 use crate::sets::Store;
@@ -322,7 +322,7 @@ fn refused_for(grid: &Grid, old: &State, setting: &Settings, refusal: Refusal, t
 /// Demand 2's records: written, read back as the same grid, written again as the same bytes.
 fn records(scene: &Scene, state: &State, setting: &Settings, tally: &mut Tally) -> Finding {
     let store = Store::of(state);
-    let mut room = vec![0xa5; 92 + 81 * store.flags.len() + 3];
+    let mut room = vec![0xa5; 108 + 81 * store.flags.len() + 3];
     let length = write(scene.sides, setting, scene.origin, store.lend(), &mut room)
         .map_err(|refusal| format!("the writer refused a good state: {refusal:?}"))?;
     ensure(room[length..].iter().all(|&byte| byte == 0xa5), "the writer wrote past the record")?;
@@ -334,7 +334,7 @@ fn records(scene: &Scene, state: &State, setting: &Settings, tally: &mut Tally) 
         (reading.sides, reading.settings, reading.origin) == (scene.sides, *setting, scene.origin),
         "a record read back with other settings",
     )?;
-    ensure(rewritten(bytes)? == bytes, "an accepted record was written back otherwise")?;
+    ensure(rewritten(bytes)? == written_back(bytes), "an accepted record was written back otherwise")?;
 
     let mut small = vec![0xa5; length - 1];
     let refusal = write(scene.sides, setting, scene.origin, store.lend(), &mut small);
@@ -349,7 +349,7 @@ fn records(scene: &Scene, state: &State, setting: &Settings, tally: &mut Tally) 
 fn rewritten(bytes: &[u8]) -> Result<Vec<u8>, String> {
     let (reading, store) =
         read_within(bytes, 262_144).map_err(|refusal| format!("the reader refused: {refusal:?}"))?;
-    let mut room = vec![0; bytes.len()];
+    let mut room = vec![0; written_back(bytes).len()];
     write(reading.sides, &reading.settings, reading.origin, store.lend(), &mut room)
         .map_err(|refusal| format!("the writer refused an accepted record: {refusal:?}"))?;
     Ok(room)
@@ -414,7 +414,10 @@ fn damages(seed: u64, tally: &mut Tally) -> Finding {
     let Some(fault) = damaged.fault else {
         if answer.is_ok() {
             tally.add("damaged at random and still accepted", 1);
-            ensure(rewritten(&damaged.bytes)? == damaged.bytes, "a damaged record was written otherwise")?;
+            ensure(
+                rewritten(&damaged.bytes)? == written_back(&damaged.bytes),
+                "a damaged record was written otherwise",
+            )?;
         }
         return Ok(());
     };

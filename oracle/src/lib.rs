@@ -1,5 +1,6 @@
 // The whole of document 01 once more, by another hand: what the delivered code is compared with.
 
+pub mod acts;
 pub mod damage;
 pub mod drawing;
 pub mod flume;
@@ -21,6 +22,7 @@ pub mod state;
 pub mod step;
 pub mod text;
 
+pub use acts::{pour, take};
 pub use grid::Refusal;
 pub use index::{load, surface_count, surface_next, Held, HeldMut, HeldStore, IndexStore};
 pub use pools::pools;

@@ -20,7 +20,7 @@ fn laid(sides: [u32; 3], random: &mut Random, layout: Layout) -> Scene {
         }
         flag => Cell::blank(flag),
     };
-    let mut state = State { cells: (0..grid.n).map(cell).collect(), carry: 0 };
+    let mut state = State::new((0..grid.n).map(cell).collect(), 0);
     state.work_out_fills();
     Scene { sides, state, ..case_t() }
 }

@@ -4,9 +4,6 @@ use crate::grid::{refuse, Grid, Refusal};
 use crate::sets::Set;
 use crate::state::{good_state, State};
 
-/// The most that was ever poured or taken.
-const TOTAL_LIMIT: i64 = 1_000_000_000_000_000;
-
 /// What is lent beside the set.
 #[derive(Debug)]
 pub struct Room<'a> {
@@ -16,19 +13,14 @@ pub struct Room<'a> {
     pub work: &'a mut [u32],
 }
 
-/// Tests 1, 2, 4, 5 and 6, of a set whose carry's slice holds carry, poured and taken.
+/// Tests 1, 2, 4, 5 and 6.
 fn tested(sides: [u32; 3], set: Set, room: &Room) -> Result<(Grid, State), Refusal> {
     let grid = Grid::new(sides)?;
-    let n = grid.n;
-    let lent = [set.flags.len(), set.masses.len(), set.fills.len(), room.marks.len(), room.work.len()];
-    let whole = lent.iter().all(|&length| length == n) && set.parts.len() == 19 * n && set.carry.len() == 3;
-    if !whole || room.counts.len() != room.waters.len() {
+    let fits = [room.marks.len(), room.work.len()] == [grid.n; 2] && room.counts.len() == room.waters.len();
+    if !(set.fits(grid.n) && fits) {
         return refuse(2, 0);
     }
     let state = good_state(&grid, set)?;
-    if set.carry[1..].iter().any(|total| !(0..=TOTAL_LIMIT).contains(total)) {
-        return refuse(6, n);
-    }
     Ok((grid, state))
 }
 

@@ -29,12 +29,18 @@ impl<'a> Sections<'a> {
 
     /// The next section's numbers as bytes. The place of 10 is the byte of the section's count.
     pub(crate) fn next(&mut self, count: usize, size: usize) -> Result<&'a [u8], Refusal> {
+        self.one_of(&[count], size)
+    }
+
+    /// The same where the count is one of these.
+    fn one_of(&mut self, counts: &[usize], size: usize) -> Result<&'a [u8], Refusal> {
         self.section += 1;
         let rest = &self.bytes[self.at..];
         let Some((head, body)) = rest.split_first_chunk::<4>() else {
             return refuse(10, self.at);
         };
-        if u32::from_le_bytes(*head) as usize != count {
+        let count = u32::from_le_bytes(*head) as usize;
+        if !counts.contains(&count) {
             return refuse(11, self.section);
         }
         let Some(numbers) = body.get(..count * size) else {
@@ -79,13 +85,14 @@ pub fn read<'a>(
     let sides = three(&numbers_u32(sections.next(3, 4)?));
     let grid = Grid::new(sides)?;
     let n = grid.n;
-    if parts.len() != 19 * n || masses.len() != n || fills.len() != n || carry.len() != 1 {
+    if parts.len() != 19 * n || masses.len() != n || fills.len() != n || carry.len() != 3 {
         return refuse(2, 0);
     }
     let setting = numbers_i32(sections.next(5, 4)?);
     let settings = Settings { p: setting[0], gravity: three(&setting[1..]), edge: setting[4] };
     let origin = three(&numbers_i64(sections.next(3, 8)?));
-    let read_carry = numbers_i64(sections.next(1, 8)?)[0];
+    let totals = numbers_i64(sections.one_of(&[1, 3], 8)?);
+    let total = |k: usize| totals.get(k).copied().map_or(0, i128::from);
     let flags = sections.next(n, 1)?;
     test_flags(&grid, flags)?;
     let interface = flags.iter().filter(|&&flag| flag == INTERFACE).count();
@@ -99,7 +106,8 @@ pub fn read<'a>(
 
     let mut mass = read_masses.into_iter().map(i128::from);
     let mut part = read_parts.into_iter().map(i128::from);
-    let mut state = State { cells: Vec::with_capacity(n), carry: i128::from(read_carry) };
+    let mut state =
+        State { cells: Vec::with_capacity(n), carry: total(0), poured: total(1), taken: total(2) };
     for &flag in flags {
         let mut cell = Cell::blank(flag);
         if cell.liquid() {
@@ -129,8 +137,14 @@ pub fn read_within(bytes: &[u8], room: usize) -> Result<(Reading<'_>, Store), Re
     Ok((reading, store))
 }
 
-/// The bytes of a record, of a good state or of a damaged one.
-pub fn encode(sides: [u32; 3], settings: &Settings, origin: [i64; 3], state: &State) -> Vec<u8> {
+/// The bytes of a record with three numbers in section 4 or only the carry there, of a good state or of a damaged one.
+pub fn encode(
+    sides: [u32; 3],
+    settings: &Settings,
+    origin: [i64; 3],
+    state: &State,
+    numbers: usize,
+) -> Vec<u8> {
     let interface = state.cells.iter().filter(|cell| cell.flag == INTERFACE);
     let liquid = state.cells.iter().filter(|cell| cell.liquid());
     let masses: Vec<i32> = interface.map(|cell| cell.mass as i32).collect();
@@ -148,11 +162,20 @@ pub fn encode(sides: [u32; 3], settings: &Settings, origin: [i64; 3], state: &St
         [settings.p, gx, gy, gz, settings.edge].iter().flat_map(|number| number.to_le_bytes()).collect(),
     );
     section(3, origin.iter().flat_map(|number| number.to_le_bytes()).collect());
-    section(1, (state.carry as i64).to_le_bytes().to_vec());
+    let totals = [state.carry, state.poured, state.taken].map(|number| (number as i64).to_le_bytes());
+    section(numbers, totals[..numbers].concat());
     section(state.cells.len(), state.cells.iter().map(|cell| cell.flag).collect());
     section(masses.len(), masses.iter().flat_map(|mass| mass.to_le_bytes()).collect());
     section(parts.len(), parts.iter().flat_map(|part| part.to_le_bytes()).collect());
     bytes
+}
+
+/// What an accepted record is written back as: with three numbers in section 4 its own bytes.
+pub fn written_back(bytes: &[u8]) -> Vec<u8> {
+    match bytes[68] {
+        1 => [&bytes[..68], &[3, 0, 0, 0], &bytes[72..80], &[0; 16], &bytes[80..]].concat(),
+        _ => bytes.to_vec(),
+    }
 }
 
 /// The writer: the record's length; room past it stays untouched.
@@ -169,7 +192,7 @@ pub fn write(
     }
     test_all(settings, origin)?;
     let state = good_state(&grid, set)?;
-    let bytes = encode(sides, settings, origin, &state);
+    let bytes = encode(sides, settings, origin, &state, 3);
     match room.get_mut(..bytes.len()) {
         Some(record) => {
             record.copy_from_slice(&bytes);

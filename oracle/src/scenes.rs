@@ -7,7 +7,7 @@ use crate::record::encode;
 use crate::settings::{Settings, GRAVITY_LIMIT, REACH};
 use crate::state::{
     speed_allowed, Cell, State, CARRY_LIMIT, EMPTY, FLUID, HIGHEST_DENSITY, INTERFACE, LOWEST_DENSITY,
-    MASS_LIMIT, PART_LIMIT, WALL,
+    MASS_LIMIT, PART_LIMIT, TOTAL_LIMIT, WALL,
 };
 use crate::step::rebuilt;
 
@@ -17,6 +17,8 @@ pub struct Scene {
     pub settings: Settings,
     pub origin: [i64; 3],
     pub state: State,
+    /// How many numbers section 4 of its record has, 1 or 3; with 1 nothing was poured or taken.
+    pub numbers: usize,
 }
 
 impl Scene {
@@ -25,7 +27,7 @@ impl Scene {
     }
 
     pub fn record(&self) -> Vec<u8> {
-        encode(self.sides, &self.settings, self.origin, &self.state)
+        encode(self.sides, &self.settings, self.origin, &self.state, self.numbers)
     }
 }
 
@@ -78,7 +80,7 @@ pub fn case_t() -> Scene {
     let parts = std::array::from_fn(|k| weight(k) * 16_384);
     cells[grid.cell([1, 1, 1])] = Cell { flag: INTERFACE, parts, mass: 294_912, fill: 32_768 };
     let settings = Settings { p: 1024, gravity: [0, 0, -1024], edge: 50 };
-    Scene { sides, settings, origin: [0; 3], state: State { cells, carry: 0 } }
+    Scene { sides, settings, origin: [0; 3], state: State::new(cells, 0), numbers: 1 }
 }
 
 /// The good scene of a seed.
@@ -92,6 +94,12 @@ pub fn good(seed: u64) -> Scene {
     };
     scene.origin = [(); 3].map(|_| coordinate(random));
     scene.state.work_out_fills();
+    // Section 4 goes by another source of chance, so that a seed's water is what it was.
+    let totals = &mut Random::new(seed ^ 0x70a1_5000_0000);
+    if totals.percent(60) {
+        scene.numbers = 3;
+        (scene.state.poured, scene.state.taken) = (total(totals), total(totals));
+    }
     scene
 }
 
@@ -143,6 +151,16 @@ fn carry(random: &mut Random) -> i128 {
         1 => -CARRY_LIMIT + random.between(0, 3),
         2 => random.between(-CARRY_LIMIT, CARRY_LIMIT),
         3 => random.between(-1000, 1000),
+        _ => 0,
+    }
+}
+
+/// Poured or taken, often at an end of its range.
+fn total(random: &mut Random) -> i128 {
+    match random.below(5) {
+        0 => TOTAL_LIMIT - random.between(0, 600_000),
+        1 => random.between(0, TOTAL_LIMIT),
+        2 => random.between(0, 10_000_000),
         _ => 0,
     }
 }
@@ -245,7 +263,7 @@ fn mixed(random: &mut Random) -> Scene {
         Cell { flag, parts, mass, fill: 0 }
     });
     let cells = cells.collect();
-    Scene { sides, settings, origin: [0; 3], state: State { cells, carry: carry(random) } }
+    Scene { sides, settings, origin: [0; 3], state: State::new(cells, carry(random)), numbers: 1 }
 }
 
 /// Parts with exactly this density and momentum, close to their equilibrium.
@@ -380,7 +398,7 @@ fn fast_newborn(random: &mut Random) -> Scene {
     cells[filling] = cell;
     // With p 1 the filling cell itself, close to equilibrium, keeps its momentum.
     let settings = Settings { p: 1, gravity: [0; 3], edge: 50 };
-    Scene { sides, settings, origin: [0; 3], state: State { cells, carry: carry(random) } }
+    Scene { sides, settings, origin: [0; 3], state: State::new(cells, carry(random)), numbers: 1 }
 }
 
 /// Parts that stream into the wanted ones in a cell with walls around it but for an empty cell at
@@ -417,7 +435,7 @@ fn gravity_past_speed(random: &mut Random) -> Scene {
     let mut cells: Vec<Cell> = hollow(&grid).into_iter().map(Cell::blank).collect();
     cells[grid.cell([1, 1, 1])] = Cell { flag: INTERFACE, parts: parts_at(rho, &j), mass, fill: 0 };
     let settings = Settings { p: random.between(1025, 2037) as i32, gravity, edge: 50 };
-    Scene { sides, settings, origin: [0; 3], state: State { cells, carry: carry(random) } }
+    Scene { sides, settings, origin: [0; 3], state: State::new(cells, carry(random)), numbers: 1 }
 }
 
 /// A cell between walls, so that streaming leaves its density, speed and mass as they are, exactly at a limit or one unit beside it: of filling,
@@ -439,5 +457,5 @@ fn at_a_limit(random: &mut Random) -> Scene {
     cells[grid.cell([1, 1, 1])] = Cell { flag: INTERFACE, parts: parts_at(rho, &j), mass, fill: 0 };
     // Gravity would push a speed past its limit.
     let settings = Settings { gravity: [0; 3], ..settings(random) };
-    Scene { sides, settings, origin: [0; 3], state: State { cells, carry: carry(random) } }
+    Scene { sides, settings, origin: [0; 3], state: State::new(cells, carry(random)), numbers: 1 }
 }

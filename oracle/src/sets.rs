@@ -39,7 +39,7 @@ impl Set<'_> {
             && self.parts.len() == 19 * n
             && self.masses.len() == n
             && self.fills.len() == n
-            && self.carry.len() == 1
+            && self.carry.len() == 3
     }
 }
 
@@ -64,7 +64,7 @@ impl SetMut<'_> {
             self.masses[c] = cell.mass as i32;
             self.fills[c] = cell.fill as u32;
         }
-        self.carry[0] = state.carry as i64;
+        self.carry.copy_from_slice(&[state.carry, state.poured, state.taken].map(|number| number as i64));
     }
 }
 
@@ -75,7 +75,7 @@ impl Store {
             parts: vec![0; 19 * n],
             masses: vec![0; n],
             fills: vec![0; n],
-            carry: vec![0],
+            carry: vec![0; 3],
         }
     }
 

@@ -15,6 +15,7 @@ pub const LOWEST_DENSITY: i128 = 294_912;
 pub const HIGHEST_DENSITY: i128 = 1_179_648;
 pub const MASS_LIMIT: i128 = 2_359_296;
 pub const CARRY_LIMIT: i128 = 1_000_000_000_000;
+pub const TOTAL_LIMIT: i128 = 1_000_000_000_000_000;
 
 #[derive(Clone, Copy, Debug, PartialEq, Eq)]
 pub struct Cell {
@@ -28,6 +29,8 @@ pub struct Cell {
 pub struct State {
     pub cells: Vec<Cell>,
     pub carry: i128,
+    pub poured: i128,
+    pub taken: i128,
 }
 
 /// The rules of a good state that one cell can break and test 6 or 8 finds.
@@ -104,6 +107,11 @@ impl Cell {
 }
 
 impl State {
+    /// A state into which nothing was poured and from which nothing was taken.
+    pub fn new(cells: Vec<Cell>, carry: i128) -> State {
+        State { cells, carry, poured: 0, taken: 0 }
+    }
+
     /// The state that a set of the right lengths holds.
     pub fn of(set: Set) -> State {
         let cell = |c: usize| Cell {
@@ -112,7 +120,8 @@ impl State {
             mass: i128::from(set.masses[c]),
             fill: i128::from(set.fills[c]),
         };
-        State { cells: (0..set.flags.len()).map(cell).collect(), carry: i128::from(set.carry[0]) }
+        let [carry, poured, taken] = [0, 1, 2].map(|k| i128::from(set.carry[k]));
+        State { cells: (0..set.flags.len()).map(cell).collect(), carry, poured, taken }
     }
 
     pub fn work_out_fills(&mut self) {
@@ -124,13 +133,19 @@ impl State {
     /// Where test 6 (of a given state) or test 8 (of the next one) finds a rule broken.
     pub fn broken_place(&self) -> Option<usize> {
         let cell = self.cells.iter().position(|cell| !cell.broken_rules().is_empty());
-        let carry_broken = !(-CARRY_LIMIT..=CARRY_LIMIT).contains(&self.carry);
-        cell.or(carry_broken.then_some(self.cells.len()))
+        let carry = (-CARRY_LIMIT..=CARRY_LIMIT).contains(&self.carry);
+        let totals = [self.poured, self.taken].iter().all(|total| (0..=TOTAL_LIMIT).contains(total));
+        cell.or((!(carry && totals)).then_some(self.cells.len()))
     }
 
     /// The water of all cells, and the carry.
     pub fn total(&self) -> i128 {
         self.cells.iter().filter(|cell| cell.liquid()).map(|cell| cell.mass).sum::<i128>() + self.carry
+    }
+
+    /// The total plus what was taken less what was poured.
+    pub fn balance(&self) -> i128 {
+        self.total() + self.taken - self.poured
     }
 }
 

@@ -34,7 +34,7 @@ fn tally(set: Set) -> String {
     format!("{fluid} {interface} {empty} {wall} {total} {}", set.carry[0])
 }
 
-/// Where a record's water is, in the unit of its masses: in fluid cells, in interface cells, the carry, and all together.
+/// Where a record's water is, in the unit of its masses: in fluid cells, in interface cells, the carry, all together, poured, taken, and the balance.
 pub fn water(bytes: &[u8]) -> String {
     let (reading, store) = match read_within(bytes, usize::MAX) {
         Ok(accepted) => accepted,
@@ -44,8 +44,10 @@ pub fn water(bytes: &[u8]) -> String {
         let cells = reading.flags.iter().zip(&store.masses).filter(|(flag, _)| **flag == wanted);
         cells.map(|(_, &mass)| i128::from(mass)).sum()
     };
-    let (fluid, interface, carry) = (within(FLUID), within(INTERFACE), i128::from(store.carry[0]));
-    format!("{fluid} {interface} {carry} {}\n", fluid + interface + carry)
+    let [carry, poured, taken] = [0, 1, 2].map(|k| i128::from(store.carry[k]));
+    let (fluid, interface) = (within(FLUID), within(INTERFACE));
+    let total = fluid + interface + carry;
+    format!("{fluid} {interface} {carry} {total} {poured} {taken} {}\n", total + taken - poured)
 }
 
 /// gridstep's whole output for the bytes on its standard input.

@@ -6,7 +6,7 @@ use std::process::{Command, Stdio};
 use oracle::grid::{Grid, Refusal};
 use oracle::lattice::{density, equilibrium, momentum, opposite, q, weight, DIRECTIONS, ONE};
 use oracle::readings::{CellPoint, Depth};
-use oracle::record::read_within;
+use oracle::record::{read_within, written_back};
 use oracle::scenes::{case_t, parts_at, Scene};
 use oracle::settings::test_flow;
 use oracle::state::{Cell, Rule, State, EMPTY, FLUID, INTERFACE, WALL};
@@ -29,7 +29,7 @@ fn resting(mass: i128, more: i128) -> Cell {
 /// A row of three cells along x with walls around it.
 fn row(cells: [Cell; 3]) -> (Grid, State) {
     let grid = Grid::new([5, 3, 3]).unwrap();
-    let mut state = State { cells: vec![Cell::blank(WALL); grid.n], carry: 0 };
+    let mut state = State::new(vec![Cell::blank(WALL); grid.n], 0);
     for (x, cell) in cells.into_iter().enumerate() {
         state.cells[grid.cell([x + 1, 1, 1])] = cell;
     }
@@ -161,12 +161,12 @@ fn case_t_record_and_text() {
     let bytes = scene.record();
     assert_eq!(bytes.len(), 199);
     assert_eq!(bytes.len(), 92 + 27 + 4 + 76);
-    let mut room = [7; 201];
+    let mut room = [7; 217];
     let store = Store::of(&scene.state);
     let length = write(scene.sides, &scene.settings, scene.origin, store.lend(), &mut room);
-    assert_eq!(length, Ok(199));
-    assert_eq!(room[..199], bytes);
-    assert_eq!(room[199..], [7, 7]);
+    assert_eq!(length, Ok(215));
+    assert_eq!(room[..215], written_back(&bytes));
+    assert_eq!(room[215..], [7, 7]);
     assert_eq!(gridstep(&bytes), CASE_T_TEXT);
 }
 
@@ -191,7 +191,7 @@ fn gridstep_refuses() {
     assert_eq!(gridstep(&[3; 65_536]), "record 11 1\n");
     let walls = |sides: [u32; 3]| {
         let n = sides.iter().product::<u32>() as usize;
-        let state = State { cells: vec![Cell::blank(WALL); n], carry: -5 };
+        let state = State::new(vec![Cell::blank(WALL); n], -5);
         Scene { sides, state, ..case_t() }.record()
     };
     // 861 cells fit, 863 is prime, 864 do not.
@@ -348,7 +348,7 @@ fn interface_cells_rebuild_along_the_normal() {
 #[test]
 fn excess_leaves_the_wall_alone() {
     let grid = Grid::new([4, 4, 3]).unwrap();
-    let mut old = State { cells: vec![Cell::blank(WALL); grid.n], carry: 0 };
+    let mut old = State::new(vec![Cell::blank(WALL); grid.n], 0);
     let pool = [(21, 591_424), (22, 147_456), (25, 442_368), (26, 294_912)];
     for (c, mass) in pool {
         old.cells[c] = resting(mass, 0);

@@ -55,7 +55,7 @@ impl Lent {
 fn corners(cells: &[(usize, i128)]) -> State {
     let grid = Grid::new([4; 3]).unwrap();
     let flag = |c: usize| if grid.outer(c) { WALL } else { EMPTY };
-    let mut state = State { cells: (0..grid.n).map(|c| Cell::blank(flag(c))).collect(), carry: 0 };
+    let mut state = State::new((0..grid.n).map(|c| Cell::blank(flag(c))).collect(), 0);
     for &(c, mass) in cells {
         state.cells[c] = Cell { mass, ..case_t().state.cells[13] };
     }

@@ -33,7 +33,7 @@ fn what_is_wrong_with_a_drawing_is_said() {
 fn water_by_kind_of_cell() {
     let mut scene = case_t();
     scene.state.carry = -7;
-    assert_eq!(water(&scene.record()), "0 294912 -7 294905\n");
+    assert_eq!(water(&scene.record()), "0 294912 -7 294905 0 0 294905\n");
     assert_eq!(water(&scene.record()[..90]), "record 10 80\n");
 }
 

@@ -110,9 +110,14 @@ fn wrong_lengths_are_refused_and_nothing_is_written() {
 #[test]
 fn reader_tests_lengths_right_after_the_sides() {
     let bytes = case_t().record();
-    for (parts, masses, fills, carry) in
-        [(512, 27, 27, 1), (513, 26, 27, 1), (513, 27, 28, 1), (513, 27, 27, 0), (513, 27, 27, 2)]
-    {
+    for (parts, masses, fills, carry) in [
+        (512, 27, 27, 3),
+        (513, 26, 27, 3),
+        (513, 27, 28, 3),
+        (513, 27, 27, 1),
+        (513, 27, 27, 2),
+        (513, 27, 27, 4),
+    ] {
         let answer = read(
             &bytes[..16],
             &mut vec![0; parts],
@@ -122,7 +127,7 @@ fn reader_tests_lengths_right_after_the_sides() {
         );
         assert_eq!(answer, Err(refusal(2, 0)));
     }
-    let answer = read(&bytes[..16], &mut [0; 513], &mut [0; 27], &mut [0; 27], &mut [0]);
+    let answer = read(&bytes[..16], &mut [0; 513], &mut [0; 27], &mut [0; 27], &mut [0; 3]);
     assert_eq!(answer, Err(refusal(10, 16)));
 }
 
@@ -161,7 +166,7 @@ fn writer_tests_room_last() {
     let mut tried = |settings: Settings, origin: [i64; 3], store: &Store| {
         write([3; 3], &settings, origin, store.lend(), &mut room).unwrap_err()
     };
-    assert_eq!(tried(scene.settings, scene.origin, &store), refusal(12, 199));
+    assert_eq!(tried(scene.settings, scene.origin, &store), refusal(12, 215));
     assert_eq!(tried(Settings { edge: 0, ..scene.settings }, scene.origin, &store), refusal(3, 0));
     assert_eq!(tried(scene.settings, [0, 0, i64::MIN], &store), refusal(3, 0));
     let mut broken = store.clone();

@@ -20,6 +20,8 @@
 #define CELLS 27
 #define MIDDLE 13
 #define RECORD 199
+/* The same grid as the writer writes it, with poured and taken. */
+#define WRITTEN 215
 
 static int tried = 0;
 static int failed = 0;
@@ -44,7 +46,7 @@ struct set {
     int32_t parts[SKW_PARTS * ROOM];
     int32_t masses[ROOM];
     uint32_t fills[ROOM];
-    int64_t carry[2];
+    int64_t carry[4];
     uint64_t words[2];
     uint64_t count[2];
 };
@@ -77,7 +79,8 @@ static struct lengths lengths_of(size_t cells)
     struct lengths l;
     l.flags = l.masses = l.fills = l.marks = cells;
     l.parts = SKW_PARTS * cells;
-    l.carry = l.count = 1;
+    l.carry = 3;
+    l.count = 1;
     l.words = SKW_WORDS(cells);
     return l;
 }
@@ -646,8 +649,8 @@ static void test_read(const uint8_t *record)
     EXPECT(write_record(FIVE, FALLING, CORNER, &wanted, lengths_of(ROW), row_record, sizeof row_record, &length) == ACCEPTED);
     EXPECT(read_record(row_record, length, &a, lengths_of(ROW), &h) == ACCEPTED);
     memcpy(a.flags, row_record + h.flags_from, ROW);
-    EXPECT(h.flags_to == 84 + ROW && same_state(&a, &wanted, ROW));
-    soil(&a), row_record[84 + ROW_FLUID + 1] = SKW_EMPTY, row_record[84 + ROW_FLUID + 2] = SKW_INTERFACE;
+    EXPECT(h.flags_to == 100 + ROW && same_state(&a, &wanted, ROW));
+    soil(&a), row_record[100 + ROW_FLUID + 1] = SKW_EMPTY, row_record[100 + ROW_FLUID + 2] = SKW_INTERFACE;
     EXPECT(read_record(row_record, length, &a, lengths_of(ROW), &h) == REFUSED(SKW_BAD_LAYER, ROW_FLUID) && refused_head(&h));
     EXPECT(same(&a, &dirty));
 }
@@ -664,9 +667,9 @@ static void test_write(const uint8_t *record)
     int way;
     case_t(&a), memset(room, 7, sizeof room);
 
-    EXPECT(SKW_RECORD_BYTES(CELLS, 1, 1) == RECORD);
-    EXPECT(write_record(THREE, FALLING, CORNER, &a, l, room, RECORD - 1, &bytes) == REFUSED(SKW_BAD_ROOM, RECORD) && bytes == 0);
-    EXPECT(write_record(THREE, FALLING, CORNER, &a, l, room, 0, &bytes) == REFUSED(SKW_BAD_ROOM, RECORD) && bytes == 0);
+    EXPECT(SKW_RECORD_BYTES(CELLS, 1, 1) == WRITTEN);
+    EXPECT(write_record(THREE, FALLING, CORNER, &a, l, room, WRITTEN - 1, &bytes) == REFUSED(SKW_BAD_ROOM, WRITTEN) && bytes == 0);
+    EXPECT(write_record(THREE, FALLING, CORNER, &a, l, room, 0, &bytes) == REFUSED(SKW_BAD_ROOM, WRITTEN) && bytes == 0);
     s.nz = 2;
     EXPECT(write_record(s, FALLING, CORNER, &a, l, room, sizeof room, &bytes) == REFUSED(SKW_BAD_SIDES, 0) && bytes == 0);
     for (way = 0; way < WRONG_SET_LENGTHS; way += 1) {
@@ -689,9 +692,57 @@ static void test_write(const uint8_t *record)
     EXPECT(all(room, sizeof room, 7));
 
     case_t(&a);
-    EXPECT(write_record(THREE, FALLING, CORNER, &a, l, room, sizeof room, &bytes) == ACCEPTED && bytes == RECORD);
-    EXPECT(memcmp(room, record, RECORD) == 0 && all(room + RECORD, sizeof room - RECORD, 7));
-    EXPECT(write_record(THREE, FALLING, CORNER, &a, l, room, RECORD, &bytes) == ACCEPTED && bytes == RECORD);
+    EXPECT(write_record(THREE, FALLING, CORNER, &a, l, room, sizeof room, &bytes) == ACCEPTED && bytes == WRITTEN);
+    /* The record of one number in section 4 with three there: its first 68 bytes, the count 3, its carry, sixteen bytes of 0, and the rest. */
+    EXPECT(memcmp(room, record, 68) == 0 && room[68] == 3 && all(room + 69, 3, 0) && memcmp(room + 72, record + 72, 8) == 0);
+    EXPECT(all(room + 80, 16, 0) && memcmp(room + 96, record + 80, RECORD - 80) == 0 && all(room + WRITTEN, sizeof room - WRITTEN, 7));
+    EXPECT(write_record(THREE, FALLING, CORNER, &a, l, room, WRITTEN, &bytes) == ACCEPTED && bytes == WRITTEN);
+    a.carry[2] = -1;
+    EXPECT(write_record(THREE, FALLING, CORNER, &a, l, room, WRITTEN, &bytes) == REFUSED(SKW_BAD_STATE, CELLS) && bytes == 0);
+}
+
+static long act(uint8_t (*call)(const uint8_t *, size_t, const int32_t *, size_t, int32_t *, size_t, uint32_t *, size_t, int64_t *, size_t,
+                                size_t, size_t, size_t, size_t, int64_t, int64_t *, size_t *),
+                struct set *a, struct lengths l, struct sides s, size_t cell, int64_t amount, int64_t *moved)
+{
+    size_t place = unset();
+    const uint8_t number = call(a->flags, l.flags, a->parts, l.parts, a->masses, l.masses, a->fills, l.fills, a->carry, l.carry,
+                                s.nx, s.ny, s.nz, cell, amount, moved, &place);
+    return REFUSED(number, place);
+}
+
+/* The worked figures of pour and take, one act after another. */
+static void test_acts(void)
+{
+    const struct lengths l = lengths_of(CELLS);
+    struct set a, kept;
+    int64_t moved;
+    int way;
+    case_t(&a);
+
+    EXPECT(act(skw_pour, &a, l, THREE, MIDDLE, 100000, &moved) == ACCEPTED && moved == 100000);
+    EXPECT(a.masses[MIDDLE] == 394912 && a.fills[MIDDLE] == 43879 && a.carry[1] == 100000 && a.carry[2] == 0);
+    EXPECT(act(skw_take, &a, l, THREE, MIDDLE, SKW_AMOUNT_MOST, &moved) == ACCEPTED && moved == 394912);
+    EXPECT(a.masses[MIDDLE] == 0 && a.fills[MIDDLE] == 0 && a.carry[2] == 394912);
+    EXPECT(act(skw_take, &a, l, THREE, MIDDLE, 5, &moved) == ACCEPTED && moved == 0);
+    kept = a;
+    EXPECT(act(skw_pour, &a, l, THREE, MIDDLE, SKW_AMOUNT_MOST + 1, &moved) == REFUSED(SKW_BAD_AMOUNT, 0) && moved == 0);
+    EXPECT(act(skw_pour, &a, l, THREE, 12, 1, &moved) == REFUSED(SKW_NOT_INTERFACE, 12) && moved == 0);
+    EXPECT(act(skw_take, &a, l, THREE, CELLS, 1, &moved) == REFUSED(SKW_OUTSIDE, 0) && moved == 0);
+    EXPECT(act(skw_take, &a, l, FLAT, MIDDLE, 1, &moved) == REFUSED(SKW_BAD_SIDES, 0) && moved == 0);
+    for (way = 0; way < WRONG_SET_LENGTHS; way += 1) {
+        EXPECT(act(skw_pour, &a, wrong_lengths(way), THREE, MIDDLE, 1, &moved) == REFUSED(SKW_BAD_LENGTH, 0) && moved == 0);
+    }
+    EXPECT(memcmp(&a, &kept, sizeof a) == 0);
+    for (way = 0; way < 4; way += 1) {
+        EXPECT(act(skw_pour, &a, l, THREE, MIDDLE, SKW_AMOUNT_MOST, &moved) == ACCEPTED && moved == SKW_AMOUNT_MOST);
+    }
+    EXPECT(a.masses[MIDDLE] == SKW_MASS_MOST && a.carry[1] == 2459296);
+    EXPECT(act(skw_pour, &a, l, THREE, MIDDLE, 1, &moved) == REFUSED(SKW_BAD_AMOUNT, 0) && moved == 0);
+    EXPECT(a.masses[MIDDLE] + a.carry[0] + a.carry[2] - a.carry[1] == 294912);
+    EXPECT(check(&a, l, THREE) == ACCEPTED);
+    a.carry[1] = SKW_TOTAL_MOST + 1;
+    EXPECT(check(&a, l, THREE) == REFUSED(SKW_BAD_STATE, CELLS));
 }
 
 static void test_place(void)
@@ -1070,6 +1121,7 @@ int main(int count, char **words)
     test_run();
     test_read(record);
     test_write(record);
+    test_acts();
     test_place();
     test_point();
     test_depth();

@@ -154,7 +154,7 @@ fn play(folder: &Path) -> Result<(), Box<dyn Error>> {
     let clock = Instant::now();
     let made = advance(&mut grid, start);
     println!("{:.1} seconds", clock.elapsed().as_secs_f64());
-    let Water { fluid, interface, carry } = grid.water();
+    let Water { fluid, interface, carry, .. } = grid.water();
     let [fluid, interface, carry, total] = [fluid, interface, carry, grid.total()].map(grouped);
     println!(
         "water: {fluid} fluid + {interface} interface + {carry} carry = {total}; {} at the start",

@@ -80,7 +80,7 @@ impl Grid {
     /// The grid's record, which [`read`](Grid::read) reads back as the same grid. Refusals 3 to 6.
     pub fn write(&self, settings: Settings, site: Site) -> Result<Vec<u8>, Refusal> {
         let counts = self.counts();
-        let mut record = vec![0; 92 + self.first.flags.len() + 4 * counts.interface + 76 * counts.liquid()];
+        let mut record = vec![0; 108 + self.first.flags.len() + 4 * counts.interface + 76 * counts.liquid()];
         let length = lent::write(self.sides, settings, site, self.state(), &mut record)?;
         record.truncate(length);
         Ok(record)
@@ -141,6 +141,26 @@ impl Grid {
     /// Whether the state is good; else refusal 4, 5 or 6.
     pub fn check(&self) -> Result<(), Refusal> {
         lent::check(self.sides, self.state())
+    }
+
+    /// Pours an amount into an interface cell; what was moved, which is the amount. Refusals 4, 5, 6, 13, 15, 16.
+    pub fn pour(&mut self, cell: usize, amount: i64) -> Result<i64, Refusal> {
+        lent::pour(self.sides, self.first.lend_mut(), cell, amount)
+    }
+
+    /// Takes from an interface cell the smaller of an amount and its mass, nothing if the mass is not above 0; what was moved.
+    /// Refusals 4, 5, 6, 13, 15, 16.
+    pub fn take(&mut self, cell: usize, amount: i64) -> Result<i64, Refusal> {
+        lent::take(self.sides, self.first.lend_mut(), cell, amount)
+    }
+
+    /// All that was poured into the grid, in the unit of the masses, and all that was taken.
+    pub fn poured(&self) -> i64 {
+        self.first.carry[1]
+    }
+
+    pub fn taken(&self) -> i64 {
+        self.first.carry[2]
     }
 
     /// Makes one step. Refused, with 3 to 8, it leaves the state as it was.

@@ -9,7 +9,8 @@
 
 use crate::raw;
 use crate::{
-    CellPoint, Depth, Held, HeldMut, IndexMut, Next, Point, Refusal, Settings, Sides, Site, State, Stopped,
+    CellPoint, Depth, Held, HeldMut, IndexMut, Next, Point, Refusal, Settings, Sides, Site, State, StateMut,
+    Stopped,
 };
 
 /// What the reader answers beside the slices that it fills.
@@ -51,6 +52,61 @@ pub fn check(sides: Sides, state: State) -> Result<(), Refusal> {
         )
     };
     answered(number, place)
+}
+
+/// Pours an amount into an interface cell; what was moved, which is the amount. Refusals 1, 2, 4, 5, 6, 13, 15, 16.
+pub fn pour(sides: Sides, state: StateMut, cell: usize, amount: i64) -> Result<i64, Refusal> {
+    let (mut moved, mut place) = (0, 0);
+    let number = unsafe {
+        raw::skw_pour(
+            state.flags.as_ptr(),
+            state.flags.len(),
+            state.parts.as_ptr(),
+            state.parts.len(),
+            state.masses.as_mut_ptr(),
+            state.masses.len(),
+            state.fills.as_mut_ptr(),
+            state.fills.len(),
+            state.carry.as_mut_ptr(),
+            state.carry.len(),
+            sides.nx,
+            sides.ny,
+            sides.nz,
+            cell,
+            amount,
+            &mut moved,
+            &mut place,
+        )
+    };
+    answered(number, place).map(|()| moved)
+}
+
+/// Takes from an interface cell the smaller of an amount and its mass, nothing if the mass is not above 0; what was moved.
+/// Refusals 1, 2, 4, 5, 6, 13, 15, 16.
+pub fn take(sides: Sides, state: StateMut, cell: usize, amount: i64) -> Result<i64, Refusal> {
+    let (mut moved, mut place) = (0, 0);
+    let number = unsafe {
+        raw::skw_take(
+            state.flags.as_ptr(),
+            state.flags.len(),
+            state.parts.as_ptr(),
+            state.parts.len(),
+            state.masses.as_mut_ptr(),
+            state.masses.len(),
+            state.fills.as_mut_ptr(),
+            state.fills.len(),
+            state.carry.as_mut_ptr(),
+            state.carry.len(),
+            sides.nx,
+            sides.ny,
+            sides.nz,
+            cell,
+            amount,
+            &mut moved,
+            &mut place,
+        )
+    };
+    answered(number, place).map(|()| moved)
 }
 
 /// Whether a state is good and its index true. Refusals 1, 2, 4, 5, 6, 14.

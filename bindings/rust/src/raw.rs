@@ -18,6 +18,46 @@ extern "C" {
         place: *mut usize,
     ) -> u8;
 
+    pub fn skw_pour(
+        flags: *const u8,
+        flags_len: usize,
+        parts: *const i32,
+        parts_len: usize,
+        masses: *mut i32,
+        masses_len: usize,
+        fills: *mut u32,
+        fills_len: usize,
+        carry: *mut i64,
+        carry_len: usize,
+        nx: usize,
+        ny: usize,
+        nz: usize,
+        cell: usize,
+        amount: i64,
+        moved: *mut i64,
+        place: *mut usize,
+    ) -> u8;
+
+    pub fn skw_take(
+        flags: *const u8,
+        flags_len: usize,
+        parts: *const i32,
+        parts_len: usize,
+        masses: *mut i32,
+        masses_len: usize,
+        fills: *mut u32,
+        fills_len: usize,
+        carry: *mut i64,
+        carry_len: usize,
+        nx: usize,
+        ny: usize,
+        nz: usize,
+        cell: usize,
+        amount: i64,
+        moved: *mut i64,
+        place: *mut usize,
+    ) -> u8;
+
     pub fn skw_load(
         flags: *const u8,
         flags_len: usize,

@@ -6,7 +6,7 @@ use std::fmt::{Display, Formatter, Result as Written};
 /// Why a call was refused. Nothing is written then, but as each call says for 7, 8 and 21.
 #[derive(Clone, Copy, Debug, PartialEq, Eq, Hash)]
 pub struct Refusal {
-    /// 1 to 14 or 21 to 23; [`SIDES`](Refusal::SIDES) and so on.
+    /// 1 to 16 or 21 to 23; [`SIDES`](Refusal::SIDES) and so on.
     pub number: u8,
     /// A cell, a byte, a section, a number of bytes, a point of a list, a number of pools, or 0, by the number.
     pub place: usize,
@@ -18,7 +18,7 @@ pub enum Place {
     /// Nothing: the number says it all.
     None,
     Cell(usize),
-    /// A cell, or the carry where it is the number of cells.
+    /// A cell, or the carry, poured or taken where it is the number of cells.
     CellOrCarry(usize),
     /// A byte of the record, where a section or the rest begins.
     Byte(usize),
@@ -43,7 +43,7 @@ impl Refusal {
     pub const FLAG: u8 = 4;
     /// Fluid beside empty. Place: the lowest such fluid cell.
     pub const LAYER: u8 = 5;
-    /// Another rule of a good state is broken. Place: the lowest such cell, the number of cells for the carry alone.
+    /// Another rule of a good state is broken. Place: the lowest such cell, the number of cells for the carry, poured or taken alone.
     pub const STATE: u8 = 6;
     /// Streamed density or speed is out of range. Place: the lowest such cell.
     pub const FLOW: u8 = 7;
@@ -61,6 +61,10 @@ impl Refusal {
     pub const OUTSIDE: u8 = 13;
     /// A word of the index is not the one that the flags make, or the stored count is not the number of interface cells.
     pub const INDEX: u8 = 14;
+    /// The cell of a pour or a take is not interface. Place: the cell.
+    pub const NOT_INTERFACE: u8 = 15;
+    /// An amount outside 1 to 589,824, or one with which the mass would pass 2,359,296, or poured or taken 10^15.
+    pub const AMOUNT: u8 = 16;
     /// The list has room for fewer pools than there are. Place: their number.
     pub const POOLS: u8 = 21;
     /// A profile's list has not 1 to 2,000 points.
@@ -89,6 +93,8 @@ impl Refusal {
             Refusal::ROOM => "room for the record too small",
             Refusal::OUTSIDE => "column, cell or point outside",
             Refusal::INDEX => "a word is not the one that the flags make, or the stored count is wrong",
+            Refusal::NOT_INTERFACE => "the cell is not interface",
+            Refusal::AMOUNT => "amount outside 1..589,824, or a mass or total would pass its limit",
             Refusal::POOLS => "the list has room for fewer pools than there are",
             Refusal::LIST => "the list has not 1 to 2,000 points",
             Refusal::CHAINAGE => "a chainage is not above the one before",
@@ -99,7 +105,9 @@ impl Refusal {
     /// The place as what it is.
     pub fn at(&self) -> Place {
         match self.number {
-            Refusal::FLAG | Refusal::LAYER | Refusal::FLOW => Place::Cell(self.place),
+            Refusal::FLAG | Refusal::LAYER | Refusal::FLOW | Refusal::NOT_INTERFACE => {
+                Place::Cell(self.place)
+            }
             Refusal::STATE | Refusal::NEXT => Place::CellOrCarry(self.place),
             Refusal::END => Place::Byte(self.place),
             Refusal::COUNT => Place::Section(self.place),
@@ -120,7 +128,10 @@ impl Display for Refusal {
             Place::None => Ok(()),
             Place::Cell(cell) => write!(text, ", at cell {cell}"),
             Place::CellOrCarry(cell) => {
-                write!(text, ", at cell {cell} (the carry, where that is the number of cells)")
+                write!(
+                    text,
+                    ", at cell {cell} (the carry, poured or taken, where that is the number of cells)"
+                )
             }
             Place::Byte(byte) => write!(text, ", at byte {byte}"),
             Place::Section(section) => write!(text, ", in section {section}"),

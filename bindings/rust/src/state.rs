@@ -30,7 +30,7 @@ pub struct State<'a> {
     pub masses: &'a [i32],
     /// One per cell: how full it is, 0 to [`FULL`].
     pub fills: &'a [u32],
-    /// One: water that found no cell to go to.
+    /// Three: the carry, water that found no cell to go to; what was poured, and what was taken.
     pub carry: &'a [i64],
 }
 
@@ -53,6 +53,9 @@ pub struct Water {
     pub interface: i64,
     /// The carry.
     pub carry: i64,
+    /// All that was poured into the grid, and all that was taken from it.
+    pub poured: i64,
+    pub taken: i64,
 }
 
 impl Water {
@@ -60,6 +63,12 @@ impl Water {
     /// i64, and is then the nearest one.
     pub fn total(&self) -> i64 {
         (self.fluid + self.interface).saturating_add(self.carry)
+    }
+
+    /// The total plus what was taken less what was poured: what no accepted step and no act changes by one unit. Of a state that
+    /// the check refuses it is held to an i64, as the total is.
+    pub fn balance(&self) -> i64 {
+        self.total().saturating_add(self.taken).saturating_sub(self.poured)
     }
 }
 
@@ -80,13 +89,14 @@ impl Counts {
 }
 
 impl State<'_> {
-    /// The water in fluid cells, in interface cells, and in the carry.
+    /// The water in fluid cells, in interface cells and in the carry, and what was poured and taken.
     pub fn water(&self) -> Water {
         let of = |wanted: u8| {
             let cells = self.flags.iter().zip(self.masses);
             cells.filter(|(&flag, _)| flag == wanted).map(|(_, &mass)| i64::from(mass)).sum()
         };
-        Water { fluid: of(FLUID), interface: of(INTERFACE), carry: self.carry.first().copied().unwrap_or(0) }
+        let [carry, poured, taken] = [0, 1, 2].map(|k| self.carry.get(k).copied().unwrap_or(0));
+        Water { fluid: of(FLUID), interface: of(INTERFACE), carry, poured, taken }
     }
 
     /// How many cells there are of each flag.
@@ -116,7 +126,7 @@ pub(crate) struct Buffers {
     pub parts: Vec<i32>,
     pub masses: Vec<i32>,
     pub fills: Vec<u32>,
-    pub carry: [i64; 1],
+    pub carry: [i64; 3],
     pub words: Vec<u64>,
     pub count: [u64; 1],
 }
@@ -129,7 +139,7 @@ impl Buffers {
             parts: vec![0; PARTS * cells],
             masses: vec![0; cells],
             fills: vec![0; cells],
-            carry: [0],
+            carry: [0; 3],
             words: vec![0; words_of(cells)],
             count: [0],
         }

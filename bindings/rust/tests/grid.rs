@@ -45,7 +45,7 @@ fn a_new_grid_is_a_closed_box() {
     assert_eq!(grid.check(), Ok(()));
     assert_eq!(grid.sides(), Sides::new(3, 4, 5));
     assert_eq!(grid.counts(), Counts { empty: 6, interface: 0, fluid: 0, wall: 54 });
-    assert_eq!(grid.water(), Water { fluid: 0, interface: 0, carry: 0 });
+    assert_eq!(grid.water(), Water::default());
     for sides in [Sides::new(2, 3, 3), Sides::new(3, 129, 3), Sides::new(128, 128, 17)] {
         assert_eq!(Grid::new(sides).unwrap_err(), refusal(1, 0));
     }
@@ -190,7 +190,7 @@ fn records_read_and_write() {
     grid.run(20, settings).unwrap();
     let bytes = grid.write(settings, site).unwrap();
     let counts = grid.counts();
-    assert_eq!(bytes.len(), 92 + 120 + 4 * counts.interface + 76 * counts.liquid());
+    assert_eq!(bytes.len(), 108 + 120 + 4 * counts.interface + 76 * counts.liquid());
     let back = Grid::read(&bytes).unwrap();
     assert_eq!((&back.grid, back.settings, back.site), (&grid, settings, site));
 
@@ -241,7 +241,7 @@ fn a_good_state_makes_a_grid() {
     let mut state = grid.state();
     state.carry = &[1, 2];
     assert_eq!(Grid::of(THREE, state), Err(refusal(2, 0)));
-    state.carry = &[i64::MIN];
+    state.carry = &[i64::MIN, 0, 0];
     assert_eq!(Grid::of(THREE, state), Err(refusal(6, 27)));
 }
 

@@ -1,5 +1,6 @@
 // Lent slices: every refusal number that each call can give, and what a refusal leaves in the buffers.
 
+use oracle::record::written_back;
 use skwarzyna::lent::{
     check, depth, load, place, point, read, run, step, surface_count, surface_next, write,
 };
@@ -55,7 +56,7 @@ impl Set {
             parts: vec![-5; PARTS * cells],
             masses: vec![-6; cells],
             fills: vec![70_000; cells],
-            carry: vec![-8],
+            carry: vec![-8; 3],
             words: vec![!9; cells.div_ceil(64)],
             count: vec![!10],
             marks: vec![7; cells],
@@ -423,13 +424,13 @@ fn records_are_written_into_lent_room() {
     }
     let (sides, set) = open();
     assert_eq!(write(sides, FALLING, CORNER, set.lend(), &mut room), Err(refusal(5, 17)));
-    for short in [0, 1, 198] {
+    for short in [0, 1, 214] {
         let answer = write(THREE, FALLING, CORNER, good.lend(), &mut room[..short]);
-        assert_eq!(answer, Err(refusal(12, 199)));
+        assert_eq!(answer, Err(refusal(12, 215)));
     }
     assert_eq!(room, [7; 300]);
-    assert_eq!(write(THREE, FALLING, CORNER, good.lend(), &mut room), Ok(199));
-    assert_eq!((&room[..199], &room[199..]), (CASE_T, &[7; 101][..]));
+    assert_eq!(write(THREE, FALLING, CORNER, good.lend(), &mut room), Ok(215));
+    assert_eq!((&room[..215], &room[215..]), (&written_back(CASE_T)[..], &[7; 85][..]));
 }
 
 #[test]

@@ -10,6 +10,7 @@ use std::process::{Child, Command, Stdio};
 use std::thread::sleep;
 use std::time::Duration;
 
+use oracle::record::written_back;
 use oracle::{damage, scenes};
 use skwarzyna::spelling::grouped;
 use skwarzyna::{Grid, Point, Record, Settings, Sides, Site, INTERFACE, ONE, PARTS};
@@ -176,7 +177,10 @@ fn good_records_are_answered() {
          in interface cells                   294,912\n\
          carry                                      0\n\
          total                                294,912\n\
-         total in litres                        0.063\n"
+         total in litres                        0.063\n\
+         poured                                     0\n\
+         taken                                      0\n\
+         balance                              294,912\n"
     );
     assert_eq!(out(&["place", "60", "99", "149"]).text(), "cell 22: x 1, y 1, z 2\n");
     assert_eq!(
@@ -196,7 +200,7 @@ fn good_records_are_answered() {
     assert_eq!(out(&["surface", "-n"]).text(), "1 interface cell of 27 cells\n");
     assert_eq!(out(&["surface", "--from", "14"]).text(), "1 interface cell of 27 cells, 0 from cell 14 on\n");
     assert_eq!(out(&["surface", "-f", "27"]).text(), "1 interface cell of 27 cells, 0 from cell 27 on\n");
-    assert_eq!(out(&["write"]).out, CASE_T);
+    assert_eq!(out(&["write"]).out, written_back(CASE_T));
     assert_eq!(
         out(&["step", "-q"]),
         Called { status: Some(0), out: advanced(CASE_T, 1), err: String::new() }
@@ -311,7 +315,7 @@ fn a_refusal_is_told_with_its_place() {
     says(changed(118, 127), "refusal 6: another rule of a good state broken, at cell 13 (x 1, y 1, z 1)");
     says(
         changed(79, 64),
-        "refusal 6: another rule of a good state broken, at 27, which stands for the carry",
+        "refusal 6: another rule of a good state broken, at 27, which stands for the carry, poured or taken",
     );
     let mut row = Grid::new(Sides::new(5, 3, 3)).unwrap();
     row.set_fluid(21, ONE).unwrap();
@@ -408,7 +412,7 @@ fn a_file_is_whole_or_as_it_was() {
     // What is no file is written to and stays what it is.
     assert_eq!(fed(&["draw", "-o", "/dev/null"], CASE_T).status, Some(0));
     assert!(!fs::metadata("/dev/null").unwrap().is_file());
-    assert_eq!(fed(&["write", "-o", "-"], CASE_T).out, CASE_T);
+    assert_eq!(fed(&["write", "-o", "-"], CASE_T).out, written_back(CASE_T));
 }
 
 #[test]
@@ -508,7 +512,7 @@ fn the_largest_record_is_read_and_what_never_ends_is_not() {
     }
     let Record { settings, site, .. } = Grid::read(CASE_T).unwrap();
     let largest = grid.write(settings, site).unwrap();
-    assert_eq!(largest.len(), 92 + 64 * 64 * 64 + 80 * 62 * 62 * 62);
+    assert_eq!(largest.len(), 108 + 64 * 64 * 64 + 80 * 62 * 62 * 62);
     assert_eq!(
         fed(&["write"], &largest),
         Called { status: Some(0), out: largest.clone(), err: String::new() }

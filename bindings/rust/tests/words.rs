@@ -14,13 +14,13 @@ fn refusals_are_told() {
         (
             6,
             27,
-            "refusal 6: another rule of a good state broken, at cell 27 (the carry, where that is the number of cells)",
+            "refusal 6: another rule of a good state broken, at cell 27 (the carry, poured or taken, where that is the number of cells)",
         ),
         (7, 13, "refusal 7: streamed density or speed out of range, at cell 13"),
         (
             8,
             13,
-            "refusal 8: next state breaks a rule of number 6, at cell 13 (the carry, where that is the number of cells)",
+            "refusal 8: next state breaks a rule of number 6, at cell 13 (the carry, poured or taken, where that is the number of cells)",
         ),
         (9, 0, "refusal 9: steps above 1,000"),
         (10, 119, "refusal 10: record ends early or has bytes left over, at byte 119"),

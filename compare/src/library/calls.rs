@@ -34,6 +34,64 @@ pub fn check(case: &mut Case) -> Reply {
     Reply { number, place, values: vec![] }
 }
 
+/// Its value is what was moved.
+pub fn pour(case: &mut Case) -> Reply {
+    let [nx, ny, nz] = case.sides;
+    let set = &mut case.first;
+    let (mut moved, mut place) = (BEFORE_SIGNED, BEFORE);
+    let number = unsafe {
+        raw::skw_pour(
+            set.flags.as_ptr(),
+            set.flags.len(),
+            set.parts.as_ptr(),
+            set.parts.len(),
+            set.masses.as_mut_ptr(),
+            set.masses.len(),
+            set.fills.as_mut_ptr(),
+            set.fills.len(),
+            set.carry.as_mut_ptr(),
+            set.carry.len(),
+            nx,
+            ny,
+            nz,
+            case.cell,
+            case.amount,
+            &mut moved,
+            &mut place,
+        )
+    };
+    Reply { number, place, values: vec![moved as u64] }
+}
+
+/// Its value is what was moved.
+pub fn take(case: &mut Case) -> Reply {
+    let [nx, ny, nz] = case.sides;
+    let set = &mut case.first;
+    let (mut moved, mut place) = (BEFORE_SIGNED, BEFORE);
+    let number = unsafe {
+        raw::skw_take(
+            set.flags.as_ptr(),
+            set.flags.len(),
+            set.parts.as_ptr(),
+            set.parts.len(),
+            set.masses.as_mut_ptr(),
+            set.masses.len(),
+            set.fills.as_mut_ptr(),
+            set.fills.len(),
+            set.carry.as_mut_ptr(),
+            set.carry.len(),
+            nx,
+            ny,
+            nz,
+            case.cell,
+            case.amount,
+            &mut moved,
+            &mut place,
+        )
+    };
+    Reply { number, place, values: vec![moved as u64] }
+}
+
 pub fn load(case: &mut Case) -> Reply {
     let [nx, ny, nz] = case.sides;
     let (set, index) = (&case.first, &case.first_index);

@@ -7,7 +7,7 @@ use oracle::index::words_of;
 use oracle::random::Random;
 use oracle::record::Reading;
 use oracle::scenes::good;
-use oracle::state::{CARRY_LIMIT, FLUID, INTERFACE, MASS_LIMIT, PART_LIMIT, WALL};
+use oracle::state::{CARRY_LIMIT, FLUID, INTERFACE, MASS_LIMIT, PART_LIMIT, TOTAL_LIMIT, WALL};
 use oracle::{IndexStore, Store};
 
 use super::Reply;
@@ -33,6 +33,8 @@ pub struct Case {
     pub room: Vec<u8>,
     pub point: [i64; 3],
     pub cell: usize,
+    /// Of pour and take, at that cell.
+    pub amount: i64,
     /// Where the question "next" begins.
     pub start: usize,
     pub column: [usize; 2],
@@ -97,12 +99,13 @@ impl Case {
         let n = first.flags.len();
         let liquid = first.flags.iter().filter(|&&flag| flag == FLUID || flag == INTERFACE).count();
         let interface = first.flags.iter().filter(|&&flag| flag == INTERFACE).count();
-        let need = 92 + n + 4 * interface + 76 * liquid;
+        let need = 108 + n + 4 * interface + 76 * liquid;
         let room = random.pick(&[need, need, need, need - 1, need + 1, need + 200, need / 2, 0]);
         let steps = random.pick(&[0, 1, 2, 3, 5, 7, 12, 60]);
         let sides = scene.sides.map(|side| side as usize);
         let [x, y] = [sides[0], sides[1]].map(|side| random.below(side + 1));
         let first_index = IndexStore::of(&first.flags);
+        let flags = first.flags.clone();
         Case {
             sides,
             p: scene.settings.p.into(),
@@ -110,7 +113,7 @@ impl Case {
             edge: scene.settings.edge.into(),
             origin: scene.origin,
             first,
-            second: junk_store(random, n, 1),
+            second: junk_store(random, n, 3),
             first_index,
             second_index: junk_index(random, n, 1),
             marks: junk(random, n, |bits| bits as u8),
@@ -118,10 +121,18 @@ impl Case {
             record: if random.percent(30) { scene.record() } else { bad(seed).bytes },
             room: junk(random, room, |bits| bits as u8),
             point: point(random, sides, scene.settings.edge.into(), scene.origin),
-            cell: if random.percent(10) { any(random) as usize } else { random.below(n + 1) },
+            cell: cell(random, &flags),
+            amount: amount(random),
             start: if random.percent(10) { any(random) as usize } else { random.below(n + 2) },
             column: if random.percent(10) { [any(random) as usize, y] } else { [x, y] },
         }
+    }
+
+    /// A good state with all its room, for acts and steps one after another.
+    pub fn lively(seed: u64) -> Case {
+        let mut case = Case::good(&mut Random::new(seed), seed);
+        case.room = vec![0xa5; 108 + 81 * case.first.flags.len()];
+        case
     }
 
     /// A record for the reader, with slices for n cells.
@@ -135,7 +146,7 @@ impl Case {
             edge: 0,
             origin: [0; 3],
             first: blank,
-            second: junk_store(random, n, 1),
+            second: junk_store(random, n, 3),
             first_index: IndexStore::blank(0),
             second_index: junk_index(random, n, 1),
             marks: vec![7; n],
@@ -144,6 +155,7 @@ impl Case {
             room: vec![],
             point: [0; 3],
             cell: 0,
+            amount: 1,
             start: 0,
             column: [0; 2],
         }
@@ -178,7 +190,7 @@ impl Case {
             origin: [ox, oy, oz].map(|number| number as i64),
             first: Store { flags, ..self.second.clone() },
             first_index: self.second_index.clone(),
-            room: vec![0x5a; self.record.len() + 5],
+            room: vec![0x5a; self.record.len() + 21],
             ..Case::of_record(self.record.clone(), self.marks.len())
         })
     }
@@ -187,7 +199,7 @@ impl Case {
     fn soup(&mut self, random: &mut Random) {
         self.sides = [(); 3].map(|_| 3 + random.below(3));
         let n = self.sides.iter().product();
-        self.first = junk_store(random, n, 1);
+        self.first = junk_store(random, n, 3);
         // Flags above 3 would hide all else from most calls.
         if random.percent(80) {
             self.first.flags.iter_mut().for_each(|flag| *flag %= 4);
@@ -195,7 +207,7 @@ impl Case {
         if random.percent(60) {
             self.first.fills.iter_mut().for_each(|fill| *fill %= 65_537);
         }
-        self.second = junk_store(random, n, 1);
+        self.second = junk_store(random, n, 3);
         self.first_index =
             if random.percent(30) { IndexStore::of(&self.first.flags) } else { junk_index(random, n, 1) };
         self.second_index = junk_index(random, n, 1);
@@ -208,13 +220,13 @@ impl Case {
     /// Slices of any small lengths.
     fn fragments(&mut self, random: &mut Random) {
         let store = |random: &mut Random| {
-            let whole = junk_store(random, 40, 3);
+            let whole = junk_store(random, 40, 4);
             Store {
                 flags: whole.flags[..random.below(41)].to_vec(),
                 parts: whole.parts[..random.below(761)].to_vec(),
                 masses: whole.masses[..random.below(41)].to_vec(),
                 fills: whole.fills[..random.below(41)].to_vec(),
-                carry: whole.carry[..random.below(4)].to_vec(),
+                carry: whole.carry[..random.below(5)].to_vec(),
             }
         };
         (self.first, self.second) = (store(random), store(random));
@@ -234,7 +246,7 @@ impl Case {
         let at = random.below(self.first.parts.len().max(1));
         let near = random.between(-2, 2) as i64;
         let anything = any(random) as i64;
-        match random.below(22) {
+        match random.below(24) {
             0 => {
                 self.sides[random.below(3)] =
                     random.pick(&[0, 1, 2, 3, 128, 129, 1 << 20, 1 << 32, usize::MAX])
@@ -286,6 +298,11 @@ impl Case {
                 let end = random.pick(&[CARRY_LIMIT as i64, -CARRY_LIMIT as i64]);
                 let other = random.pick(&[end + near, i64::MIN, i64::MAX, anything]);
                 put(&mut self.first.carry, 0, other);
+            }
+            18 | 19 => {
+                let end = random.pick(&[TOTAL_LIMIT as i64, 0]);
+                let other = random.pick(&[end + near, i64::MIN, i64::MAX, anything]);
+                put(&mut self.first.carry, 1 + random.below(2), other);
             }
             _ => self.mark(random),
         }
@@ -372,6 +389,27 @@ impl Case {
 fn put<T>(slice: &mut [T], at: usize, number: T) {
     if let Some(place) = slice.get_mut(at) {
         *place = number;
+    }
+}
+
+/// A cell for a pour, a take or a point: mostly of the surface, else any of the grid or the first one outside it, or anything.
+pub fn cell(random: &mut Random, flags: &[u8]) -> usize {
+    let surface: Vec<usize> = (0..flags.len()).filter(|&c| flags[c] == INTERFACE).collect();
+    match random.below(10) {
+        0 => any(random) as usize,
+        1..4 => random.below(flags.len() + 1),
+        _ if surface.is_empty() => random.below(flags.len() + 1),
+        _ => random.pick(&surface),
+    }
+}
+
+/// An amount: in its range, about its ends, or anything.
+pub fn amount(random: &mut Random) -> i64 {
+    match random.below(6) {
+        0 => random.pick(&[0, 1, 589_824, 589_825, -1, i64::MIN, i64::MAX]),
+        1 => any(random) as i64,
+        2 => random.between(1, 1000) as i64,
+        _ => random.between(1, 589_824) as i64,
     }
 }
 

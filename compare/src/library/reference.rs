@@ -36,6 +36,16 @@ pub fn check(case: &mut Case) -> Reply {
     reply(oracle::check(sides(case), case.first.lend()).map(|()| []))
 }
 
+pub fn pour(case: &mut Case) -> Reply {
+    let outcome = oracle::pour(sides(case), case.first.lend_mut(), case.cell as u64, case.amount);
+    reply(outcome.map(|moved| [moved as u64]))
+}
+
+pub fn take(case: &mut Case) -> Reply {
+    let outcome = oracle::take(sides(case), case.first.lend_mut(), case.cell as u64, case.amount);
+    reply(outcome.map(|moved| [moved as u64]))
+}
+
 pub fn load(case: &mut Case) -> Reply {
     let held = Held { set: case.first.lend(), index: case.first_index.lend() };
     reply(oracle::load(sides(case), held).map(|()| []))

@@ -58,7 +58,7 @@ pub fn compare(starter: &Starter, wish: &Wish, total: &mut Total) {
     }
     let title = format!(
         "gridrun on {GOOD} good records at {STEPS:?} steps each and {DAMAGED} damaged ones, seeds from {}; \
-         three small ones at 0, 1000, 1001 and 4294967295 steps",
+         four small ones at 0, 1000, 1001 and 4294967295 steps",
         wish.from
     );
     total.compare(&title, wish, runs.len(), ANSWERS, |number| {

@@ -56,10 +56,10 @@ pub fn compare(starter: &Starter, wish: &Wish, total: &mut Total) {
     let lengths: Vec<(_, usize)> = SMALL.iter().map(|&small| (small, small.record().len())).collect();
     let cut = lengths.iter().flat_map(|&(small, length)| (0..=length).map(move |to| Source::Cut(small, to)));
     let wanted: &Wanted = &[("step", &["0"]), ("record", &["10"])];
-    part("gridstep on every prefix of three small records", cut.collect(), wanted);
+    part("gridstep on every prefix of four small records", cut.collect(), wanted);
 
     let turned = changes(|byte| (0..8).map(|bit| byte ^ 1 << bit).collect());
-    let title = "gridstep on three small records with each bit of every byte turned";
+    let title = "gridstep on four small records with each bit of every byte turned";
     part(title, turned, CHANGED);
 
     called_by_seed(wish, total);
@@ -100,6 +100,6 @@ fn called_by_seed(wish: &Wish, total: &mut Total) {
 
 fn called_on_changes(wish: &Wish, total: &mut Total) {
     let sources = changes(|byte| (0..=u8::MAX).filter(|&other| other != byte).collect());
-    let title = "three small records with every single byte changed to all 255 others";
+    let title = "four small records with every single byte changed to all 255 others";
     call(title, wish, total, &sources, CHANGED);
 }

@@ -1,7 +1,6 @@
+pub mod ThreePut
 pub mod Entrance
 pub mod Outcomes
-pub mod Readings
-pub mod FlagSpan
 pub mod Unique
+pub mod Lives
 pub mod Kept
-pub mod ReadKept

@@ -1,5 +1,4 @@
-// Layer 2, the calls: step, run and reader on whole sets, each with its index. Knows the promises of step, run, reading and index.
+// Layer 2, the calls: the step on whole sets, each with its three totals and its index. Knows the promises of step, pumps and index.
 pub mod entry;
-pub mod reader;
-pub mod running;
 pub mod stepping;
+pub mod totals;

@@ -11,6 +11,7 @@ use lattice::moments::times;
 use whole::wide;
 ghost use mathlib.Core.Path.{_≡_};
 ghost use mathlib.Core.Bool.{true};
+ghost use lib.ListN.{length};
 ghost use Rattle.whole.specs.Fold.{tab};
 ghost use Rattle.whole.specs.Machine.{Within};
 ghost use Rattle.lattice.specs.Lattice.{d3q19};
@@ -68,28 +69,27 @@ fn relaxed_pair(f: i32, g: i32, w: i64, d: i32, k: Common) -> Pair
     }
 }
 
-// The nineteen parts after collision, each by the divider: part 0 is the density less the others. Stage 5's equilibrium is worked out here too, and
-// with two callers it stays a function of its own: melted into the pass over all cells it would cost that pass time and stack.
-pub(crate) fn by_divider(f: [i32; 19], v: Flow, p: i64) -> [i32; 19]
-    requires { ⌜ Bounded f 1572864 1572864 × Tame v × (relaxationGood p ≡ true) ⌝ }
-    ensures { λ r. ⌜ (r ≡ tab 19 (collidedPart d3q19 (v .rho) (vec v) p (partsOf f))) × Bounded r 1073741824 33554432 ⌝ }
+// The nineteen parts after collision in place of those before, each by the divider: part 0 is the density less the others. In place, so that the
+// pass over all cells need not keep a second array for it. Stage 5's equilibrium is worked out here too, and with two callers it stays a function
+// of its own: melted into that pass it would cost it time and stack.
+pub(crate) fn by_divider(f: &mut [i32; 19], v: Flow, p: i64)
+    requires { ⌜ (length (now f) ≡ 19) × Bounded (now f) 1572864 1572864 × Tame v × (relaxationGood p ≡ true) ⌝ }
+    ensures { λ r. ⌜ (now (f .exit) ≡ tab 19 (collidedPart d3q19 (v .rho) (vec v) p (partsOf (now (f .entry))))) × Bounded (now (f .exit)) 1073741824 33554432 ⌝ }
 {
     let k = common_of(v, p);
     let d = dots(v);
-    let mut a = [0i32; 19];
     let mut r = v.rho;
     let mut i = 1;
     while i < 19 {
         let n = relaxed_pair(f[i], f[i + 1], weight_of(i), d[i], k);
         let x = n.a;
         let y = n.b;
-        a[i] = x;
-        a[i + 1] = y;
+        f[i] = x;
+        f[i + 1] = y;
         r -= x + y;
         i += 2;
     }
-    a[0] = r;
-    a
+    f[0] = r;
 }
 
 // The same by the estimate, where its low words tell that no end lies just below a whole number.
@@ -111,7 +111,9 @@ pub fn collided(f: [i32; 19], v: Flow, p: i64) -> [i32; 19]
         i += 2;
     }
     if highest(e) > 4294443007 {
-        return by_divider(f, v, p);
+        let mut b = f;
+        by_divider(&mut b, v, p);
+        return b;
     }
     a[0] = r;
     a

@@ -10,6 +10,10 @@ use Rattle.grid.specs.State.{open-state}
 use Rattle.grid.specs.Step.{open-step}
 use Rattle.grid.specs.Good.{open-good}
 use Rattle.grid.specs.Outcome.{open-outcome}
+use Rattle.grid.specs.Demands as grid
+use Rattle.pumps.specs.Three.{open-three}
+use Rattle.pumps.specs.Acts.{open-acts}
+use Rattle.pumps.specs.Demands.{open-demands}
 use Rattle.index.specs.Index.{open-index}
 use Rattle.index.specs.Outcome as index
 use Rattle.tunnel.specs.Place.{open-place}
@@ -21,7 +25,7 @@ use Rattle.figures.specs.Table.{figures, hold}
 use Rattle.figures.proofs.Lakes.{lakes-hold, hold-both}
 
 computed : T (hold figures)
-unfolding open-fold open-lattice open-cell open-body open-grid open-state open-step open-good open-outcome open-index index.open-outcome open-place open-depth open-profile open-answer
+unfolding open-fold open-lattice open-cell open-body open-grid open-state open-step open-good open-outcome grid.open-demands open-three open-acts open-demands open-index index.open-outcome open-place open-depth open-profile open-answer
 computed = tt
 
 pub stars : T (hold (figures ++ poolFigures))

@@ -25,7 +25,7 @@ two = record {
   parts = sets (sets (replicate 2375 (pos 0)) 589 rest) 1767 rest;
   masses = set (set (replicate 125 (pos 0)) 31 (pos 294912)) 93 (pos 294912);
   fills = set (set (replicate 125 0) 31 32768) 93 32768;
-  carry = pos 0 ∷ [];
+  carry = pos 0 ∷ pos 0 ∷ pos 0 ∷ [];
 }
 
 abbrev pub wordsTwo : List ℕ

@@ -5,18 +5,21 @@ use Prim.Native.Nat.{ℕ, _+_}
 use lib.IntN.{ℤ, pos, negsuc}
 use lib.ListN.{getD, replicate}
 use Rattle.whole.specs.Fold.{tab}
-use Rattle.lattice.specs.Cell.{fillOf, exchange, over, under, share, gravityGood}
+use Rattle.lattice.specs.Cell.{fillOf, exchange, over, under, share}
 use Rattle.grid.specs.declared.Answer.{Answer}
 use Rattle.grid.specs.State.{Lent, Scene}
 use Rattle.grid.specs.Step.{newFlag, newPart, newMass, newFill, excess, normal, gift}
 use Rattle.lattice.specs.Body.{eqZ}
 use Rattle.grid.specs.Outcome.{numberOf, placeOf, checkAnswer, sceneOf, stepAnswer, stepSecond, stepMarks}
+use Rattle.pumps.specs.Three.{numberIn, withTotals}
+use Rattle.pumps.specs.Acts.{actedNumber, actedPlace, actedMoved, movedOf, actAnswer, actSet, actedBy}
+use Rattle.pumps.specs.Demands.{balance}
 use Rattle.index.specs.declared.Counted.{Counted}
 use Rattle.index.specs.declared.Next.{Next}
 use Rattle.index.specs.Index.{Index, index, indexOf}
 use Rattle.index.specs.Outcome.{loadAnswer, countAnswer, countNumber, countPlace, countCells, nextAnswer, nextNumber, nextPlace, nextKind, nextCell, nextWords}
 use Rattle.tunnel.specs.declared.Placed.{Placed}
-use Rattle.tunnel.specs.Place.{refusalNumber, axisOf}
+use Rattle.tunnel.specs.Place.{refusalNumber, cellNumber}
 use Rattle.tunnel.specs.Place as placing
 use Rattle.profile.specs.declared.Profiled.{Profiled}
 use Rattle.profile.specs.Kinds.{lineKind}
@@ -45,13 +48,17 @@ flat a = map pos (a .flags) ++ a .parts ++ a .masses ++ map pos (a .fills) ++ a 
 abbrev weights : ℕ → ℤ
 weights k = getD (pos 0 ∷ pos 1 ∷ pos 1 ∷ pos 2 ∷ []) k (pos 0)
 
--- placing on an axis of 10 cells (10 itself is outside), and in a grid of 10×3×3 cells at the height and side of its origin
-abbrev axis : ℤ → ℕ
-axis point = axisOf point (pos 5200000000) 50 10
+-- what a step of case T answers under gravity (gx, 0, −1048)
+abbrev pulledBy : ℤ → Answer
+pulledBy gx = stepAnswer sides (record { p = pos 1024; gx = gx; gy = pos 0; gz = negsuc 1047 }) caseT caseT marks
 
+-- placing in a grid of 10×3×3 cells at the height and side of its origin, where the cell's number is its place on the axis of 10
 abbrev placed : ℤ → Placed
 placed point =
     placing.placeOf (record { nx = 10; ny = 3; nz = 3 }) (pos 50) (record { x = pos 5200000000; y = pos 0; z = pos 0 }) (record { x = point; y = pos 0; z = pos 0 })
+
+abbrev found : ℤ → ℕ → ℕ → Figure
+found point number cell = record { worked = pos (refusalNumber (placed point)) ∷ pos (cellNumber (placed point)) ∷ []; said = pos number ∷ pos cell ∷ [] }
 
 -- the two grids of P1 and P6 as a step reads them
 abbrev aRow : Scene
@@ -93,6 +100,24 @@ asks a number kind cell read =
 abbrev ONE : ℤ
 ONE = pos 589824
 
+-- an act on case T, whose carry slice holds three numbers: number, place and what was moved; and mass, fill, poured, taken and the balance after it
+abbrev still : Lent
+still = withTotals caseT (pos 0) (pos 0)
+
+abbrev told : Bool → ℕ → ℤ → Lent → List ℤ
+told pour c amount a =
+    let r = actedBy (actAnswer pour sides c amount a) (movedOf pour amount (getD (a .masses) c (pos 0))) in
+    pos (actedNumber r) ∷ pos (actedPlace r) ∷ actedMoved r ∷ []
+
+abbrev centre : Lent → List ℤ
+centre a = getD (a .masses) 13 (pos 0) ∷ pos (getD (a .fills) 13 0) ∷ numberIn a 1 ∷ numberIn a 2 ∷ balance sides a ∷ []
+
+abbrev drained : Lent
+drained = actSet false 13 (pos 589824) (actSet true 13 (pos 100000) still)
+
+abbrev full : Lent
+full = actSet true 13 ONE (actSet true 13 ONE (actSet true 13 ONE (actSet true 13 ONE drained)))
+
 -- the table
 abbrev pub figures : List Figure
 figures =
@@ -113,15 +138,12 @@ figures =
     ∷ record { worked = share 3 (pos 10) weights 1 ∷ share 3 (pos 10) weights 2 ∷ share 3 (pos 10) weights 3 ∷ []; said = pos 3 ∷ pos 2 ∷ pos 5 ∷ [] }
     ∷ record { worked = share 3 (negsuc 9) weights 1 ∷ share 3 (negsuc 9) weights 2 ∷ share 3 (negsuc 9) weights 3 ∷ []; said = negsuc 2 ∷ negsuc 1 ∷ negsuc 4 ∷ [] }
     -- gravity (34,0,−1048) accepted, (35,0,−1048) refused, 3
-    ∷ one (bit (gravityGood (pos 34) (pos 0) (negsuc 1047))) (pos 1)
-    ∷ one (bit (gravityGood (pos 35) (pos 0) (negsuc 1047))) (pos 0)
-    ∷ one (pos (numberOf (stepAnswer sides (record { p = pos 1024; gx = pos 35; gy = pos 0; gz = negsuc 1047 }) caseT caseT marks))) (pos 3)
+    ∷ one (pos (numberOf (pulledBy (pos 34)))) (pos 0)
+    ∷ one (pos (numberOf (pulledBy (pos 35)))) (pos 3)
     -- edge 50, origin 5,200,000,000, one axis of 10 cells: 5,200,000,149 is cell 2, 5,200,000,150 cell 3, 5,199,999,999 outside
-    ∷ one (pos (axis (pos 5200000149))) (pos 2)
-    ∷ one (pos (axis (pos 5200000150))) (pos 3)
-    ∷ one (pos (axis (pos 5199999999))) (pos 10)
-    ∷ one (pos (refusalNumber (placed (pos 5200000149)))) (pos 0)
-    ∷ one (pos (refusalNumber (placed (pos 5199999999)))) (pos 13)
+    ∷ found (pos 5200000149) 0 2
+    ∷ found (pos 5200000150) 0 3
+    ∷ found (pos 5199999999) 13 0
     -- case T, through the whole outcome of a step
     ∷ record {
       worked = pos (numberOf (stepAnswer sides falling caseT caseT marks)) ∷ pos (placeOf (stepAnswer sides falling caseT caseT marks)) ∷ [];
@@ -160,9 +182,22 @@ figures =
     ∷ profiled (profileAnswer (along (pos 0) (points 10000000001)) (chainages 2000) 6 7) 2 0 0 0
     -- no points: 22 at 0
     ∷ profiled (profileAnswer (along (pos 50) []) [] 0 0) 22 0 0 0
+    -- P5, case T, one act after another: pour 100,000 at 13; take 589,824; take 5; pour 589,825, at 12, at 27; pour 589,824 four times; pour 1
+    ∷ record { worked = told true 13 (pos 100000) still; said = pos 0 ∷ pos 0 ∷ pos 100000 ∷ [] }
+    ∷ record { worked = centre (actSet true 13 (pos 100000) still); said = pos 394912 ∷ pos 43879 ∷ pos 100000 ∷ pos 0 ∷ pos 294912 ∷ [] }
+    ∷ record { worked = told false 13 ONE (actSet true 13 (pos 100000) still); said = pos 0 ∷ pos 0 ∷ pos 394912 ∷ [] }
+    ∷ record { worked = centre drained; said = pos 0 ∷ pos 0 ∷ pos 100000 ∷ pos 394912 ∷ pos 294912 ∷ [] }
+    ∷ record { worked = told false 13 (pos 5) drained; said = pos 0 ∷ pos 0 ∷ pos 0 ∷ [] }
+    ∷ record { worked = centre (actSet false 13 (pos 5) drained); said = pos 0 ∷ pos 0 ∷ pos 100000 ∷ pos 394912 ∷ pos 294912 ∷ [] }
+    ∷ record { worked = told true 13 (pos 589825) drained; said = pos 16 ∷ pos 0 ∷ pos 0 ∷ [] }
+    ∷ record { worked = told true 12 (pos 1) drained; said = pos 15 ∷ pos 12 ∷ pos 0 ∷ [] }
+    ∷ record { worked = told true 27 (pos 1) drained; said = pos 13 ∷ pos 0 ∷ pos 0 ∷ [] }
+    ∷ record { worked = told true 13 ONE (actSet true 13 ONE (actSet true 13 ONE (actSet true 13 ONE drained))); said = pos 0 ∷ pos 0 ∷ ONE ∷ [] }
+    ∷ record { worked = centre full; said = pos 2359296 ∷ pos 65536 ∷ pos 2459296 ∷ pos 394912 ∷ pos 294912 ∷ [] }
+    ∷ record { worked = told true 13 (pos 1) full; said = pos 16 ∷ pos 0 ∷ pos 0 ∷ [] }
     -- case T: one word 8,192, count 1; next from 0 and 13: cell 13, 1 word; from 14: none, 1; from 27: none, 0; from 28: 13 at 0
     ∷ words (indexOf 27 (caseT .flags)) (8192 ∷ 1 ∷ [])
-    ∷ loads (loadAnswer sides caseT (index wordsT (1 ∷ []))) 0
+    ∷ loads (loadAnswer sides still (index wordsT (1 ∷ []))) 0
     ∷ counts (countAnswer sides wordsT) 1
     ∷ asks (nextAnswer sides wordsT 0) 0 1 13 1
     ∷ asks (nextAnswer sides wordsT 13) 0 1 13 1

@@ -9,6 +9,7 @@ use native.Mathlib.Omega.{arith}
 use lib.IntN.{ℤ, pos, _+ℤ_}
 use lib.Dec.{eqb, leb}
 use lib.ListN.{length}
+use Rattle.whole.specs.Bools.{and-left}
 use Rattle.whole.specs.Fold.{first}
 use Rattle.lattice.specs.Lattice.{V3, d3q19}
 use Rattle.lattice.specs.declared.Settings.{Settings}
@@ -169,3 +170,13 @@ conserved-holds s a b r e =
       water-same = k .water-same;
       carry-is = k .carry-is ∙ ap (λ (z : ℤ). stateOf 18 a .carry +ℤ z) (strays-same s a r);
     }
+
+-- a run or a step that passes tests 1 to 6 begins from a set that the check accepts
+pub entry-checked : (s : Sides) (g : Settings) (a b : Lent) (marks : List ℕ) → entryAnswer s g a b marks Done ≡ Done → checkAnswer s a ≡ Done
+unfolding entryAnswer
+entry-checked s g a b marks e =
+    let x = passed (sidesGood s) 1 0 _ e in
+    let y = passed (lengthsGood (cellsOf s) a && lengthsGood (cellsOf s) b && eqb (length marks) (cellsOf s)) 2 0 _ (x .1) in
+    let z = passed (settingsGood g) 3 0 _ (y .1) in
+    let lengths = and-left (lengthsGood (cellsOf s) a) (lengthsGood (cellsOf s) b) (and-left (lengthsGood (cellsOf s) a && lengthsGood (cellsOf s) b) (eqb (length marks) (cellsOf s)) (y .0)) in
+    tells-checked s a (record { sides = x .0; lengths = lengths; good = z .1 })

@@ -1,17 +1,19 @@
--- Counted: the run's count is the largest number of leading accepted steps, the state reached is that of so many steps, and where the count falls short of
--- the steps asked, the step that stopped it is refused with the answer given. Assumes nothing.
+-- Counted: the count that a run returns is the largest number of leading accepted steps, the state reached is that of so many steps, and where the count
+-- falls short of the steps asked, the step that stopped it is refused with the answer that the run returns. Assumes nothing.
 use mathlib.Core.Path.{_≡_, refl, sym, ap, _∙_, subst}
-use mathlib.Core.Bool.{Bool, true, false, false≢true}
+use mathlib.Core.Bool.{Bool, true, false, cond, false≢true}
 use mathlib.Core.List.{List}
 use Prim.Native.Nat.{ℕ, zero, suc, _+_, _≤_, _<_}
 use native.Mathlib.Nat.{le-of-suc-le-suc}
 use native.Mathlib.Omega.{arith}
+use Rattle.whole.specs.Bools.{cond-yes}
 use Rattle.lattice.specs.declared.Settings.{Settings}
 use Rattle.grid.specs.declared.Sides.{Sides}
 use Rattle.grid.specs.declared.Answer.{Answer}
 use Rattle.grid.specs.declared.Answer.the-variants.{Done}
 use Rattle.grid.specs.State.{Lent}
-use Rattle.grid.specs.Outcome.{accepted, stepAnswer, nextOf, Ran, ran}
+use Rattle.grid.specs.Outcome.{accepted, stepAnswer, nextOf, ran, runEntry, runCount, runAnswer, runFirst}
+use Rattle.grid.proofs.Accepted.{done-accepted}
 
 module _ (s : Sides) (g : Settings) (marks : List ℕ) where
   -- the set after k steps
@@ -23,17 +25,20 @@ module _ (s : Sides) (g : Settings) (marks : List ℕ) where
   abbrev pub Leading : ℕ → Lent → Type 0
   Leading k a = (j : ℕ) → j < k → accepted (stepAnswer s g (after j a) (after j a) marks) ≡ true
 
-  -- what is claimed of a run of some steps
-  pub record Counted (steps : ℕ) (a : Lent) (r : Ran) : Type 0 where
-    pub at-most : r .count ≤ steps
-    pub leading : Leading (r .count) a
-    pub largest : (k : ℕ) → k ≤ steps → Leading k a → k ≤ r .count
-    pub reached-is : r .reached ≡ after (r .count) a
-    pub all-made : r .count ≡ steps → r .stop ≡ Done
-    pub stopped : r .count < steps → (r .stop ≡ stepAnswer s g (r .reached) (r .reached) marks) × (accepted (r .stop) ≡ false)
+  -- what is claimed of a run of some steps from a, by its count, its answer and the set that it reached
+  pub record Counted (steps : ℕ) (a : Lent) (count : ℕ) (answer : Answer) (reached : Lent) : Type 0 where
+    pub at-most : count ≤ steps
+    pub leading : Leading count a
+    pub largest : (k : ℕ) → k ≤ steps → Leading k a → k ≤ count
+    pub reached-is : reached ≡ after count a
+    pub all-made : count ≡ steps → answer ≡ Done
+    pub stopped : count < steps → (answer ≡ stepAnswer s g reached reached marks) × (accepted answer ≡ false)
 
+-- of every run that is not refused at its entry
 abbrev pub Claim : Type 0
-Claim = (s : Sides) (g : Settings) (marks : List ℕ) (steps : ℕ) (a : Lent) → Counted s g marks steps a (ran s g marks steps a)
+Claim =
+    (steps : ℕ) (s : Sides) (g : Settings) (a b : Lent) (marks : List ℕ) → runEntry steps s g a b marks ≡ Done
+    → Counted s g marks steps a (runCount steps s g a b marks) (runAnswer steps s g a b marks) (runFirst steps s g a b marks)
 
 module _ (s : Sides) (g : Settings) (marks : List ℕ) where
   first-made : (k : ℕ) (a : Lent) → accepted (stepAnswer s g a a marks) ≡ true → Leading s g marks k (nextOf s g a) → Leading s g marks (suc k) a
@@ -45,8 +50,11 @@ module _ (s : Sides) (g : Settings) (marks : List ℕ) where
   unfolding after
   first-off k a l j h = l (suc j) (omega arith)
 
-  more : (steps : ℕ) (a : Lent) (b : Bool) → accepted (stepAnswer s g a a marks) ≡ b → Counted s g marks steps (nextOf s g a) (ran s g marks steps (nextOf s g a))
-      → Counted s g marks (suc steps) a (ran s g marks (suc steps) a)
+  -- the steps themselves
+  abbrev Made : ℕ → Lent → Type 0
+  Made steps a = Counted s g marks steps a (ran s g marks steps a .count) (ran s g marks steps a .stop) (ran s g marks steps a .reached)
+
+  more : (steps : ℕ) (a : Lent) (b : Bool) → accepted (stepAnswer s g a a marks) ≡ b → Made steps (nextOf s g a) → Made (suc steps) a
   unfolding ran after
   more steps a true e c =
       let r = ran s g marks steps (nextOf s g a) in
@@ -78,14 +86,21 @@ module _ (s : Sides) (g : Settings) (marks : List ℕ) where
       none zero l = omega arith
       none (suc k) l = absurd (false≢true (sym e ∙ l 0 (omega arith)))
 
+  made : (steps : ℕ) (a : Lent) → Made steps a
+  unfolding ran after
+  made zero a = record {
+    at-most = omega arith;
+    leading = λ j h. absurd (omega arith);
+    largest = λ k h l. h;
+    reached-is = refl;
+    all-made = λ q. refl;
+    stopped = λ q. absurd (omega arith);
+  }
+  made (suc steps) a = more steps a (accepted (stepAnswer s g a a marks)) refl (made steps (nextOf s g a))
+
 pub counted-holds : Claim
-unfolding ran after
-counted-holds s g marks zero a = record {
-  at-most = omega arith;
-  leading = λ j h. absurd (omega arith);
-  largest = λ k h l. h;
-  reached-is = refl;
-  all-made = λ q. refl;
-  stopped = λ q. absurd (omega arith);
-}
-counted-holds s g marks (suc steps) a = more s g marks steps a (accepted (stepAnswer s g a a marks)) refl (counted-holds s g marks steps (nextOf s g a))
+unfolding runCount runAnswer runFirst
+counted-holds steps s g a b marks e =
+    let t = done-accepted (runEntry steps s g a b marks) e in
+    let r = ran s g marks steps a in
+    rw (cond-yes (r .count) 0 t, cond-yes (r .stop) (runEntry steps s g a b marks) t, cond-yes (r .reached) a t) (made s g marks steps a)

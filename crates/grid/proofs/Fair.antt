@@ -1,5 +1,5 @@
--- When test 8 cannot refuse: liquid cells with fair bodies, interface cells with fair masses and a fair carry are all that the next state can break.
--- Density, fluid mass, fill, and what is dry, are right by themselves. Assumes nothing.
+-- When test 8 cannot refuse: a liquid cell's parts and speed, an interface mass, and the carry are all that the next state can break after an accepted
+-- stage 3. Density, fluid mass, fill, and what is dry, are right by themselves. Assumes nothing.
 use mathlib.Core.Path.{_≡_, refl, sym, ap, ap₂, _∙_, subst}
 use mathlib.Core.Bool.{Bool, true, false, _&&_, _||_, not, cond, false≢true}
 use Prim.Native.Nat.{ℕ, zero, suc, _+_, _≤_, _<_}
@@ -13,25 +13,30 @@ use borrow.Author.Tests.{eq-eqb, ne-eqb}
 use Rattle.whole.specs.Bools.{and-true}
 use Rattle.whole.specs.Fold.{all, first}
 use Rattle.whole.specs.Search.{first-all}
-use Rattle.lattice.specs.Lattice.{Lattice, density}
-use Rattle.lattice.specs.Cell.{massGood, carryGood, dense}
+use Rattle.lattice.specs.Lattice.{dot, Lattice, density, momentum}
+use Rattle.lattice.specs.Cell.{partGood, massGood, carryGood, dense, slow}
 use Rattle.grid.specs.State.{State, Scene, byFlag, liquid}
 use Rattle.grid.specs.Step.{tradedMass, newDensity, collided, filled, emptied, besideFilled, besideEmptied, newFlag, flagAfter, baseMass, born, newPart, received, newMass, newCarry, fillFor, newFill, next}
 use Rattle.grid.specs.Good.{dryGood, interfaceGood, fluidGood, fillGood, cellGood, badRule}
+use Rattle.grid.specs.Demands.{Walled}
 use Rattle.lattice.specs.Body.{bodyGood, eqZ}
 use Rattle.grid.proofs.Accurate.{stays}
+use Rattle.grid.proofs.Dense.{Passed, dense-holds}
+use Rattle.grid.proofs.Laid.{Laid}
 use Rattle.grid.proofs.Moved.{density-collided}
 use Rattle.grid.proofs.Same.{density-same, all-same}
 
 -- what is asked of the next state
 pub record Fair (S : Scene) : Type 0 where
-  pub bodies : (c : ℕ) → c < S .grid .cells → liquid (newFlag S c) ≡ true → bodyGood (S .lat) (newPart S c) ≡ true
+  pub parts : (c : ℕ) → c < S .grid .cells → liquid (newFlag S c) ≡ true → all (suc (S .lat .q)) (λ k. partGood (newPart S c k)) ≡ true
+  pub speeds : (c : ℕ) → c < S .grid .cells → liquid (newFlag S c) ≡ true
+      → slow (density (S .lat) (newPart S c)) (dot (momentum (S .lat) (newPart S c)) (momentum (S .lat) (newPart S c))) ≡ true
   pub masses : (c : ℕ) → c < S .grid .cells → newFlag S c ≡ 1 → massGood (newMass S c) ≡ true
   pub carry : carryGood (newCarry S) ≡ true
 
 abbrev pub Claim : Type 0
 Claim =
-    (S : Scene) → ((c : ℕ) → c < S .grid .cells → liquid (S .old .flag c) ≡ true → dense (newDensity S c) ≡ true) → Fair S
+    (S : Scene) → Laid (S .lat) (S .grid) → Walled (S .grid) (S .old .flag) → Passed S → Fair S
     → suc (S .grid .cells) ≤ badRule (S .lat) (S .grid .cells) (next S)
 
 -- ---- by cases on the old flag and the tests alone
@@ -91,7 +96,15 @@ kind-true (suc (suc (suc n))) dry interface fluid u v w = u refl
 not-interface : (f : ℕ) → liquid f ≡ false → eqb f 1 ≡ false
 not-interface f e = ne-eqb f 1 (λ k. false≢true (sym e ∙ ap liquid k))
 
-module _ (S : Scene) (t : (c : ℕ) → c < S .grid .cells → liquid (S .old .flag c) ≡ true → dense (newDensity S c) ≡ true) (fair : Fair S) where
+module _ (S : Scene) (laid : Laid (S .lat) (S .grid)) (w : Walled (S .grid) (S .old .flag)) (t : Passed S) (fair : Fair S) where
+  body : (c : ℕ) → c < S .grid .cells → liquid (newFlag S c) ≡ true → bodyGood (S .lat) (newPart S c) ≡ true
+  unfolding bodyGood
+  body c h l =
+      let f = newPart S c in
+      let ρ = density (S .lat) f in
+      and-true (all (suc (S .lat .q)) (λ k. partGood (f k)) && dense ρ) (slow ρ (dot (momentum (S .lat) f) (momentum (S .lat) f)))
+      (and-true (all (suc (S .lat .q)) (λ k. partGood (f k))) (dense ρ) (fair .parts c h l) (dense-holds S laid w t c h l)) (fair .speeds c h l)
+
   no-gifts : (c : ℕ) → eqb (newFlag S c) 1 ≡ false → newMass S c ≡ baseMass S c
   unfolding newMass
   no-gifts c e = ap (λ (b : Bool). baseMass S c +ℤ cond b (received S c) (pos 0)) e ∙ +ℤ-idr (baseMass S c)
@@ -107,12 +120,12 @@ module _ (S : Scene) (t : (c : ℕ) → c < S .grid .cells → liquid (S .old .f
 
   interface : (c : ℕ) → c < S .grid .cells → newFlag S c ≡ 1 → interfaceGood (S .lat) (next S) c ≡ true
   unfolding interfaceGood next
-  interface c h e = and-true (bodyGood (S .lat) (newPart S c)) (massGood (newMass S c)) (fair .bodies c h (ap liquid e)) (fair .masses c h e)
+  interface c h e = and-true (bodyGood (S .lat) (newPart S c)) (massGood (newMass S c)) (body c h (ap liquid e)) (fair .masses c h e)
 
   fluid : (c : ℕ) → c < S .grid .cells → newFlag S c ≡ 2 → fluidGood (S .lat) (next S) c ≡ true
   unfolding fluidGood next newFlag baseMass
   fluid c h e =
-      and-true (bodyGood (S .lat) (newPart S c)) (eqZ (newMass S c) (density (S .lat) (newPart S c))) (fair .bodies c h (ap liquid e))
+      and-true (bodyGood (S .lat) (newPart S c)) (eqZ (newMass S c) (density (S .lat) (newPart S c))) (body c h (ap liquid e))
       (ap₂ eqZ mass-is (density-is ∙ density-collided S c) ∙ eqZ-refl (newDensity S c))
     where
       was : liquid (S .old .flag c) ≡ true
@@ -136,7 +149,7 @@ module _ (S : Scene) (t : (c : ℕ) → c < S .grid .cells → liquid (S .old .f
 
 pub fair-holds : Claim
 unfolding badRule next
-fair-holds S t fair =
+fair-holds S laid w t fair =
     le-of-eq (sym (first-all (suc (S .grid .cells)) test (λ c h. at c h (ℕ-discrete c (S .grid .cells)))))
   where
     test : ℕ → Bool
@@ -146,4 +159,4 @@ fair-holds S t fair =
     at c h (yes e) = ap (λ (b : Bool). cond b (not (carryGood (newCarry S))) (not (cellGood (S .lat) (next S) c))) (eq-eqb c (S .grid .cells) e) ∙ ap not (fair .carry)
     at c h (no n) =
         ap (λ (b : Bool). cond b (not (carryGood (newCarry S))) (not (cellGood (S .lat) (next S) c))) (ne-eqb c (S .grid .cells) n)
-        ∙ ap not (cell S t fair c (lt-of-le-ne (le-of-suc-le-suc h) n))
+        ∙ ap not (cell S laid w t fair c (lt-of-le-ne (le-of-suc-le-suc h) n))

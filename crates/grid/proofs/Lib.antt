@@ -15,6 +15,7 @@ pub mod Level
 pub mod Accurate
 pub mod Unique
 pub mod Counted
+pub mod Arrived
 pub mod Offsets
 pub mod Coordinates
 pub mod Copies
@@ -28,6 +29,8 @@ pub mod Slopes
 pub mod Prepared
 pub mod Blocks
 pub mod Moved
+pub mod Picked
+pub mod Dense
 pub mod Fair
 pub mod Ranges
 pub mod Rules

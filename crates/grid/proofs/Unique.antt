@@ -1,4 +1,4 @@
--- Unique: no second answer, and no second content of a lent slice, fits what step and run promise. Assumes nothing.
+-- Unique: no second answer, and no second content of a lent slice, fits what check, step and run promise. Assumes nothing.
 use mathlib.Core.Path.{_≡_, sym, _∙_}
 use mathlib.Core.List.{List}
 use Prim.Native.Nat.{ℕ}
@@ -6,7 +6,11 @@ use Rattle.lattice.specs.declared.Settings.{Settings}
 use Rattle.grid.specs.declared.Sides.{Sides}
 use Rattle.grid.specs.declared.Answer.{Answer}
 use Rattle.grid.specs.State.{Lent}
+use Rattle.grid.specs.Outcome.{checkAnswer}
 use Rattle.grid.specs.Promise.{Stepped, RanTo}
+
+pub check-unique : (s : Sides) (a : Lent) {r t : Answer} → r ≡ checkAnswer s a → t ≡ checkAnswer s a → r ≡ t
+check-unique s a p q = p ∙ sym q
 
 pub step-unique : (s : Sides) (g : Settings) (a b : Lent) (marks : List ℕ) {r t : Answer} {x y : Lent} {m n : List ℕ}
     → Stepped s g a b marks r x m → Stepped s g a b marks t y n → (r ≡ t) × (x ≡ y) × (m ≡ n)

@@ -18,13 +18,13 @@ use console::room::room;
 use libc::STDERR_FILENO;
 use libc::STDIN_FILENO;
 
-// Room for 4,096 cells; a record of so many has at most 331,868 bytes, and one byte more shows that something follows.
+// Room for 4,096 cells; a record of so many has at most 331,884 bytes, and one byte more shows that something follows.
 fn play(rec: &[u8], count: usize) {
     let n = room(rec, 4096);
     let mut parts = [0i32; 77824];
     let mut masses = [0i32; 4096];
     let mut fills = [0u32; 4096];
-    let mut carry = [0i64; 1];
+    let mut carry = [0i64; 3];
     playing::play(
         rec,
         count,
@@ -66,7 +66,7 @@ fn main() {
         usage();
         return;
     }
-    let mut bytes = [0u8; 331869];
+    let mut bytes = [0u8; 331885];
     let got = io::read_full(STDIN_FILENO, &mut bytes);
     play(&bytes[..got], count);
 }

@@ -62,7 +62,7 @@ fn save(
     io::write_all(STDOUT_FILENO, &room[..n]);
 }
 
-// The run and its line; whether a state was reached.
+// The run and its line; whether a state was reached. The run is lent the carry alone: poured and taken stay beside it.
 fn go(
     steps: usize,
     flags: &mut [u8],
@@ -79,13 +79,18 @@ fn go(
     s: Sides,
     g: Settings,
 ) -> bool {
+    if carry.len() == 0 {
+        return false;
+    }
+    let mut kept = [0i64; 1];
+    kept[0] = carry[0];
     let ran = running::run(
         steps,
         flags,
         parts,
         masses,
         fills,
-        carry,
+        &mut kept,
         flags2,
         parts2,
         masses2,
@@ -95,6 +100,7 @@ fn go(
         s,
         g,
     );
+    carry[0] = kept[0];
     let a = ran.answer;
     tell(ran.count, a);
     reached(a)

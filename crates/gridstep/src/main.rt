@@ -13,7 +13,7 @@ fn play(rec: &[u8]) {
     let mut parts = [0i32; 16378];
     let mut masses = [0i32; 862];
     let mut fills = [0u32; 862];
-    let mut carry = [0i64; 1];
+    let mut carry = [0i64; 3];
     let mut flags2 = [0u8; 862];
     let mut parts2 = [0i32; 16378];
     let mut masses2 = [0i32; 862];

@@ -10,7 +10,7 @@ use step::stepping;
 ghost use Prim.Native.Nat.{_≤_};
 ghost use lib.ListN.{length};
 
-// The state, the step's answer, and the state that the second set then holds.
+// The state, the step's answer, and the state that the second set then holds. The step is lent the carry alone: poured and taken stay beside it.
 fn go(
     flags: &[u8],
     parts: &[i32],
@@ -29,13 +29,17 @@ fn go(
     requires { ⌜ length (now masses) ≤ 862 ⌝ }
     requires { ⌜ length (now masses2) ≤ 862 ⌝ }
 {
+    if carry.len() == 0 {
+        return;
+    }
     tell(b"before", flags, masses, carry);
+    let alone = [carry[0]];
     let stepped = stepping::step(
         flags,
         parts,
         masses,
         fills,
-        carry,
+        &alone,
         flags2,
         parts2,
         masses2,

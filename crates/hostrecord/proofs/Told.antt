@@ -3,7 +3,7 @@ use mathlib.Core.Path.{_≡_, ap, _∙_, subst}
 use mathlib.Core.List.{List}
 use Prim.Native.Nat.{ℕ, _-_}
 use lib.IntN.{ℤ}
-use lib.ListN.{length, take, drop}
+use lib.ListN.{take, drop}
 use Rattle.lattice.specs.declared.Settings.{Settings}
 use Rattle.grid.specs.declared.Sides.{Sides}
 use Rattle.grid.specs.State.{Lent}
@@ -14,9 +14,9 @@ use Rattle.record.specs.declared.Head.{Head}
 use Rattle.record.specs.declared.Span.{Span}
 use Rattle.record.specs.Promise.{Wrote, spanOf}
 use Rattle.index.specs.Index.{Index}
-use Rattle.calls.specs.Outcome.{Held}
-use Rattle.calls.specs.Promise.{Read}
-use Rattle.calls.proofs.FlagSpan.{spans}
+use Rattle.index.specs.Held.{Held}
+use Rattle.intake.specs.Promise.{Read}
+use Rattle.intake.proofs.FlagSpan.{spans}
 use Rattle.hostrecord.specs.Promise.{ReadTold, WriteTold}
 
 -- and so is the site
@@ -35,11 +35,11 @@ write-told {s} {k = k} {t = t} {a = a} {room = room} {number = number} {place = 
 
 -- the head's numbers, and where its flags stand
 pub read-told : {r : List ℕ} {a : Held} {head : Head} {span : Span} {number place : ℕ} {s : Sides} {g : Settings} {t : Site} {parts masses : List ℤ} {fills : List ℕ} {carry : List ℤ} {index : Index}
-    → Read r a head parts masses fills carry index → span ≡ spanOf (length r) head → number ≡ numberOf (head .answer) → place ≡ placeOf (head .answer)
+    → Read r a head parts masses fills carry index → span ≡ spanOf r head → number ≡ numberOf (head .answer) → place ≡ placeOf (head .answer)
     → s ≡ head .sides → g ≡ head .settings → t ≡ head .site
     → ReadTold r a number place s g t (span .from) (span .to) parts masses fills carry index
 read-told {r} {a} h f n p es eg et =
-    let e = f ∙ ap (spanOf (length r)) (h .head-is) in
+    let e = f ∙ ap (spanOf r) (h .head-is) in
     record {
       number-is = n ∙ ap (λ (x : Head). numberOf (x .answer)) (h .head-is);
       place-is = p ∙ ap (λ (x : Head). placeOf (x .answer)) (h .head-is);

@@ -8,7 +8,7 @@ use Rattle.grid.specs.declared.Sides.{Sides}
 use Rattle.grid.specs.State.{Lent}
 use Rattle.record.specs.declared.Site.{Site}
 use Rattle.index.specs.Index.{Index}
-use Rattle.calls.specs.Outcome.{Held}
+use Rattle.index.specs.Held.{Held}
 use Rattle.hostrecord.specs.Promise.{ReadTold, WriteTold}
 
 pub read-unique : (r : List ℕ) (a : Held) {n m p q : ℕ} {s s' : Sides} {g g' : Settings} {t t' : Site} {f f' e e' : ℕ} {b b' c c' : List ℤ} {i i' : List ℕ} {k k' : List ℤ} {w w' : Index}

@@ -11,8 +11,8 @@ use Rattle.grid.specs.Outcome.{numberOf, placeOf}
 use Rattle.record.specs.declared.Site.{Site}
 use Rattle.record.specs.Writing.{written, writtenRoom}
 use Rattle.index.specs.Index.{Index}
-use Rattle.calls.specs.Outcome.{Held}
-use Rattle.calls.specs.Reading.{readHead, readHeld, flagsFrom, readFlags}
+use Rattle.index.specs.Held.{Held}
+use Rattle.intake.specs.Reading.{readHead, readHeld, flagsFrom, readFlags}
 
 abbrev pub siteOf : ℤ → ℤ → ℤ → ℤ → Site
 siteOf edge x y z = record { edge = edge; x = x; y = y; z = z }

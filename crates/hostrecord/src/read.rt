@@ -1,15 +1,15 @@
 // The reader.
-use calls::reader;
 use grid::Sides;
 use host::answers::number_of;
 use host::answers::place_of;
+use intake::reader;
 use lattice::Settings;
 use record::Site;
 use record::flags;
 ghost use mathlib.Core.Path.{_≡_};
 ghost use Rattle.record.specs.Promise.{flagless};
 ghost use Rattle.index.specs.Index.{index};
-ghost use Rattle.calls.specs.Outcome.{held};
+ghost use Rattle.index.specs.Held.{held};
 ghost use Rattle.host.specs.Given.{sidesOf, settingsOf};
 ghost use Rattle.hostrecord.specs.Promise.{siteOf, ReadTold};
 
@@ -79,7 +79,7 @@ pub extern "C" fn skw_read(
     let g = h.settings;
     let t = h.site;
     let a = h.answer;
-    let f = flags::span(rec.len(), h);
+    let f = flags::span(rec, h);
     put_sides(s, nx, ny, nz);
     put_settings(g, p, gx, gy, gz);
     put_site(t, edge, ox, oy, oz);

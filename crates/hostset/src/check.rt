@@ -1,13 +1,13 @@
 // The check.
 use grid::Sides;
-use grid::checking;
 use host::answers::number_of;
 use host::answers::place_of;
+use pumps::entry;
 ghost use Rattle.grid.specs.State.{lent};
 ghost use Rattle.host.specs.Given.{sidesOf};
 ghost use Rattle.hostset.specs.Promise.{CheckTold};
 
-// The check of one lent set.
+// The check of one lent set, poured and taken with it.
 #[no_mangle]
 pub extern "C" fn skw_check(
     flags: &[u8],
@@ -23,7 +23,7 @@ pub extern "C" fn skw_check(
     ensures { λ r. ⌜ CheckTold (sidesOf nx ny nz) (lent (now (flags .entry)) (now (parts .entry)) (now (masses .entry)) (now (fills .entry)) (now (carry .entry))) r (now (place .exit)) ⌝ }
 {
     let s = Sides { nx, ny, nz };
-    let a = checking::check(flags, parts, masses, fills, carry, s);
+    let a = entry::check(flags, parts, masses, fills, carry, s);
     *place = place_of(a);
     number_of(a)
 }

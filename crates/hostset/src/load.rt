@@ -5,7 +5,7 @@ use host::answers::place_of;
 use index::loading;
 ghost use Rattle.grid.specs.State.{lent};
 ghost use Rattle.index.specs.Index.{index};
-ghost use Rattle.calls.specs.Outcome.{held};
+ghost use Rattle.index.specs.Held.{held};
 ghost use Rattle.host.specs.Given.{sidesOf};
 ghost use Rattle.hostset.specs.Promise.{LoadTold};
 

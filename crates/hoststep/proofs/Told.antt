@@ -6,8 +6,9 @@ use Rattle.lattice.specs.declared.Settings.{Settings}
 use Rattle.grid.specs.declared.Sides.{Sides}
 use Rattle.grid.specs.declared.Answer.{Answer}
 use Rattle.grid.specs.Outcome.{numberOf, placeOf}
-use Rattle.calls.specs.Outcome.{Held}
-use Rattle.calls.specs.Promise.{Stepped, RanTo}
+use Rattle.index.specs.Held.{Held}
+use Rattle.calls.specs.Promise.{Stepped}
+use Rattle.runs.specs.Promise.{RanTo}
 use Rattle.hoststep.specs.Promise.{StepTold, RunTold}
 
 -- the settings k that the layer was given are the call's own, g

@@ -4,7 +4,7 @@ use mathlib.Core.List.{List}
 use Prim.Native.Nat.{ℕ}
 use Rattle.lattice.specs.declared.Settings.{Settings}
 use Rattle.grid.specs.declared.Sides.{Sides}
-use Rattle.calls.specs.Outcome.{Held}
+use Rattle.index.specs.Held.{Held}
 use Rattle.hoststep.specs.Promise.{StepTold, RunTold}
 
 pub step-unique : (s : Sides) (g : Settings) (a b : Held) (marks : List ℕ) {n m p q : ℕ} {u v : Held} {k l : List ℕ}

@@ -5,7 +5,9 @@ use Prim.Native.Nat.{ℕ}
 use Rattle.lattice.specs.declared.Settings.{Settings}
 use Rattle.grid.specs.declared.Sides.{Sides}
 use Rattle.grid.specs.Outcome.{numberOf, placeOf}
-use Rattle.calls.specs.Outcome.{Held, stepAnswer, stepSecond, stepMarks, runCount, runAnswer, runFirst, runSecond, runMarks}
+use Rattle.index.specs.Held.{Held}
+use Rattle.calls.specs.Outcome.{stepAnswer, stepSecond, stepMarks}
+use Rattle.runs.specs.Outcome.{runCount, runAnswer, runFirst, runSecond, runMarks}
 
 -- the step: number, place, its second set with its index, and the marks
 pub record StepTold (s : Sides) (g : Settings) (a b : Held) (marks : List ℕ) (number place : ℕ) (second : Held) (after : List ℕ) : Type 0 where

@@ -1,12 +1,12 @@
 // The run.
-use calls::running;
 use grid::Sides;
 use host::answers::number_of;
 use host::answers::place_of;
 use lattice::Settings;
+use runs::running;
 ghost use Rattle.grid.specs.State.{lent};
 ghost use Rattle.index.specs.Index.{index};
-ghost use Rattle.calls.specs.Outcome.{held};
+ghost use Rattle.index.specs.Held.{held};
 ghost use Rattle.host.specs.Given.{sidesOf, settingsOf};
 ghost use Rattle.hoststep.specs.Promise.{RunTold};
 

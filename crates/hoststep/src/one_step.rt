@@ -6,7 +6,7 @@ use host::answers::place_of;
 use lattice::Settings;
 ghost use Rattle.grid.specs.State.{lent};
 ghost use Rattle.index.specs.Index.{index};
-ghost use Rattle.calls.specs.Outcome.{held};
+ghost use Rattle.index.specs.Held.{held};
 ghost use Rattle.host.specs.Given.{sidesOf, settingsOf};
 ghost use Rattle.hoststep.specs.Promise.{StepTold};
 

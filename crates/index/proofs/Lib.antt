@@ -6,5 +6,6 @@ pub mod Questions
 pub mod Answers
 pub mod Sweeps
 pub mod Loaded
+pub mod Indexed
 pub mod SurfaceSwept
 pub mod Unique

@@ -11,8 +11,9 @@ use Rattle.grid.specs.declared.Sides.{Sides}
 use Rattle.grid.specs.declared.Answer.the-variants.{Done}
 use Rattle.grid.specs.Grid.{cellsOf, sidesGood, gridOf}
 use Rattle.grid.specs.State.{Lent, stateOf}
-use Rattle.grid.specs.Outcome.{lengthsGood}
+use Rattle.grid.specs.Outcome.{orRefuse}
 use Rattle.grid.proofs.Accepted.{passed, sound}
+use Rattle.pumps.specs.Three.{numberIn, totalsGood, threeLengths}
 use Rattle.index.specs.Index.{Index, wordsOf, interface, wordOf, surfaceCells, indexOf, indexSized, indexTrue, isSet, howMany, nextFrom}
 use Rattle.index.specs.Outcome.{trueAnswer, loadAnswer, told}
 use Rattle.index.specs.Laid.{Room}
@@ -27,19 +28,20 @@ module _ (s : Sides) (a : Lent) (x : Index) (loaded : loadAnswer s a x ≡ Done)
   -- what the tests left
   record Passed : Type 0 where
     pub sides : sidesGood s ≡ true
-    pub lengths : (lengthsGood n a && indexSized n x) ≡ true
+    pub lengths : (threeLengths n a && indexSized n x) ≡ true
     pub true-now : indexTrue n (a .flags) x ≡ true
 
   pass : Passed
   unfolding loadAnswer trueAnswer
   pass =
       let one = passed (sidesGood s) 1 0 _ loaded in
-      let two = passed (lengthsGood n a && indexSized n x) 2 0 _ (one .1) in
-      let six = sound d3q19 (gridOf s) (stateOf 18 a) (trueAnswer n (a .flags) x Done) (two .1) in
-      record { sides = one .0; lengths = two .0; true-now = passed (indexTrue n (a .flags) x) 14 0 Done (six .1) .0 }
+      let two = passed (threeLengths n a && indexSized n x) 2 0 _ (one .1) in
+      let six = sound d3q19 (gridOf s) (stateOf 18 a) (orRefuse (totalsGood (numberIn a 1) (numberIn a 2)) 6 n (trueAnswer n (a .flags) x Done)) (two .1) in
+      let last = passed (totalsGood (numberIn a 1) (numberIn a 2)) 6 n (trueAnswer n (a .flags) x Done) (six .1) in
+      record { sides = one .0; lengths = two .0; true-now = passed (indexTrue n (a .flags) x) 14 0 Done (last .1) .0 }
 
   room : Room n x
-  room = room-of n x (few-cells s (pass .sides)) (and-right (lengthsGood n a) (indexSized n x) (pass .lengths))
+  room = room-of n x (few-cells s (pass .sides)) (and-right (threeLengths n a) (indexSized n x) (pass .lengths))
 
   -- the index is the one that the flags make
   pub loaded-index : x ≡ indexOf n (a .flags)

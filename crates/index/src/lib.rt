@@ -1,4 +1,4 @@
-// Layer 2, the index: one bit for each cell, set for interface cells, in words of 64. Knows the promises of grid.
+// Layer 2, the index: one bit for each cell, set for interface cells, in words of 64. Knows the promises of grid and pumps.
 pub mod asking;
 pub mod bits;
 pub mod keeping;

@@ -26,8 +26,9 @@ use Rattle.grid.specs.Passes.{flagOf}
 use Rattle.grid.proofs.Lists.{getD-there}
 use Rattle.grid.proofs.Same.{body-same}
 use Rattle.record.specs.Bytes.{i32At}
-use Rattle.record.specs.Layout.{interfaces, liquids, massesFrom, partsFrom}
-use Rattle.record.specs.Reading.{cellsIn, flagsIn, flagIn, interfacesIn, massAt, partAt, massIn, partIn, stateIn}
+use Rattle.record.specs.Places.{counts, massesFrom, partsFrom}
+use Rattle.record.specs.Layout.{interfaces, liquids}
+use Rattle.record.specs.Reading.{totalsIn, cellsIn, flagsIn, flagIn, interfacesIn, massAt, partAt, massIn, partIn, stateIn}
 use Rattle.record.specs.Passes.{heldMass, heldPart, fairBy, fairAt}
 
 -- ---- one cell
@@ -93,7 +94,7 @@ cell-by (suc (suc zero)) m g =
     and-yes (bodyGood d3q19 g && eqZ ρ ρ) (eqb 65536 65536) refl ∙ and-yes (bodyGood d3q19 g) (eqZ ρ ρ) (eqZ-same ρ)
 cell-by (suc (suc (suc f))) m g = refl
 
-pub cell-fair : (r : List ℕ) (masses parts c : ℕ) → masses ≡ massesFrom (cellsIn r) + 4 → parts ≡ partsFrom (cellsIn r) (interfacesIn r) + 4
+pub cell-fair : (r : List ℕ) (masses parts c : ℕ) → masses ≡ massesFrom counts (totalsIn r) (cellsIn r) + 4 → parts ≡ partsFrom counts (totalsIn r) (cellsIn r) (interfacesIn r) + 4
     → cellGood d3q19 (stateIn r) c ≡ fairAt r (flagsIn r) masses parts c
 unfolding cellGood dryGood interfaceGood fluidGood fillGood stateIn massIn partIn massAt partAt flagIn fairAt d3q19
 cell-fair r masses parts c e d =

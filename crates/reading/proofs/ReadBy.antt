@@ -51,16 +51,16 @@ pub record Fitting (n p m f k : ℕ) : Type 0 where
   pub parts : p ≡ 19 * n
   pub masses : m ≡ n
   pub fills : f ≡ n
-  pub carry : k ≡ 1
+  pub carry : k ≡ 3
 
 pub fits : (n p m f k : ℕ) → slicesFit n p m f k ≡ true → Fitting n p m f k
 unfolding slicesFit
 fits n p m f k e =
-    let pmf = and-left (eqb p (19 * n) && eqb m n && eqb f n) (eqb k 1) e in
+    let pmf = and-left (eqb p (19 * n) && eqb m n && eqb f n) (eqb k 3) e in
     let pm = and-left (eqb p (19 * n) && eqb m n) (eqb f n) pmf in
     record {
       parts = eqb-true p (19 * n) (and-left (eqb p (19 * n)) (eqb m n) pm);
       masses = eqb-true m n (and-right (eqb p (19 * n)) (eqb m n) pm);
       fills = eqb-true f n (and-right (eqb p (19 * n) && eqb m n) (eqb f n) pmf);
-      carry = eqb-true k 1 (and-right (eqb p (19 * n) && eqb m n && eqb f n) (eqb k 1) e);
+      carry = eqb-true k 3 (and-right (eqb p (19 * n) && eqb m n && eqb f n) (eqb k 3) e);
     }

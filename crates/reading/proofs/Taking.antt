@@ -18,7 +18,8 @@ use Rattle.grid.specs.Grid.{gridOf, box, cellsOf}
 use Rattle.grid.specs.State.{byFlag, liquid, stateOf, lentOf}
 use Rattle.grid.specs.Step.{fillFor}
 use Rattle.grid.specs.Good.{badFluid, badRule, cellGood}
-use Rattle.grid.specs.Outcome.{ifNone}
+use Rattle.grid.specs.Outcome.{orRefuse, ifNone}
+use Rattle.pumps.specs.Three.{totalsGood}
 use Rattle.grid.specs.Passes.{flagOf}
 use Rattle.grid.specs.Sight.{Body}
 use Rattle.grid.proofs.Accepted.{passed, none-found, cell-good}
@@ -26,8 +27,9 @@ use Rattle.grid.proofs.Prepared.{cell-body}
 use Rattle.grid.proofs.Listed.{part-at}
 use Rattle.grid.proofs.Same.{density-same}
 use Rattle.record.specs.Bytes.{i32At}
-use Rattle.record.specs.Layout.{siteGood, interfaces, liquids, massesFrom, partsFrom}
-use Rattle.record.specs.Reading.{settingsIn, siteIn, sidesIn, cellsIn, flagsIn, flagIn, interfacesIn, massAt, partAt, partIn, massIn, stateIn, contentAnswer}
+use Rattle.record.specs.Places.{counts, massesFrom, partsFrom}
+use Rattle.record.specs.Layout.{siteGood, interfaces, liquids}
+use Rattle.record.specs.Reading.{settingsIn, siteIn, sidesIn, totalsIn, pouredIn, takenIn, cellsIn, flagsIn, flagIn, interfacesIn, massAt, partAt, partIn, massIn, stateIn, contentAnswer}
 use Rattle.record.specs.Passes.{heldMass, heldPart, Weighed, loadedMass, loadedFill}
 
 module _ (r : List ℕ) where
@@ -38,7 +40,7 @@ module _ (r : List ℕ) where
   state-parts = lentOf 18 (cellsIn r) (stateIn r) .parts
 
   -- ---- parts
-  pub parts-taken : (flags : List ℕ) (from : ℕ) → flags ≡ flagsIn r → length flags ≡ cellsIn r → from ≡ partsFrom (cellsIn r) (interfacesIn r) + 4
+  pub parts-taken : (flags : List ℕ) (from : ℕ) → flags ≡ flagsIn r → length flags ≡ cellsIn r → from ≡ partsFrom counts (totalsIn r) (cellsIn r) (interfacesIn r) + 4
       → tab (19 * length flags) (λ m. byFlag (flagOf flags (m / 19)) (pos 0) (heldPart r flags from (m / 19) (m % 19)) (heldPart r flags from (m / 19) (m % 19)) (pos 0)) ≡ state-parts
   unfolding lentOf stateIn partIn partAt flagIn
   parts-taken flags from f n e =
@@ -55,16 +57,16 @@ module _ (r : List ℕ) where
   density-there c h = density-same d3q19 (λ k. getD state-parts (19 * c + k) (pos 0)) (partIn r c) (λ k l. part-there c k h l)
 
   -- ---- masses and fills
-  mass-there : (from c : ℕ) → c < cellsIn r → from ≡ massesFrom (cellsIn r) + 4 → loadedMass r (flagsIn r) from state-parts c ≡ massIn r c
+  mass-there : (from c : ℕ) → c < cellsIn r → from ≡ massesFrom counts (totalsIn r) (cellsIn r) + 4 → loadedMass r (flagsIn r) from state-parts c ≡ massIn r c
   unfolding loadedMass massIn massAt flagIn
   mass-there from c h e =
       ap₂ (λ (j : ℕ) (ρ : ℤ). byFlag (flagOf (flagsIn r) c) (pos 0) (heldMass r (flagsIn r) j c) ρ (pos 0)) e (density-there c h)
 
-  fill-there : (from c : ℕ) → c < cellsIn r → from ≡ massesFrom (cellsIn r) + 4 → loadedFill r (flagsIn r) from state-parts c ≡ stateIn r .fill c
+  fill-there : (from c : ℕ) → c < cellsIn r → from ≡ massesFrom counts (totalsIn r) (cellsIn r) + 4 → loadedFill r (flagsIn r) from state-parts c ≡ stateIn r .fill c
   unfolding loadedFill stateIn flagIn
   fill-there from c h e = ap₂ (λ (m ρ : ℤ). fillFor (flagOf (flagsIn r) c) m ρ) (mass-there from c h e) (density-there c h)
 
-  module _ (flags : List ℕ) (parts : List ℤ) (from : ℕ) (f : flags ≡ flagsIn r) (n : length flags ≡ cellsIn r) (p : parts ≡ state-parts) (e : from ≡ massesFrom (cellsIn r) + 4) where
+  module _ (flags : List ℕ) (parts : List ℤ) (from : ℕ) (f : flags ≡ flagsIn r) (n : length flags ≡ cellsIn r) (p : parts ≡ state-parts) (e : from ≡ massesFrom counts (totalsIn r) (cellsIn r) + 4) where
     pub masses-taken : tab (length flags) (loadedMass r flags from parts) ≡ lentOf 18 (cellsIn r) (stateIn r) .masses
     unfolding lentOf stateIn
     masses-taken =
@@ -85,10 +87,12 @@ module _ (r : List ℕ) where
     unfolding contentAnswer gridOf box cellsIn cellsOf
     cells-good c h =
         let n = cellsIn r in
-        let five = ifNone n 5 (badFluid 18 (gridOf (sidesIn r)) (flagIn r)) (ifNone (suc n) 6 (badRule d3q19 n (stateIn r)) Done) in
+        let last = orRefuse (totalsGood (pouredIn r) (takenIn r)) 6 n Done in
+        let six = ifNone (suc n) 6 (badRule d3q19 n (stateIn r)) last in
+        let five = ifNone n 5 (badFluid 18 (gridOf (sidesIn r)) (flagIn r)) six in
         let a = passed (siteGood (settingsIn r) (siteIn r)) 3 0 five done in
-        let b = none-found n 5 (badFluid 18 (gridOf (sidesIn r)) (flagIn r)) (ifNone (suc n) 6 (badRule d3q19 n (stateIn r)) Done) (a .1) in
-        let d = none-found (suc n) 6 (badRule d3q19 n (stateIn r)) Done (b .1) in
+        let b = none-found n 5 (badFluid 18 (gridOf (sidesIn r)) (flagIn r)) six (a .1) in
+        let d = none-found (suc n) 6 (badRule d3q19 n (stateIn r)) last (b .1) in
         cell-good d3q19 (gridOf (sidesIn r)) (stateIn r) (d .0) c h
 
     body-there : (c : ℕ) → c < cellsIn r → liquid (flagIn r c) ≡ true → Body (partIn r c)

@@ -3,8 +3,7 @@ use crate::reader::read;
 use record::Loaded;
 use record::flags::flags_of;
 ghost use mathlib.Core.Path.{_≡_};
-ghost use lib.ListN.{length};
-ghost use Rattle.record.specs.Promise.{flagless, spanOf, Read, Own};
+ghost use Rattle.record.specs.Promise.{flagless, Read, Handed};
 
 pub fn load<'a>(
     rec: &'a [u8],
@@ -13,7 +12,7 @@ pub fn load<'a>(
     fills: &mut [u32],
     carry: &mut [i64],
 ) -> Loaded<'a>
-    ensures { λ r. ⌜ Read (now (rec .entry)) (flagless (now (parts .entry)) (now (masses .entry)) (now (fills .entry)) (now (carry .entry))) (r .head) (now (parts .exit)) (now (masses .exit)) (now (fills .exit)) (now (carry .exit)) × Own (rec .entry) (spanOf (length (now (rec .entry))) (r .head)) (r .flags) ⌝ }
+    ensures { λ r. ⌜ Read (now (rec .entry)) (flagless (now (parts .entry)) (now (masses .entry)) (now (fills .entry)) (now (carry .entry))) (r .head) (now (parts .exit)) (now (masses .exit)) (now (fills .exit)) (now (carry .exit)) × Handed (rec .entry) (flagless (now (parts .entry)) (now (masses .entry)) (now (fills .entry)) (now (carry .entry))) (r .flags) ⌝ }
 {
     let h = read(rec, parts, masses, fills, carry);
     let f = flags_of(rec, h);

@@ -7,36 +7,36 @@ use record::count::interface_cells;
 use record::count::liquid_cells;
 use record::given::opening;
 use record::given::sides_in;
+use record::places::flags_at;
 use record::section::cell_sections;
 use record::section::front_sections;
 use record::section::passed;
 ghost use mathlib.Core.Path.{_≡_};
 ghost use mathlib.Core.Bool.{true};
-ghost use Prim.Native.Nat.{_+_, _*_, _≤_};
-ghost use lib.Dec.{leb};
+ghost use Prim.Native.Nat.{_+_, _≤_};
 ghost use lib.ListN.{length};
 ghost use Rattle.grid.specs.declared.Answer.the-variants.{Done};
 ghost use Rattle.grid.specs.Grid.{sidesGood, gridOf};
 ghost use Rattle.grid.specs.Good.{badFlag};
-ghost use Rattle.grid.specs.Outcome.{orRefuse, ifNone};
-ghost use Rattle.record.specs.Layout.{massesFrom, partsFrom, lengthOf};
-ghost use Rattle.record.specs.Reading.{sidesIn, cellsIn, flagIn, interfacesIn, liquidsIn, whole, shapeAnswer};
+ghost use Rattle.grid.specs.Outcome.{ifNone};
+ghost use Rattle.record.specs.Reading.{sidesIn, flagsAt, cellsIn, flagIn, interfacesIn, liquidsIn, ends, behindFlags, shapeAnswer};
 
 // Test 4 of the flags, the sections behind them, and that nothing follows.
 fn behind(rec: &[u8], s: Sides) -> Answer
     requires { ⌜ s ≡ sidesIn (now rec) ⌝ }
     requires { ⌜ sidesGood s ≡ true ⌝ }
-    requires { ⌜ 84 + cellsIn (now rec) ≤ length (now rec) ⌝ }
-    ensures { λ r. ⌜ r ≡ ifNone (cellsIn (now (rec .entry))) 4 (badFlag (gridOf (sidesIn (now (rec .entry)))) (flagIn (now (rec .entry)))) (whole (now (rec .entry)) 6 (massesFrom (cellsIn (now (rec .entry)))) (interfacesIn (now (rec .entry))) 4 (whole (now (rec .entry)) 7 (partsFrom (cellsIn (now (rec .entry))) (interfacesIn (now (rec .entry)))) (19 * liquidsIn (now (rec .entry))) 4 (orRefuse (leb (length (now (rec .entry))) (lengthOf (cellsIn (now (rec .entry))) (interfacesIn (now (rec .entry))) (liquidsIn (now (rec .entry))))) 10 (lengthOf (cellsIn (now (rec .entry))) (interfacesIn (now (rec .entry))) (liquidsIn (now (rec .entry)))) Done))) ⌝ }
+    requires { ⌜ flagsAt (now rec) + cellsIn (now rec) ≤ length (now rec) ⌝ }
+    ensures { λ r. ⌜ r ≡ ifNone (cellsIn (now (rec .entry))) 4 (badFlag (gridOf (sidesIn (now (rec .entry)))) (flagIn (now (rec .entry)))) (ends (now (rec .entry)) (behindFlags (now (rec .entry))) (interfacesIn (now (rec .entry))) (liquidsIn (now (rec .entry))) Done) ⌝ }
 {
     let n = cells(s);
-    let end = 84 + n;
-    let flags = &rec[84..end];
+    let at = flags_at(rec);
+    let end = at + n;
+    let flags = &rec[at..end];
     let bad = first_bad_flag(flags, s);
     if bad < n {
         return Answer::Refused(4, bad);
     }
-    cell_sections(rec, n, interface_cells(flags), liquid_cells(flags))
+    cell_sections(rec, end, interface_cells(flags), liquid_cells(flags))
 }
 
 // All sections and the tests on the way, beside slices of these lengths.

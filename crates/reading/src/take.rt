@@ -3,6 +3,8 @@ use crate::load::load_parts;
 use crate::weigh::load_masses;
 use record::count::interface_cells;
 use record::number::i64_at;
+use record::places::flags_at;
+use record::places::later_in;
 ghost use mathlib.Core.Path.{_≡_};
 ghost use Prim.Native.Nat.{_*_};
 ghost use lib.ListN.{length};
@@ -24,14 +26,19 @@ pub fn take(
     requires { ⌜ length (now parts) ≡ 19 * n ⌝ }
     requires { ⌜ length (now masses) ≡ n ⌝ }
     requires { ⌜ length (now fills) ≡ n ⌝ }
-    requires { ⌜ length (now carry) ≡ 1 ⌝ }
+    requires { ⌜ length (now carry) ≡ 3 ⌝ }
     ensures { λ _. ⌜ Taken (now (rec .entry)) (now (parts .exit)) (now (masses .exit)) (now (fills .exit)) (now (carry .exit)) ⌝ }
 {
-    let end = 84 + n;
-    let flags = &rec[84..end];
+    let at = flags_at(rec);
+    let end = at + n;
+    let flags = &rec[at..end];
     let i = interface_cells(flags);
-    load_parts(rec, flags, 92 + n + 4 * i, parts);
-    load_masses(rec, flags, 88 + n, parts, masses, fills);
-    let k = i64_at(rec, 72);
-    carry[0] = k;
+    load_parts(rec, flags, end + 8 + 4 * i, parts);
+    load_masses(rec, flags, end + 4, parts, masses, fills);
+    let kept = i64_at(rec, 72);
+    let poured = later_in(rec, 1);
+    let taken = later_in(rec, 2);
+    carry[0] = kept;
+    carry[1] = poured;
+    carry[2] = taken;
 }

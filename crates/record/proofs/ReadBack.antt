@@ -17,9 +17,10 @@ use borrow.Author.Tests.{leb-true, eq-eqb, not-false}
 use mir.Syntax.{w32, w64}
 use mir.Val.{SFits, toZ, ofZ}
 use Rattle.whole.specs.Bools.{and-left, and-right}
-use Rattle.whole.specs.Bounds.{fits-abs}
+use Rattle.whole.specs.Bounds.{fits-abs, abs-below}
 use Rattle.whole.specs.Fold.{all}
 use Rattle.whole.specs.Machine.{Within}
+use Rattle.whole.specs.Order.{leZ-true}
 use Rattle.whole.specs.Search.{all-at, first-none}
 use Rattle.whole.specs.Tab.{upto-all}
 use Rattle.lattice.specs.Lattice.{d3q19, density}
@@ -32,7 +33,7 @@ use Rattle.grid.specs.Grid.{cellsOf, sidesGood, gridOf, box}
 use Rattle.grid.specs.Good.{dryGood, interfaceGood, fluidGood, fillGood, cellGood, badFlag, badFluid, badRule}
 use Rattle.lattice.specs.Body.{eqZ}
 use Rattle.grid.specs.Demands.{Same}
-use Rattle.grid.specs.Outcome.{accepted, ifNone, goodAnswer, settingsGood}
+use Rattle.grid.specs.Outcome.{accepted, orRefuse, ifNone, goodAnswer, settingsGood}
 use Rattle.grid.specs.Sight.{Body}
 use Rattle.grid.specs.Step.{fillFor}
 use Rattle.grid.specs.State.{Lent, State, stateOf, lentOf, byFlag, liquid}
@@ -43,11 +44,13 @@ use Rattle.grid.proofs.Blocks.{blocks-all}
 use Rattle.grid.proofs.Prepared.{cell-body, cell-mass, cell-fill}
 use Rattle.grid.proofs.Same.{density-same, bad-rule-same}
 use Rattle.grid.proofs.GoodSides.{GoodSides, good-sides}
+use Rattle.pumps.specs.Three.{numberIn, withTotals, totalGood, totalsGood}
 use Rattle.record.specs.declared.Site.{Site}
 use Rattle.record.specs.declared.Head.{Head}
 use Rattle.record.specs.Bytes.{bytesOf, value, part, u32At, i32At, i64At, u32Of, i32Of, i64Of, join, gathered}
-use Rattle.record.specs.Layout.{siteGood, section, interfaces, liquids, massBytes, cellBytes, partBytes, massesFrom, partsFrom, lengthOf, headBytes, cellsBytes, recordOf, recordLength}
-use Rattle.record.specs.Reading.{sidesIn, settingsIn, siteIn, carryIn, cellsIn, flagsIn, flagIn, interfacesIn, liquidsIn, slicesFit, contentAnswer, massAt, partAt, massIn, partIn, stateIn, readAnswer, readHead, readFlags, readSet}
+use Rattle.record.specs.Places.{past, counts, settingsFrom, originFrom, totalsFrom, cellsFrom, massesFrom, partsFrom, lengthOf}
+use Rattle.record.specs.Layout.{siteGood, section, interfaces, liquids, massBytes, cellBytes, partBytes, siteBytes, totalsBytes, headBytes, cellsBytes, recordOf, recordLength}
+use Rattle.record.specs.Reading.{sidesIn, settingsIn, siteIn, totalsIn, carryIn, pouredIn, takenIn, cellsIn, flagsIn, flagIn, interfacesIn, liquidsIn, slicesFit, contentAnswer, massAt, partAt, massIn, partIn, stateIn, readAnswer, readHead, readFlags, readSet}
 use Rattle.record.specs.Writing.{writeAnswer}
 use Rattle.record.specs.Passes.{Held, Sound}
 use Rattle.record.proofs.Numbers.{value-bytesOf, back, length-bytesOf}
@@ -86,16 +89,24 @@ split (suc n) c f z h = go (eq-or-lt-of-le (le-of-suc-le-suc h)) (λ k. split n 
     go (inr k) r = let w = r k in record { rest = w .rest; is = append-assoc (gathered n f) (f n) z ∙ w .is }
 
 -- ---- sections 1 to 4: their numbers, whatever follows
-module _ (s : Sides) (g : Settings) (t : Site) (k : ℤ) (y : List ℕ) where
+module _ (s : Sides) (g : Settings) (t : Site) (k p q : ℤ) (y : List ℕ) where
   abbrev h : List ℕ
-  h = headBytes s g t k ++ y
+  h = headBytes s g t k p q ++ y
 
-  counts : (u32At h 0 ≡ 3) × (u32At h 16 ≡ 5) × (u32At h 40 ≡ 3) × (u32At h 68 ≡ 1)
-  unfolding headBytes join bytesOf value
-  counts = (refl, refl, refl, refl)
+  counted : (u32At h 0 ≡ 3) × (u32At h (settingsFrom counts) ≡ 5) × (u32At h (originFrom counts) ≡ 3) × (u32At h (totalsFrom counts) ≡ 3)
+  unfolding headBytes siteBytes totalsBytes join bytesOf value
+  counted = (refl, refl, refl, refl)
+
+  three-numbers : totalsIn h ≡ 3
+  unfolding totalsIn
+  three-numbers = ap (λ (n : ℕ). cond (leb (totalsFrom counts + 4) (length h) && eqb n 1) 1 3) (counted .3) ∙ go (leb (totalsFrom counts + 4) (length h))
+    where
+      go : (b : Bool) → _≡_ {A = ℕ} (cond (b && false) 1 3) 3
+      go true = refl
+      go false = refl
 
   sides-back : s .nx < 4294967296 → s .ny < 4294967296 → s .nz < 4294967296 → sidesIn h ≡ s
-  unfolding headBytes join bytesOf sidesIn
+  unfolding headBytes siteBytes totalsBytes join bytesOf sidesIn
   sides-back x y z =
       let ex : u32At h 4 ≡ s .nx = value-bytesOf 4 (s .nx) x in
       let ey : u32At h 8 ≡ s .ny = value-bytesOf 4 (s .ny) y in
@@ -103,7 +114,7 @@ module _ (s : Sides) (g : Settings) (t : Site) (k : ℤ) (y : List ℕ) where
       ap₂ (λ (u v : ℕ). record { nx = u; ny = v; nz = u32At h 12 }) ex ey ∙ ap (λ (w : ℕ). record { nx = s .nx; ny = s .ny; nz = w }) ez
 
   settings-back : SFits w32 (g .p) → SFits w32 (g .gx) → SFits w32 (g .gy) → SFits w32 (g .gz) → settingsIn h ≡ g
-  unfolding headBytes join bytesOf settingsIn
+  unfolding headBytes siteBytes totalsBytes join bytesOf settingsIn
   settings-back fp fx fy fz =
       let p : i32At h 20 ≡ g .p = back w32 4 (g .p) fp refl in
       let x : i32At h 24 ≡ g .gx = back w32 4 (g .gx) fx refl in
@@ -112,7 +123,7 @@ module _ (s : Sides) (g : Settings) (t : Site) (k : ℤ) (y : List ℕ) where
       ap₂ (λ (u v : ℤ). record { p = u; gx = v; gy = i32At h 28; gz = i32At h 32 }) p x ∙ ap₂ (λ (u v : ℤ). record { p = g .p; gx = g .gx; gy = u; gz = v }) y z
 
   site-back : SFits w32 (t .edge) → SFits w64 (t .x) → SFits w64 (t .y) → SFits w64 (t .z) → siteIn h ≡ t
-  unfolding headBytes join bytesOf siteIn
+  unfolding headBytes siteBytes totalsBytes join bytesOf siteIn
   site-back fe fx fy fz =
       let e : i32At h 36 ≡ t .edge = back w32 4 (t .edge) fe refl in
       let x : i64At h 44 ≡ t .x = back w64 8 (t .x) fx refl in
@@ -121,11 +132,27 @@ module _ (s : Sides) (g : Settings) (t : Site) (k : ℤ) (y : List ℕ) where
       ap₂ (λ (u v : ℤ). record { edge = u; x = v; y = i64At h 52; z = i64At h 60 }) e x ∙ ap₂ (λ (u v : ℤ). record { edge = t .edge; x = t .x; y = u; z = v }) y z
 
   carry-back : SFits w64 k → carryIn h ≡ k
-  unfolding headBytes join bytesOf carryIn
+  unfolding headBytes siteBytes totalsBytes join bytesOf carryIn
   carry-back f = back w64 8 k f refl
 
+  poured-there : SFits w64 p → i64At h (past (totalsFrom counts) 8 1) ≡ p
+  unfolding headBytes siteBytes totalsBytes join bytesOf
+  poured-there f = back w64 8 p f refl
+
+  taken-there : SFits w64 q → i64At h (past (totalsFrom counts) 8 2) ≡ q
+  unfolding headBytes siteBytes totalsBytes join bytesOf
+  taken-there f = back w64 8 q f refl
+
+  poured-back : SFits w64 p → pouredIn h ≡ p
+  unfolding pouredIn
+  poured-back f = ap (λ (n : ℕ). cond (eqb n 3) (i64At h (past (totalsFrom counts) 8 1)) (pos 0)) three-numbers ∙ poured-there f
+
+  taken-back : SFits w64 q → takenIn h ≡ q
+  unfolding takenIn
+  taken-back f = ap (λ (n : ℕ). cond (eqb n 3) (i64At h (past (totalsFrom counts) 8 2)) (pos 0)) three-numbers ∙ taken-there f
+
 -- ---- sections 5 to 7
-module _ (s : Sides) (g : Settings) (t : Site) (k : ℤ) (n : ℕ) (flags : List ℕ) (mass : ℕ → ℤ) (p : ℕ → ℕ → ℤ) (ln : length flags ≡ n) where
+module _ (hd : List ℕ) (hl : length hd ≡ cellsFrom counts 3) (n : ℕ) (flags : List ℕ) (mass : ℕ → ℤ) (p : ℕ → ℕ → ℤ) (ln : length flags ≡ n) where
   abbrev F : ℕ → ℕ
   F = flagOf flags
 
@@ -134,9 +161,6 @@ module _ (s : Sides) (g : Settings) (t : Site) (k : ℤ) (n : ℕ) (flags : List
 
   abbrev L : ℕ
   L = liquids n (flagOf flags)
-
-  abbrev hd : List ℕ
-  hd = headBytes s g t k
 
   abbrev five : List ℕ
   five = section n (flags ∷ [])
@@ -151,13 +175,10 @@ module _ (s : Sides) (g : Settings) (t : Site) (k : ℤ) (n : ℕ) (flags : List
   r = hd ++ cellsBytes n flags mass p
 
   -- where each section begins, and its numbers
-  to-five : length hd ≡ 80
-  to-five = length-head s g t k
+  to-six : length (hd ++ five) ≡ massesFrom counts 3 n
+  to-six = length-append hd five ∙ omega (arith, hl, length-section n flags)
 
-  to-six : length (hd ++ five) ≡ massesFrom n
-  to-six = length-append hd five ∙ omega (arith, length-head s g t k, length-section n flags)
-
-  to-seven : length ((hd ++ five) ++ six) ≡ partsFrom n I
+  to-seven : length ((hd ++ five) ++ six) ≡ partsFrom counts 3 n I
   to-seven = length-append (hd ++ five) six ∙ omega (arith, to-six, length-section I (massBytes n F mass), length-masses n F mass)
 
   behind-count : (q : List ℕ) (m at : ℕ) → length q ≡ at → length (q ++ u32Of m) ≡ at + 4
@@ -166,25 +187,25 @@ module _ (s : Sides) (g : Settings) (t : Site) (k : ℤ) (n : ℕ) (flags : List
   number : (q z : List ℕ) (m at : ℕ) → r ≡ q ++ (u32Of m ++ z) → length q ≡ at → m < 4294967296 → u32At r at ≡ m
   number q z m at e l h = ap value (look q (u32Of m) z r at 4 e l (length-bytesOf 4 m)) ∙ value-bytesOf 4 m h
 
-  count-five : n < 4294967296 → u32At r 80 ≡ n
+  count-five : n < 4294967296 → u32At r (cellsFrom counts 3) ≡ n
   unfolding cellsBytes join
-  count-five h = number hd _ n 80 (ap (λ (l : List ℕ). hd ++ l) (append-assoc (u32Of n) (flags ++ []) _)) to-five h
+  count-five h = number hd _ n (cellsFrom counts 3) (ap (λ (l : List ℕ). hd ++ l) (append-assoc (u32Of n) (flags ++ []) _)) hl h
 
-  flags-back : part n 84 r ≡ flags
+  flags-back : part n (cellsFrom counts 3 + 4) r ≡ flags
   unfolding cellsBytes join
-  flags-back = look (hd ++ u32Of n) flags (six ++ (seven ++ [])) r 84 n (simp (append-assoc, append-nil)) (behind-count hd n 80 to-five) ln
+  flags-back = look (hd ++ u32Of n) flags (six ++ (seven ++ [])) r (cellsFrom counts 3 + 4) n (simp (append-assoc, append-nil)) (behind-count hd n (cellsFrom counts 3) hl) ln
 
-  count-six : I < 4294967296 → u32At r (massesFrom n) ≡ I
+  count-six : I < 4294967296 → u32At r (massesFrom counts 3 n) ≡ I
   unfolding cellsBytes join
   count-six h =
-      number (hd ++ five) _ I (massesFrom n)
+      number (hd ++ five) _ I (massesFrom counts 3 n)
       (sym (append-assoc hd five _) ∙ ap (λ (l : List ℕ). (hd ++ five) ++ l) (append-assoc (u32Of I) (massBytes n F mass ++ []) _)) to-six h
 
-  count-seven : 19 * L < 4294967296 → u32At r (partsFrom n I) ≡ 19 * L
+  count-seven : 19 * L < 4294967296 → u32At r (partsFrom counts 3 n I) ≡ 19 * L
   unfolding cellsBytes join
-  count-seven h = number ((hd ++ five) ++ six) ((partBytes n F p ++ []) ++ []) (19 * L) (partsFrom n I) (simp append-assoc) to-seven h
+  count-seven h = number ((hd ++ five) ++ six) ((partBytes n F p ++ []) ++ []) (19 * L) (partsFrom counts 3 n I) (simp append-assoc) to-seven h
 
-  mass-back : (c : ℕ) → c < n → F c ≡ 1 → SFits w32 (mass c) → i32At r (massesFrom n + 4 + 4 * interfaces c F) ≡ mass c
+  mass-back : (c : ℕ) → c < n → F c ≡ 1 → SFits w32 (mass c) → i32At r (massesFrom counts 3 n + 4 + 4 * interfaces c F) ≡ mass c
   unfolding cellsBytes join massBytes
   mass-back c h one fits =
       let f : ℕ → List ℕ = λ a. byFlag (F a) [] (i32Of (mass a)) [] [] in
@@ -194,15 +215,15 @@ module _ (s : Sides) (g : Settings) (t : Site) (k : ℤ) (n : ℕ) (flags : List
       let front = (hd ++ five) ++ u32Of I in
       let is : r ≡ (front ++ gathered c f) ++ (f c ++ w .rest) =
       region f z ∙ ap (λ (l : List ℕ). front ++ l) (w .is) ∙ sym (append-assoc front (gathered c f) (f c ++ w .rest)) in
-      let long : length (front ++ gathered c f) ≡ massesFrom n + 4 + 4 * interfaces c F =
-      length-append front (gathered c f) ∙ ap₂ (λ (i j : ℕ). i + j) (behind-count (hd ++ five) I (massesFrom n) to-six) (length-masses c F mass) in
-      ap (λ (l : List ℕ). toZ w32 (value l)) (look (front ++ gathered c f) (f c) (w .rest) r (massesFrom n + 4 + 4 * interfaces c F) 4 is long (ap length here ∙ length-bytesOf 4 (ofZ w32 (mass c))) ∙ here)
+      let long : length (front ++ gathered c f) ≡ massesFrom counts 3 n + 4 + 4 * interfaces c F =
+      length-append front (gathered c f) ∙ ap₂ (λ (i j : ℕ). i + j) (behind-count (hd ++ five) I (massesFrom counts 3 n) to-six) (length-masses c F mass) in
+      ap (λ (l : List ℕ). toZ w32 (value l)) (look (front ++ gathered c f) (f c) (w .rest) r (massesFrom counts 3 n + 4 + 4 * interfaces c F) 4 is long (ap length here ∙ length-bytesOf 4 (ofZ w32 (mass c))) ∙ here)
       ∙ back w32 4 (mass c) fits refl
     where
       region : (f : ℕ → List ℕ) (z : List ℕ) → hd ++ (five ++ ((u32Of I ++ (gathered n f ++ [])) ++ z)) ≡ ((hd ++ five) ++ u32Of I) ++ (gathered n f ++ z)
       region f z = simp (append-assoc, append-nil)
 
-  part-back : (c j : ℕ) → c < n → j < 19 → liquid (F c) ≡ true → SFits w32 (p c j) → i32At r (partsFrom n I + 4 + 4 * (19 * liquids c F + j)) ≡ p c j
+  part-back : (c j : ℕ) → c < n → j < 19 → liquid (F c) ≡ true → SFits w32 (p c j) → i32At r (partsFrom counts 3 n I + 4 + 4 * (19 * liquids c F + j)) ≡ p c j
   unfolding cellsBytes join partBytes cellBytes
   part-back c j h l wet fits =
       let f : ℕ → List ℕ = λ a. byFlag (F a) [] (cellBytes (p a)) (cellBytes (p a)) [] in
@@ -216,10 +237,10 @@ module _ (s : Sides) (g : Settings) (t : Site) (k : ℤ) (n : ℕ) (flags : List
       ∙ ap (λ (q : List ℕ). front ++ q) (w .is ∙ ap (λ (q : List ℕ). gathered c f ++ (q ++ w .rest)) here ∙ ap (λ (q : List ℕ). gathered c f ++ q) (v .is))
       ∙ sym (append-assoc front (gathered c f) (gathered j e ++ (e j ++ v .rest)))
       ∙ sym (append-assoc (front ++ gathered c f) (gathered j e) (e j ++ v .rest)) in
-      let long : length ((front ++ gathered c f) ++ gathered j e) ≡ partsFrom n I + 4 + 4 * (19 * liquids c F + j) =
+      let long : length ((front ++ gathered c f) ++ gathered j e) ≡ partsFrom counts 3 n I + 4 + 4 * (19 * liquids c F + j) =
       length-append (front ++ gathered c f) (gathered j e)
-      ∙ omega (arith, length-append front (gathered c f), behind-count ((hd ++ five) ++ six) (19 * L) (partsFrom n I) to-seven, length-parts c F p, length-some j (p c)) in
-      ap (λ (q : List ℕ). toZ w32 (value q)) (look ((front ++ gathered c f) ++ gathered j e) (e j) (v .rest) r (partsFrom n I + 4 + 4 * (19 * liquids c F + j)) 4 is long (length-bytesOf 4 (ofZ w32 (p c j))))
+      ∙ omega (arith, length-append front (gathered c f), behind-count ((hd ++ five) ++ six) (19 * L) (partsFrom counts 3 n I) to-seven, length-parts c F p, length-some j (p c)) in
+      ap (λ (q : List ℕ). toZ w32 (value q)) (look ((front ++ gathered c f) ++ gathered j e) (e j) (v .rest) r (partsFrom counts 3 n I + 4 + 4 * (19 * liquids c F + j)) 4 is long (length-bytesOf 4 (ofZ w32 (p c j))))
       ∙ back w32 4 (p c j) fits refl
     where
       by-liquid-list : (f : ℕ) (x : List ℕ) → liquid f ≡ true → byFlag f [] x x [] ≡ x
@@ -238,8 +259,12 @@ fits-word {z} w = fits-abs {w = w32} {z = z} (let h = w .abs in omega arith)
 near : {z : ℤ} (k : ℕ) → Within z k → k ≤ 2147483647 → SFits w32 z
 near {z} k w h = fits-word (record { abs = omega (arith, w .abs) })
 
-fits-long : {z : ℤ} → natAbs z ≤ 1000000000000 → SFits w64 z
+fits-long : {z : ℤ} → natAbs z ≤ 1000000000000000 → SFits w64 z
 fits-long {z} h = fits-abs {w = w64} {z = z} (omega arith)
+
+total-fits : (z : ℤ) → totalGood z ≡ true → SFits w64 z
+total-fits z e =
+    fits-long (abs-below {k = 0} {z = z} (leZ-true (and-left (leZ (pos 0) z) (leZ z (pos 1000000000000000)) e)) (leZ-true (and-right (leZ (pos 0) z) (leZ z (pos 1000000000000000)) e)))
 
 coordinate-fits : (x : ℤ) → coordinateGood x ≡ true → SFits w64 x
 coordinate-fits x e =
@@ -350,23 +375,47 @@ module _ (s : Sides) (g : Settings) (t : Site) (a : Lent) (fit : Fit s g t a) wh
       let x = and-left (A && E && X) Y y in
       (and-right A E (and-left (A && E) X x), and-right (A && E) X x, and-right (A && E && X) Y y, and-right (A && E && X && Y) Z all)
 
+  abbrev poured : ℤ
+  poured = numberIn a 1
+
+  abbrev taken : ℤ
+  taken = numberIn a 2
+
   sides-so : sidesIn rec ≡ s
   unfolding recordOf
   sides-so =
-      sides-back s g t (S .carry) _ (let h = small-sides .x .high in omega arith) (let h = small-sides .y .high in omega arith) (let h = small-sides .z .high in omega arith)
+      sides-back s g t (numberIn a 0) poured taken _ (let h = small-sides .x .high in omega arith) (let h = small-sides .y .high in omega arith) (let h = small-sides .z .high in omega arith)
 
   settings-so : settingsIn rec ≡ g
   unfolding recordOf
-  settings-so = let w = small g t (fit .site) in settings-back s g t (S .carry) _ (fits-word (w .p)) (fits-word (w .gx)) (fits-word (w .gy)) (fits-word (w .gz))
+  settings-so = let w = small g t (fit .site) in settings-back s g t (numberIn a 0) poured taken _ (fits-word (w .p)) (fits-word (w .gx)) (fits-word (w .gy)) (fits-word (w .gz))
 
   site-so : siteIn rec ≡ t
   unfolding recordOf
   site-so =
-      site-back s g t (S .carry) _ (fits-word (small g t (fit .site) .edge)) (coordinate-fits (t .x) (sites .1)) (coordinate-fits (t .y) (sites .2)) (coordinate-fits (t .z) (sites .3))
+      site-back s g t (numberIn a 0) poured taken _ (fits-word (small g t (fit .site) .edge)) (coordinate-fits (t .x) (sites .1)) (coordinate-fits (t .y) (sites .2)) (coordinate-fits (t .z) (sites .3))
 
   carry-so : carryIn rec ≡ S .carry
+  unfolding recordOf stateOf
+  carry-so = carry-back s g t (numberIn a 0) poured taken _ (fits-long (let h = leb-true (natAbs (S .carry)) 1000000000000 carry-good in omega arith))
+
+  poured-so : pouredIn rec ≡ poured
   unfolding recordOf
-  carry-so = carry-back s g t (S .carry) _ (fits-long (leb-true (natAbs (S .carry)) 1000000000000 carry-good))
+  poured-so = poured-back s g t (numberIn a 0) poured taken _ (total-fits poured (and-left (totalGood poured) (totalGood taken) (fit .totals)))
+
+  taken-so : takenIn rec ≡ taken
+  unfolding recordOf
+  taken-so = taken-back s g t (numberIn a 0) poured taken _ (total-fits taken (and-right (totalGood poured) (totalGood taken) (fit .totals)))
+
+  totals-so : totalsIn rec ≡ 3
+  unfolding recordOf
+  totals-so = three-numbers s g t (numberIn a 0) poured taken _
+
+  abbrev head : List ℕ
+  head = headBytes s g t (numberIn a 0) poured taken
+
+  head-long : length head ≡ cellsFrom counts 3
+  head-long = length-head s g t (numberIn a 0) poured taken
 
   -- ---- its cells
   cells-so : cellsIn rec ≡ n
@@ -375,7 +424,7 @@ module _ (s : Sides) (g : Settings) (t : Site) (a : Lent) (fit : Fit s g t a) wh
 
   flags-so : flagsIn rec ≡ a .flags
   unfolding flagsIn recordOf
-  flags-so = ap (λ (k : ℕ). part k 84 rec) cells-so ∙ flags-back s g t (S .carry) n (a .flags) (S .mass) (S .part) (fit .lengths .flags)
+  flags-so = ap₂ (λ (k j : ℕ). part k (cellsFrom counts j + 4) rec) cells-so totals-so ∙ flags-back head head-long n (a .flags) (S .mass) (S .part) (fit .lengths .flags)
 
   interfaces-so : interfacesIn rec ≡ interfaces n (flagOf (a .flags))
   unfolding interfacesIn flagIn
@@ -391,11 +440,13 @@ module _ (s : Sides) (g : Settings) (t : Site) (a : Lent) (fit : Fit s g t a) wh
   part-so : (c k : ℕ) → c < n → k ≤ 18 → partIn rec c k ≡ S .part c k
   unfolding partIn partAt flagIn recordOf stateOf
   part-so c k h l =
-      let at : ℕ → ℕ → List ℕ → ℤ = λ m i o. i32At rec (partsFrom m i + 4 + 4 * (19 * liquids c (flagOf o) + k)) in
-      ap₂ (λ (m i : ℕ). byFlag (flagOf (flagsIn rec) c) (pos 0) (at m i (flagsIn rec)) (at m i (flagsIn rec)) (pos 0)) cells-so interfaces-so
+      let from : ℕ → ℕ → ℕ → List ℕ → ℤ = λ j m i o. i32At rec (partsFrom counts j m i + 4 + 4 * (19 * liquids c (flagOf o) + k)) in
+      let at : ℕ → ℕ → List ℕ → ℤ = from 3 in
+      ap (λ (j : ℕ). byFlag (flagOf (flagsIn rec) c) (pos 0) (from j (cellsIn rec) (interfacesIn rec) (flagsIn rec)) (from j (cellsIn rec) (interfacesIn rec) (flagsIn rec)) (pos 0)) totals-so
+      ∙ ap₂ (λ (m i : ℕ). byFlag (flagOf (flagsIn rec) c) (pos 0) (at m i (flagsIn rec)) (at m i (flagsIn rec)) (pos 0)) cells-so interfaces-so
       ∙ ap (λ (o : List ℕ). byFlag (flagOf o c) (pos 0) (at n (interfaces n (flagOf (a .flags))) o) (at n (interfaces n (flagOf (a .flags))) o) (pos 0)) flags-so
       ∙ part-kinds (flagOf (a .flags) c) (at n (interfaces n (flagOf (a .flags))) (a .flags)) (S .part c k)
-      (λ e. part-back s g t (S .carry) n (a .flags) (S .mass) (S .part) (fit .lengths .flags) c k h (omega arith) e (near 1179648 (body c h e .parts k l) (omega arith)))
+      (λ e. part-back head head-long n (a .flags) (S .mass) (S .part) (fit .lengths .flags) c k h (omega arith) e (near 1179648 (body c h e .parts k l) (omega arith)))
       (λ e. dry-parts c k h l e)
 
   density-so : (c : ℕ) → c < n → density d3q19 (partIn rec c) ≡ density d3q19 (S .part c)
@@ -405,11 +456,13 @@ module _ (s : Sides) (g : Settings) (t : Site) (a : Lent) (fit : Fit s g t a) wh
   mass-so : (c : ℕ) → c < n → massIn rec c ≡ S .mass c
   unfolding massIn massAt flagIn recordOf stateOf
   mass-so c h =
-      let at : ℕ → List ℕ → ℤ = λ m o. i32At rec (massesFrom m + 4 + 4 * interfaces c (flagOf o)) in
-      ap₂ (λ (m : ℕ) (ρ : ℤ). byFlag (flagOf (flagsIn rec) c) (pos 0) (at m (flagsIn rec)) ρ (pos 0)) cells-so (density-so c h)
+      let from : ℕ → ℕ → List ℕ → ℤ = λ j m o. i32At rec (massesFrom counts j m + 4 + 4 * interfaces c (flagOf o)) in
+      let at : ℕ → List ℕ → ℤ = from 3 in
+      ap (λ (j : ℕ). byFlag (flagOf (flagsIn rec) c) (pos 0) (from j (cellsIn rec) (flagsIn rec)) (density d3q19 (partIn rec c)) (pos 0)) totals-so
+      ∙ ap₂ (λ (m : ℕ) (ρ : ℤ). byFlag (flagOf (flagsIn rec) c) (pos 0) (at m (flagsIn rec)) ρ (pos 0)) cells-so (density-so c h)
       ∙ ap (λ (o : List ℕ). byFlag (flagOf o c) (pos 0) (at n o) (density d3q19 (S .part c)) (pos 0)) flags-so
       ∙ mass-kinds (flagOf (a .flags) c) (at n (a .flags)) (S .mass c) (density d3q19 (S .part c))
-      (λ e. mass-back s g t (S .carry) n (a .flags) (S .mass) (S .part) (fit .lengths .flags) c h e (near 2359296 (cell-mass n S cells-good c h e) (omega arith)))
+      (λ e. mass-back head head-long n (a .flags) (S .mass) (S .part) (fit .lengths .flags) c h e (near 2359296 (cell-mass n S cells-good c h e) (omega arith)))
       ∙ sym (massed c h)
 
   fill-so : (c : ℕ) → c < n → stateIn rec .fill c ≡ S .fill c
@@ -432,12 +485,14 @@ module _ (s : Sides) (g : Settings) (t : Site) (a : Lent) (fit : Fit s g t a) wh
   lattice-same = same-state
 
   -- the five lists
-  one : (l : List ℤ) → length l ≡ 1 → (getD l 0 (pos 0) ∷ []) ≡ l
-  one [] e = absurd (omega arith)
-  one (x ∷ []) e = refl
-  one (x ∷ y ∷ l) e = absurd (omega arith)
+  numbers : (l : List ℤ) → length l ≡ 3 → (getD l 0 (pos 0) ∷ getD l 1 (pos 0) ∷ getD l 2 (pos 0) ∷ []) ≡ l
+  numbers [] e = absurd (omega arith)
+  numbers (x ∷ []) e = absurd (omega arith)
+  numbers (x ∷ y ∷ []) e = absurd (omega arith)
+  numbers (x ∷ y ∷ z ∷ []) e = refl
+  numbers (x ∷ y ∷ z ∷ w ∷ l) e = absurd (omega arith)
 
-  lists-so : lentOf 18 n (stateIn rec) ≡ a
+  lists-so : withTotals (lentOf 18 n (stateIn rec)) (pouredIn rec) (takenIn rec) ≡ a
   unfolding lentOf stateIn stateOf
   lists-so =
       let L = fit .lengths in
@@ -445,11 +500,11 @@ module _ (s : Sides) (g : Settings) (t : Site) (a : Lent) (fit : Fit s g t a) wh
       let parts = sym (blocks-all (partIn rec) (a .parts) n (L .parts) (λ c k h l. sym (part-so c k h (omega arith)))) in
       let masses = sym (upto-all (pos 0) (massIn rec) (a .masses) n (L .masses) (λ c h. sym (mass-so c h))) in
       let fills = sym (upto-all 0 (stateIn rec .fill) (a .fills) n (L .fills) (λ c h. sym (fill-so c h))) in
-      let carry = ap (λ (z : ℤ). z ∷ []) carry-so ∙ one (a .carry) (L .carry) in
+      let carry = ap (λ (z : ℤ). z ∷ pouredIn rec ∷ takenIn rec ∷ []) carry-so ∙ ap₂ (λ (p q : ℤ). numberIn a 0 ∷ p ∷ q ∷ []) poured-so taken-so ∙ numbers (a .carry) (fit .numbers) in
       same-lent flags parts masses fills carry
 
   -- ---- the reader's tests
-  long-so : length rec ≡ lengthOf n (interfaces n (flagOf (a .flags))) (liquids n (flagOf (a .flags)))
+  long-so : length rec ≡ lengthOf counts 3 n (interfaces n (flagOf (a .flags))) (19 * liquids n (flagOf (a .flags)))
   unfolding recordLength stateOf
   long-so = length-record s g t a (fit .lengths .flags)
 
@@ -466,7 +521,7 @@ module _ (s : Sides) (g : Settings) (t : Site) (a : Lent) (fit : Fit s g t a) wh
   is-sound : Sound rec
   unfolding recordOf stateOf
   is-sound =
-      let k = counts s g t (S .carry) (cellsBytes n (a .flags) (S .mass) (S .part)) in
+      let k = counted s g t (numberIn a 0) poured taken (cellsBytes n (a .flags) (S .mass) (S .part)) in
       let I = interfaces n (flagOf (a .flags)) in
       let L = liquids n (flagOf (a .flags)) in
       let e = long-so in
@@ -476,21 +531,26 @@ module _ (s : Sides) (g : Settings) (t : Site) (a : Lent) (fit : Fit s g t a) wh
         sides = ap sidesGood sides-so ∙ fit .sides;
         settings = record { count = k .1; inside = omega arith };
         origin = record { count = k .2; inside = omega arith };
-        carry = record { count = k .3; inside = omega arith };
-        flags = subst (λ (m : ℕ). Held rec 80 m 1) (sym cells-so) (record { count = count-five s g t (S .carry) n (a .flags) (S .mass) (S .part) l (omega (arith, few)); inside = omega arith });
+        totals = subst (λ (j : ℕ). Held rec (totalsFrom counts) j 8) (sym totals-so) (record { count = k .3; inside = omega arith });
+        flags =
+            subst (λ (j : ℕ). Held rec (cellsFrom counts j) (cellsIn rec) 1) (sym totals-so)
+            (subst (λ (m : ℕ). Held rec (cellsFrom counts 3) m 1) (sym cells-so)
+            (record { count = count-five head head-long n (a .flags) (S .mass) (S .part) l (omega (arith, few)); inside = omega arith }));
         tested =
             subst (λ (m : ℕ). m ≤ badFlag (gridOf (sidesIn rec)) (flagIn rec)) (sym cells-so)
             (le-trans (tests .0) (le-of-eq (ap₂ (λ (z : Sides) (o : List ℕ). badFlag (gridOf z) (flagOf o)) (sym sides-so) (sym flags-so) ∙ same-flags)));
         masses =
-            subst (λ (m : ℕ). Held rec (massesFrom m) (interfacesIn rec) 4) (sym cells-so)
-            (subst (λ (i : ℕ). Held rec (massesFrom n) i 4) (sym interfaces-so)
-            (record { count = count-six s g t (S .carry) n (a .flags) (S .mass) (S .part) l (omega (arith, few, few-interfaces)); inside = omega arith }));
+            subst (λ (j : ℕ). Held rec (massesFrom counts j (cellsIn rec)) (interfacesIn rec) 4) (sym totals-so)
+            (subst (λ (m : ℕ). Held rec (massesFrom counts 3 m) (interfacesIn rec) 4) (sym cells-so)
+            (subst (λ (i : ℕ). Held rec (massesFrom counts 3 n) i 4) (sym interfaces-so)
+            (record { count = count-six head head-long n (a .flags) (S .mass) (S .part) l (omega (arith, few, few-interfaces)); inside = omega arith })));
         parts =
-            subst (λ (m : ℕ). Held rec (partsFrom m (interfacesIn rec)) (19 * liquidsIn rec) 4) (sym cells-so)
-            (subst (λ (i : ℕ). Held rec (partsFrom n i) (19 * liquidsIn rec) 4) (sym interfaces-so)
-            (subst (λ (w : ℕ). Held rec (partsFrom n I) (19 * w) 4) (sym liquids-so)
-            (record { count = count-seven s g t (S .carry) n (a .flags) (S .mass) (S .part) l (omega (arith, few, few-liquids)); inside = omega arith })));
-        end = le-of-eq (e ∙ sym (ap₂ (λ (i w : ℕ). lengthOf (cellsIn rec) i w) interfaces-so liquids-so ∙ ap (λ (m : ℕ). lengthOf m I L) cells-so));
+            subst (λ (j : ℕ). Held rec (partsFrom counts j (cellsIn rec) (interfacesIn rec)) (19 * liquidsIn rec) 4) (sym totals-so)
+            (subst (λ (m : ℕ). Held rec (partsFrom counts 3 m (interfacesIn rec)) (19 * liquidsIn rec) 4) (sym cells-so)
+            (subst (λ (i : ℕ). Held rec (partsFrom counts 3 n i) (19 * liquidsIn rec) 4) (sym interfaces-so)
+            (subst (λ (w : ℕ). Held rec (partsFrom counts 3 n I) (19 * w) 4) (sym liquids-so)
+            (record { count = count-seven head head-long n (a .flags) (S .mass) (S .part) l (omega (arith, few, few-liquids)); inside = omega arith }))));
+        end = le-of-eq (e ∙ sym (ap₂ (λ (i w : ℕ). lengthOf counts (totalsIn rec) (cellsIn rec) i (19 * w)) interfaces-so liquids-so ∙ ap₂ (λ (j m : ℕ). lengthOf counts j m I (19 * L)) totals-so cells-so));
       }
     where
       same-flags : badFlag (gridOf (sidesIn rec)) (flagOf (flagsIn rec)) ≡ badFlag (gridOf (sidesIn rec)) (flagIn rec)
@@ -506,7 +566,10 @@ module _ (s : Sides) (g : Settings) (t : Site) (a : Lent) (fit : Fit s g t a) wh
       le-trans (le-of-eq cells-so) (le-trans (tests .1) (le-of-eq (ap₂ (λ (z : Sides) (o : List ℕ). badFluid 18 (gridOf z) (flagOf o)) (sym sides-so) (sym flags-so) ∙ fluid-in rec))) in
       let kept : suc m ≤ rules =
       subst (λ (k : ℕ). suc k ≤ badRule d3q19 k (stateIn rec)) (sym cells-so) (le-trans (tests .2) (le-of-eq (sym (bad-rule-same d3q19 n (stateIn rec) S same)))) in
-      or-pass 3 0 _ (ap₂ siteGood settings-so site-so ∙ fit .site) ∙ skip m 5 place (ifNone (suc m) 6 rules Done) shut ∙ skip (suc m) 6 rules Done kept
+      let totals = totalsGood (pouredIn rec) (takenIn rec) in
+      let last = orRefuse totals 6 m Done in
+      or-pass 3 0 _ (ap₂ siteGood settings-so site-so ∙ fit .site) ∙ skip m 5 place (ifNone (suc m) 6 rules last) shut ∙ skip (suc m) 6 rules last kept
+      ∙ or-pass 6 m Done (ap₂ totalsGood poured-so taken-so ∙ fit .totals)
     where
       same : Same (d3q19 .q) n (stateIn rec) S
       same = lattice-same
@@ -523,5 +586,5 @@ read-back s g t a room b done fits =
     let yes-it : accepted (readAnswer r b) ≡ true = done-accepted (readAnswer r b) ok in (
       rw yes-it (head-same (sides-so s g t a fit) (settings-so s g t a fit) (site-so s g t a fit)),
       rw yes-it (flags-so s g t a fit),
-      rw yes-it (ap (λ (m : ℕ). lentOf 18 m (stateIn r)) (cells-so s g t a fit) ∙ lists-so s g t a fit),
+      rw yes-it (ap (λ (m : ℕ). withTotals (lentOf 18 m (stateIn r)) (pouredIn r) (takenIn r)) (cells-so s g t a fit) ∙ lists-so s g t a fit),
     )

@@ -1,8 +1,9 @@
--- An accepted record is written back as the same bytes: what the reader hands back, with the slices that it filled, has the record r itself as its
--- record. The one idea: each number of the record is the part of r that it was read from, and parts that follow each other join. Assumes nothing.
+-- An accepted record whose section 4 has three numbers is written back as the same bytes: what the reader hands back, with the slices that it filled,
+-- has the record r itself as its record. One with a single number there gets the count 3 and sixteen bytes of 0 behind its carry, and nothing else changes.
+-- The one idea: each number of the record is the part of r that it was read from, and parts that follow each other join. Assumes nothing.
 use mathlib.Core.Path.{_≡_, refl, sym, ap, ap₂, _∙_, subst}
 use mathlib.Core.Bool.{Bool, true, false, cond}
-use mathlib.Core.List.{List, [], _∷_, _++_, append-nil}
+use mathlib.Core.List.{List, [], _∷_, _++_, append-assoc}
 use mathlib.Core.Logic.{_⊎_, inl, inr, ⊎-elim}
 use Prim.Native.Nat.{ℕ, zero, suc, _+_, _*_, _^_, _≤_, _<_}
 use native.Mathlib.Nat.{le-step, lt-suc-self, le-trans, le-refl}
@@ -10,7 +11,7 @@ use native.Mathlib.Numerals.{add-one}
 use native.Mathlib.Omega.{arith}
 use lib.Dec.{eqb}
 use lib.IntN.{ℤ, pos}
-use lib.ListN.{length, getD, take, drop, length-drop, List·getD-eq-default}
+use lib.ListN.{length, getD, take, drop, replicate, length-drop, List·getD-eq-default}
 use lib.Seq.{take-add, take-all, drop-drop, length-take-le, getD-take, getD-drop}
 use borrow.Author.Tests.{ne-eqb}
 use mir.Syntax.{w32, w64}
@@ -25,13 +26,24 @@ use Rattle.grid.specs.Grid.{cellsOf}
 use Rattle.grid.proofs.Accepted.{done-accepted}
 use Rattle.grid.proofs.Listed.{same-listed}
 use Rattle.record.specs.Bytes.{bytesOf, value, part, u32At, i32At, i64At, u32Of, i32Of, i64Of, join, gathered}
-use Rattle.record.specs.Layout.{section, interfaces, liquids, massBytes, cellBytes, partBytes, massesFrom, partsFrom, lengthOf, headBytes, cellsBytes, recordOf}
-use Rattle.record.specs.Reading.{sidesIn, settingsIn, siteIn, carryIn, cellsIn, flagsIn, flagIn, interfacesIn, liquidsIn, massAt, partAt, massIn, partIn, stateIn, readAnswer, readHead, readFlags, readSet}
+use Rattle.record.specs.Places.{counts, totalsFrom, cellsFrom, massesFrom, partsFrom, lengthOf}
+use Rattle.record.specs.Layout.{section, interfaces, liquids, massBytes, cellBytes, partBytes, siteBytes, totalsBytes, headBytes, cellsBytes, recordOf}
+use Rattle.record.specs.Reading.{sidesIn, settingsIn, siteIn, totalsIn, carryIn, pouredIn, takenIn, flagsAt, cellsIn, flagsIn, flagIn, interfacesIn, liquidsIn, massAt, partAt, massIn, partIn, stateIn, readAnswer, readHead, readFlags, readSet}
+use Rattle.record.specs.Back.{writtenBack}
 use Rattle.record.specs.Passes.{Held, Sound}
 use Rattle.record.proofs.Numbers.{Bytes, bytesOf-value, again}
 use Rattle.record.proofs.Shaped.{sound, shape-accepted}
+use Rattle.record.proofs.FlagPart.{totals-cases}
 use Rattle.record.proofs.Gathered.{count-le}
 use Rattle.record.proofs.ByFlag.{by-liquid}
+
+-- one number made three
+abbrev upgraded : List ℕ → List ℕ
+upgraded r = take (totalsFrom counts) r ++ (u32Of 3 ++ (part 8 (totalsFrom counts + 4) r ++ (replicate 16 0 ++ drop (cellsFrom counts 1) r)))
+
+one-upgraded : (r : List ℕ) → totalsIn r ≡ 1 → writtenBack r ≡ upgraded r
+unfolding writtenBack
+one-upgraded r e = ap (λ (n : ℕ). cond (eqb n 3) r (upgraded r)) e
 
 -- the grid that the reader hands back
 abbrev pub gridRead : List ℕ → Lent → Lent
@@ -39,7 +51,12 @@ gridRead r b = record { flags = readFlags r b; parts = readSet r b .parts; masse
 
 -- the claim
 abbrev pub Claim : Type 0
-Claim = (r : List ℕ) (b : Lent) → Bytes r → readAnswer r b ≡ Done → recordOf (readHead r b .sides) (readHead r b .settings) (readHead r b .site) (gridRead r b) ≡ r
+Claim = (r : List ℕ) (b : Lent) → Bytes r → readAnswer r b ≡ Done → recordOf (readHead r b .sides) (readHead r b .settings) (readHead r b .site) (gridRead r b) ≡ writtenBack r
+
+-- with three numbers, the same bytes
+pub three-same : (r : List ℕ) → totalsIn r ≡ 3 → writtenBack r ≡ r
+unfolding writtenBack
+three-same r e = ap (λ (n : ℕ). cond (eqb n 3) r (upgraded r)) e
 
 -- ---- parts of a record, one after the other
 module _ (r : List ℕ) where
@@ -80,11 +97,11 @@ module _ (r : List ℕ) (bytes : Bytes r) where
   count-again : (i n size : ℕ) → Held r i n size → u32Of n ≡ part 4 i r
   count-again i n size h = ap u32Of (sym (h .count)) ∙ word-again i (omega (arith, h .inside))
 
-  -- ---- sections 1 to 4
-  head-again : Sound r → headBytes (sidesIn r) (settingsIn r) (siteIn r) (carryIn r) ≡ part 80 0 r
-  unfolding headBytes join sidesIn settingsIn siteIn carryIn
+  -- ---- sections 1 to 3
+  head-again : Sound r → siteBytes (sidesIn r) (settingsIn r) (siteIn r) ≡ part (totalsFrom counts) 0 r
+  unfolding siteBytes join sidesIn settingsIn siteIn
   head-again s =
-      let h = s .carry .inside in
+      let h = s .origin .inside in
       let one = joined r 0 4 4 12 refl (count-again 0 3 4 (s .first)) (joined r 4 4 8 8 refl (word-again 4 (omega arith)) (joined r 8 4 12 4 refl (word-again 8 (omega arith)) (joined r 12 4 16 0 refl (word-again 12 (omega arith)) refl))) in
       let two =
       joined r 16 4 20 20 refl (count-again 16 5 4 (s .settings))
@@ -94,8 +111,24 @@ module _ (r : List ℕ) (bytes : Bytes r) where
       let three =
       joined r 40 4 44 24 refl (count-again 40 3 8 (s .origin))
       (joined r 44 8 52 16 refl (long-again 44 (omega arith)) (joined r 52 8 60 8 refl (long-again 52 (omega arith)) (joined r 60 8 68 0 refl (long-again 60 (omega arith)) refl))) in
-      let four = joined r 68 4 72 8 refl (count-again 68 1 8 (s .carry)) (joined r 72 8 80 0 refl (long-again 72 (omega arith)) refl) in
-      joined r 0 16 16 64 refl one (joined r 16 24 40 40 refl two (joined r 40 28 68 12 refl three (joined r 68 12 80 0 refl four refl)))
+      joined r 0 16 16 52 refl one (joined r 16 24 40 28 refl two (joined r 40 28 68 0 refl three refl))
+
+  -- ---- section 4, with three numbers and with one
+  three-again : Sound r → totalsIn r ≡ 3 → totalsBytes (carryIn r) (pouredIn r) (takenIn r) ≡ part 28 (totalsFrom counts) r
+  unfolding totalsBytes join carryIn pouredIn takenIn
+  three-again s e =
+      let h = s .totals .inside in
+      let count : u32Of 3 ≡ part 4 68 r = ap u32Of (sym e) ∙ count-again 68 (totalsIn r) 8 (s .totals) in
+      let poured : i64Of (cond (eqb (totalsIn r) 3) (i64At r 80) (pos 0)) ≡ part 8 80 r = ap (λ (n : ℕ). i64Of (cond (eqb n 3) (i64At r 80) (pos 0))) e ∙ long-again 80 (omega arith) in
+      let taken : i64Of (cond (eqb (totalsIn r) 3) (i64At r 88) (pos 0)) ≡ part 8 88 r = ap (λ (n : ℕ). i64Of (cond (eqb n 3) (i64At r 88) (pos 0))) e ∙ long-again 88 (omega arith) in
+      joined r 68 4 72 24 refl count (joined r 72 8 80 16 refl (long-again 72 (omega arith)) (joined r 80 8 88 8 refl poured (joined r 88 8 96 0 refl taken refl)))
+
+  one-again : Sound r → totalsIn r ≡ 1 → totalsBytes (carryIn r) (pouredIn r) (takenIn r) ≡ u32Of 3 ++ (part 8 (totalsFrom counts + 4) r ++ replicate 16 0)
+  unfolding totalsBytes join carryIn pouredIn takenIn bytesOf
+  one-again s e =
+      let h = s .totals .inside in
+      let none : (z : ℤ) → i64Of (cond (eqb (totalsIn r) 3) z (pos 0)) ≡ replicate 8 0 = λ z. ap (λ (n : ℕ). i64Of (cond (eqb n 3) z (pos 0))) e in
+      ap₂ (λ (x y : List ℕ). u32Of 3 ++ (x ++ y)) (long-again 72 (omega arith)) (ap₂ (λ (x y : List ℕ). x ++ (y ++ [])) (none (i64At r 80)) (none (i64At r 88)))
 
   -- ---- sections 5 to 7: what is gathered from the cells is what they were read from
   gathered-again : (from size n : ℕ) (f : ℕ → List ℕ) (g : ℕ → Bool) → ((c : ℕ) → c < n → f c ≡ part (size * cond (g c) 1 0) (from + size * count c g) r)
@@ -134,53 +167,82 @@ module _ (r : List ℕ) (bytes : Bytes r) where
     abbrev N : ℕ
     N = cellsIn r
 
+    abbrev K : ℕ
+    K = totalsIn r
+
     abbrev F : ℕ → ℕ
     F = flagOf (flagsIn r)
 
-    masses-again : massBytes N F mass ≡ part (4 * interfaces N F) (massesFrom N + 4) r
+    masses-again : massBytes N F mass ≡ part (4 * interfaces N F) (massesFrom counts K N + 4) r
     unfolding massBytes interfaces interfacesIn flagIn massIn massAt count
     masses-again =
-        gathered-again (massesFrom N + 4) 4 N (λ c. byFlag (F c) [] (i32Of (mass c)) [] []) (λ c. eqb (F c) 1)
-        (λ c h. mass-again (F c) (massesFrom N + 4 + 4 * count c (λ a. eqb (F a) 1)) (mass c) (λ e. ms c h ∙ is c e) (omega (arith, room c h, s .masses .inside)))
+        gathered-again (massesFrom counts K N + 4) 4 N (λ c. byFlag (F c) [] (i32Of (mass c)) [] []) (λ c. eqb (F c) 1)
+        (λ c h. mass-again (F c) (massesFrom counts K N + 4 + 4 * count c (λ a. eqb (F a) 1)) (mass c) (λ e. ms c h ∙ is c e) (omega (arith, room c h, s .masses .inside)))
       where
-        is : (c : ℕ) → F c ≡ 1 → massIn r c ≡ i32At r (massesFrom N + 4 + 4 * count c (λ a. eqb (F a) 1))
+        is : (c : ℕ) → F c ≡ 1 → massIn r c ≡ i32At r (massesFrom counts K N + 4 + 4 * count c (λ a. eqb (F a) 1))
         is c e = rw e refl
 
         room : (c : ℕ) → c < N → count c (λ a. eqb (F a) 1) + cond (eqb (F c) 1) 1 0 ≤ count N (λ a. eqb (F a) 1)
         room c h = count-le (λ a. eqb (F a) 1) (suc c) N h
 
-    liquids-again : partBytes N F p ≡ part (76 * liquids N F) (partsFrom N (interfacesIn r) + 4) r
+    liquids-again : partBytes N F p ≡ part (76 * liquids N F) (partsFrom counts K N (interfacesIn r) + 4) r
     unfolding partBytes liquids liquidsIn flagIn partIn partAt count
     liquids-again =
-        gathered-again (partsFrom N (interfacesIn r) + 4) 76 N (λ c. byFlag (F c) [] (cellBytes (p c)) (cellBytes (p c)) []) (λ c. liquid (F c))
-        (λ c h. parts-again (F c) (partsFrom N (interfacesIn r) + 4 + 76 * count c (λ a. liquid (F a))) (p c) (λ e k l. ps c k h (omega arith) ∙ is c k e) (omega (arith, room c h, s .parts .inside)))
+        gathered-again (partsFrom counts K N (interfacesIn r) + 4) 76 N (λ c. byFlag (F c) [] (cellBytes (p c)) (cellBytes (p c)) []) (λ c. liquid (F c))
+        (λ c h. parts-again (F c) (partsFrom counts K N (interfacesIn r) + 4 + 76 * count c (λ a. liquid (F a))) (p c) (λ e k l. ps c k h (omega arith) ∙ is c k e) (omega (arith, room c h, s .parts .inside)))
       where
-        is : (c k : ℕ) → liquid (F c) ≡ true → partIn r c k ≡ i32At r (partsFrom N (interfacesIn r) + 4 + 76 * count c (λ a. liquid (F a)) + 4 * k)
+        is : (c k : ℕ) → liquid (F c) ≡ true → partIn r c k ≡ i32At r (partsFrom counts K N (interfacesIn r) + 4 + 76 * count c (λ a. liquid (F a)) + 4 * k)
         is c k e =
             by-liquid (F c) (partAt r c k) e
-            ∙ ap (i32At r) (let q : partsFrom N (interfacesIn r) + 4 + 4 * (19 * count c (λ a. liquid (F a)) + k) ≡ partsFrom N (interfacesIn r) + 4 + 76 * count c (λ a. liquid (F a)) + 4 * k = omega arith in q)
+            ∙ ap (i32At r) (let q : partsFrom counts K N (interfacesIn r) + 4 + 4 * (19 * count c (λ a. liquid (F a)) + k) ≡ partsFrom counts K N (interfacesIn r) + 4 + 76 * count c (λ a. liquid (F a)) + 4 * k = omega arith in q)
 
         room : (c : ℕ) → c < N → count c (λ a. liquid (F a)) + cond (liquid (F c)) 1 0 ≤ count N (λ a. liquid (F a))
         room c h = count-le (λ a. liquid (F a)) (suc c) N h
 
-    -- the three sections, and with the first four the whole record
-    cells-again : cellsBytes N (flagsIn r) mass p ≡ part (4 + (N + 0) + (4 + (4 * interfacesIn r + 0) + (4 + (76 * liquidsIn r + 0) + 0))) 80 r
+    -- the three sections
+    abbrev rest : ℕ
+    rest = 4 + (N + 0) + (4 + (4 * interfacesIn r + 0) + (4 + (76 * liquidsIn r + 0) + 0))
+
+    cells-again : cellsBytes N (flagsIn r) mass p ≡ part rest (cellsFrom counts K) r
     unfolding cellsBytes join interfacesIn liquidsIn flagIn flagsIn
     cells-again =
         let I = interfaces N F in
         let L = liquids N F in
-        joined r 80 (4 + (N + 0)) (massesFrom N) (4 + (4 * I + 0) + (4 + (76 * L + 0) + 0)) (omega arith)
-        (joined r 80 4 84 (N + 0) refl (count-again 80 N 1 (s .flags)) (joined r 84 N (84 + N) 0 refl refl refl))
-        (joined r (massesFrom N) (4 + (4 * I + 0)) (partsFrom N I) (4 + (76 * L + 0) + 0) (omega arith)
-        (joined r (massesFrom N) 4 (massesFrom N + 4) (4 * I + 0) refl (count-again (massesFrom N) I 4 (s .masses)) (joined r (massesFrom N + 4) (4 * I) (massesFrom N + 4 + 4 * I) 0 refl masses-again refl))
-        (joined r (partsFrom N I) (4 + (76 * L + 0)) (lengthOf N I L) 0 (omega arith)
-        (joined r (partsFrom N I) 4 (partsFrom N I + 4) (76 * L + 0) refl (count-again (partsFrom N I) (19 * L) 4 (s .parts)) (joined r (partsFrom N I + 4) (76 * L) (partsFrom N I + 4 + 76 * L) 0 refl liquids-again refl))
+        let from = cellsFrom counts K in
+        let masses = massesFrom counts K N in
+        let parts = partsFrom counts K N I in
+        joined r from (4 + (N + 0)) masses (4 + (4 * I + 0) + (4 + (76 * L + 0) + 0)) (omega arith)
+        (joined r from 4 (flagsAt r) (N + 0) refl (count-again from N 1 (s .flags)) (joined r (flagsAt r) N (flagsAt r + N) 0 refl refl refl))
+        (joined r masses (4 + (4 * I + 0)) parts (4 + (76 * L + 0) + 0) (omega arith)
+        (joined r masses 4 (masses + 4) (4 * I + 0) refl (count-again masses I 4 (s .masses)) (joined r (masses + 4) (4 * I) (masses + 4 + 4 * I) 0 refl masses-again refl))
+        (joined r parts (4 + (76 * L + 0)) (lengthOf counts K N I (19 * L)) 0 (omega arith)
+        (joined r parts 4 (parts + 4) (76 * L + 0) refl (count-again parts (19 * L) 4 (s .parts)) (joined r (parts + 4) (76 * L) (parts + 4 + 76 * L) 0 refl liquids-again refl))
         refl))
 
-    whole-again : headBytes (sidesIn r) (settingsIn r) (siteIn r) (carryIn r) ++ cellsBytes N (flagsIn r) mass p ≡ r
-    whole-again =
-        joined r 0 80 80 (4 + (N + 0) + (4 + (4 * interfacesIn r + 0) + (4 + (76 * liquidsIn r + 0) + 0))) refl (head-again s) cells-again
-        ∙ take-all (80 + (4 + (N + 0) + (4 + (4 * interfacesIn r + 0) + (4 + (76 * liquidsIn r + 0) + 0)))) r (omega (arith, s .end))
+    -- they reach the record's end
+    cells-rest : cellsBytes N (flagsIn r) mass p ≡ drop (cellsFrom counts K) r
+    cells-rest = cells-again ∙ take-all rest (drop (cellsFrom counts K) r) (omega (arith, s .end, length-drop (cellsFrom counts K) r))
+
+    abbrev written : List ℕ
+    written = headBytes (sidesIn r) (settingsIn r) (siteIn r) (carryIn r) (pouredIn r) (takenIn r) ++ cellsBytes N (flagsIn r) mass p
+
+    -- with the first four the whole record
+    whole-again : K ≡ 3 → written ≡ r
+    unfolding headBytes
+    whole-again e =
+        joined r 0 96 (cellsFrom counts K) rest (omega arith) (joined r 0 68 68 28 refl (head-again s) (three-again s e)) cells-again
+        ∙ take-all (96 + rest) r (omega (arith, s .end))
+
+    whole-more : K ≡ 1 → written ≡ upgraded r
+    unfolding headBytes
+    whole-more e =
+        ap₂ (λ (x y : List ℕ). (x ++ y) ++ cellsBytes N (flagsIn r) mass p) (head-again s) (one-again s e)
+        ∙ ap (λ (z : List ℕ). (take 68 r ++ (u32Of 3 ++ (part 8 72 r ++ replicate 16 0))) ++ z) (cells-rest ∙ ap (λ (k : ℕ). drop (cellsFrom counts k) r) e)
+        ∙ append-assoc (take 68 r) (u32Of 3 ++ (part 8 72 r ++ replicate 16 0)) (drop 80 r)
+        ∙ ap (λ (z : List ℕ). take 68 r ++ z) (append-assoc (u32Of 3) (part 8 72 r ++ replicate 16 0) (drop 80 r) ∙ ap (λ (z : List ℕ). u32Of 3 ++ z) (append-assoc (part 8 72 r) (replicate 16 0) (drop 80 r)))
+
+    back : written ≡ writtenBack r
+    back = ⊎-elim (λ e. whole-more e ∙ sym (one-upgraded r e)) (λ e. whole-again e ∙ sym (three-same r e)) (totals-cases r)
 
 pub same-bytes : Claim
 unfolding readHead readFlags readSet recordOf stateOf lentOf stateIn carryIn cellsIn
@@ -189,5 +251,5 @@ same-bytes r b bytes done =
     let same = same-listed 18 (cellsIn r) (stateIn r) in
     let s = sound r (length (b .parts)) (length (b .masses)) (length (b .fills)) (length (b .carry)) (shape-accepted r b ok) in
     rw ok
-    (whole-again r bytes s (stateOf 18 (lentOf 18 (cellsIn r) (stateIn r)) .mass) (stateOf 18 (lentOf 18 (cellsIn r) (stateIn r)) .part)
+    (back r bytes s (stateOf 18 (lentOf 18 (cellsIn r) (stateIn r)) .mass) (stateOf 18 (lentOf 18 (cellsIn r) (stateIn r)) .part)
     (λ c h. sym (same .masses c h)) (λ c k h l. sym (same .parts c k h l)))

@@ -24,10 +24,11 @@ use Rattle.grid.specs.declared.Answer.the-variants.{Done, Refused}
 use Rattle.grid.specs.Grid.{Grid, sidesGood, cellsOf, gridOf}
 use Rattle.grid.specs.State.{Lent, State, stateOf}
 use Rattle.grid.specs.Good.{badFlag, badFluid, badRule}
-use Rattle.grid.specs.Outcome.{accepted, orRefuse, ifNone, goodAnswer, lengthsGood, settingsGood}
+use Rattle.grid.specs.Outcome.{accepted, orRefuse, ifNone, goodAnswer, settingsGood}
 use Rattle.grid.specs.Between.{Sized}
-use Rattle.grid.proofs.Prepared.{sized}
 use Rattle.grid.proofs.Accepted.{accepted-done, done-accepted}
+use Rattle.pumps.specs.Three.{numberIn, headOf, totalsGood, threeLengths, threeGood}
+use Rattle.pumps.proofs.Checked.{carry-three, head-sized}
 use Rattle.record.specs.declared.Site.{Site}
 use Rattle.record.specs.declared.Written.{Written}
 use Rattle.record.specs.Layout.{siteGood, Small, recordOf, recordLength}
@@ -75,41 +76,54 @@ chain-good L G s =
     chain-then (ifNone n 4 four) (λ rest. ifNone n 5 five (ifNone (suc n) 6 six rest)) (chain-or (leb n four) 4 four)
     (chain-then (ifNone n 5 five) (ifNone (suc n) 6 six) (chain-or (leb n five) 5 five) (chain-or (leb (suc n) six) 6 six))
 
+-- tests 4 to 6, poured and taken with them
+chain-three : (s : Sides) (a : Lent) → Chain (threeGood s a)
+chain-three s a =
+    let T = totalsGood (numberIn a 1) (numberIn a 2) in
+    chain-then (goodAnswer d3q19 (gridOf s) (stateOf 18 a)) (orRefuse T 6 (cellsOf s)) (chain-good d3q19 (gridOf s) (stateOf 18 a)) (chain-or T 6 (cellsOf s))
+
 module _ (s : Sides) (g : Settings) (t : Site) (a : Lent) where
   abbrev pub fits : Answer → Answer
-  fits rest = orRefuse (sidesGood s) 1 0 (orRefuse (lengthsGood (cellsOf s) a) 2 0 (orRefuse (siteGood g t) 3 0 (goodAnswer d3q19 (gridOf s) (stateOf 18 a) rest)))
+  fits rest = orRefuse (sidesGood s) 1 0 (orRefuse (threeLengths (cellsOf s) a) 2 0 (orRefuse (siteGood g t) 3 0 (threeGood s a rest)))
 
   pub chain-fits : Chain fits
   chain-fits =
       let S = sidesGood s in
-      let A = lengthsGood (cellsOf s) a in
+      let A = threeLengths (cellsOf s) a in
       let T = siteGood g t in
-      let G = goodAnswer d3q19 (gridOf s) (stateOf 18 a) in
+      let G = threeGood s a in
       chain-then (orRefuse S 1 0) (λ rest. orRefuse A 2 0 (orRefuse T 3 0 (G rest))) (chain-or S 1 0)
       (chain-then (orRefuse A 2 0) (λ rest. orRefuse T 3 0 (G rest)) (chain-or A 2 0)
-      (chain-then (orRefuse T 3 0) G (chain-or T 3 0) (chain-good d3q19 (gridOf s) (stateOf 18 a))))
+      (chain-then (orRefuse T 3 0) G (chain-or T 3 0) (chain-three s a)))
 
   -- a grid that passed them
   pub record Fit : Type 0 where
     pub sides : sidesGood s ≡ true
-    pub lengths : Sized (cellsOf s) a
+    pub lengths : Sized (cellsOf s) (headOf a)
+    pub numbers : length (a .carry) ≡ 3
     pub site : siteGood g t ≡ true
     pub good : goodAnswer d3q19 (gridOf s) (stateOf 18 a) Done ≡ Done
+    pub totals : totalsGood (numberIn a 1) (numberIn a 2) ≡ true
 
   pub fit : accepted (fits Done) ≡ true → Fit
   fit e =
       let S = sidesGood s in
-      let A = lengthsGood (cellsOf s) a in
+      let A = threeLengths (cellsOf s) a in
       let T = siteGood g t in
-      let G = goodAnswer d3q19 (gridOf s) (stateOf 18 a) in
+      let G = threeGood s a in
+      let K = goodAnswer d3q19 (gridOf s) (stateOf 18 a) in
+      let P = totalsGood (numberIn a 1) (numberIn a 2) in
       let one = chain-both (orRefuse S 1 0) (λ rest. orRefuse A 2 0 (orRefuse T 3 0 (G rest))) (chain-or S 1 0) e in
       let two = chain-both (orRefuse A 2 0) (λ rest. orRefuse T 3 0 (G rest)) (chain-or A 2 0) (one .1) in
       let three = chain-both (orRefuse T 3 0) G (chain-or T 3 0) (two .1) in
+      let four = chain-both K (orRefuse P 6 (cellsOf s)) (chain-good d3q19 (gridOf s) (stateOf 18 a)) (three .1) in
       record {
         sides = or-true S 1 0 (one .0);
-        lengths = sized (cellsOf s) a (or-true A 2 0 (two .0));
+        lengths = head-sized s a (or-true A 2 0 (two .0));
+        numbers = carry-three s a (or-true A 2 0 (two .0));
         site = or-true T 3 0 (three .0);
-        good = accepted-done (G Done) (three .1);
+        good = accepted-done (K Done) (four .0);
+        totals = or-true P 6 (cellsOf s) (four .1);
       }
 
   module _ (room : List ℕ) where

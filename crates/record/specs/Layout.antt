@@ -13,7 +13,9 @@ use Rattle.grid.specs.Grid.{cellsOf}
 use Rattle.grid.specs.State.{Lent, stateOf, byFlag, liquid}
 use Rattle.grid.specs.Outcome.{settingsGood}
 use Rattle.grid.specs.Passes.{flagOf}
+use Rattle.pumps.specs.Three.{numberIn}
 use Rattle.record.specs.declared.Site.{Site}
+use Rattle.record.specs.Places.{counts, lengthOf}
 use Rattle.record.specs.Bytes.{u32Of, i32Of, i64Of, join, gathered}
 
 -- p, gravity, cell edge and origin coordinates in their ranges: what refusal 3 asks of a record
@@ -26,16 +28,6 @@ interfaces n flag = count n (λ c. eqb (flag c) 1)
 
 unfoldable pub liquids : ℕ → (ℕ → ℕ) → ℕ
 liquids n flag = count n (λ c. liquid (flag c))
-
--- the byte where each section begins, that of its count: 0, 16, 40, 68, 80, 84 + N, 88 + N + 4I; and the record's length
-abbrev pub massesFrom : ℕ → ℕ
-massesFrom n = 84 + n
-
-abbrev pub partsFrom : ℕ → ℕ → ℕ
-partsFrom n i = 88 + n + 4 * i
-
-abbrev pub lengthOf : ℕ → ℕ → ℕ → ℕ
-lengthOf n i l = 92 + n + 4 * i + 76 * l
 
 -- a section: its count of numbers, then the numbers
 abbrev pub section : ℕ → List (List ℕ) → List ℕ
@@ -52,15 +44,21 @@ cellBytes part = gathered 19 (λ k. i32Of (part k))
 unfoldable pub partBytes : ℕ → (ℕ → ℕ) → (ℕ → ℕ → ℤ) → List ℕ
 partBytes n flag part = gathered n (λ c. byFlag (flag c) [] (cellBytes (part c)) (cellBytes (part c)) [])
 
--- sections 1 to 4: 3 sides (u32); 5 settings p, gx, gy, gz, edge (i32); 3 origin (i64); 1 carry (i64)
-unfoldable pub headBytes : Sides → Settings → Site → ℤ → List ℕ
-headBytes s g t carry =
+-- sections 1 to 3: 3 sides (u32); 5 settings p, gx, gy, gz, edge (i32); 3 origin (i64)
+unfoldable pub siteBytes : Sides → Settings → Site → List ℕ
+siteBytes s g t =
     join (
-    section 3 (u32Of (s .nx) ∷ u32Of (s .ny) ∷ u32Of (s .nz) ∷ [])
-    ∷ section 5 (i32Of (g .p) ∷ i32Of (g .gx) ∷ i32Of (g .gy) ∷ i32Of (g .gz) ∷ i32Of (t .edge) ∷ [])
-    ∷ section 3 (i64Of (t .x) ∷ i64Of (t .y) ∷ i64Of (t .z) ∷ [])
-    ∷ section 1 (i64Of carry ∷ [])
+    section (counts .sides) (u32Of (s .nx) ∷ u32Of (s .ny) ∷ u32Of (s .nz) ∷ [])
+    ∷ section (counts .settings) (i32Of (g .p) ∷ i32Of (g .gx) ∷ i32Of (g .gy) ∷ i32Of (g .gz) ∷ i32Of (t .edge) ∷ [])
+    ∷ section (counts .origin) (i64Of (t .x) ∷ i64Of (t .y) ∷ i64Of (t .z) ∷ [])
     ∷ [])
+
+-- section 4: carry, poured, taken (i64)
+unfoldable pub totalsBytes : ℤ → ℤ → ℤ → List ℕ
+totalsBytes carry poured taken = section 3 (i64Of carry ∷ i64Of poured ∷ i64Of taken ∷ [])
+
+unfoldable pub headBytes : Sides → Settings → Site → ℤ → ℤ → ℤ → List ℕ
+headBytes s g t carry poured taken = siteBytes s g t ++ totalsBytes carry poured taken
 
 -- sections 5 to 7: N flags (u8); interface masses; parts of liquid cells
 unfoldable pub cellsBytes : ℕ → List ℕ → (ℕ → ℤ) → (ℕ → ℕ → ℤ) → List ℕ
@@ -73,11 +71,13 @@ cellsBytes n flags mass part =
 
 -- the record of a grid
 unfoldable pub recordOf : Sides → Settings → Site → Lent → List ℕ
-recordOf s g t a = let h = stateOf 18 a in headBytes s g t (h .carry) ++ cellsBytes (cellsOf s) (a .flags) (h .mass) (h .part)
+recordOf s g t a =
+    let h = stateOf 18 a in
+    headBytes s g t (numberIn a 0) (numberIn a 1) (numberIn a 2) ++ cellsBytes (cellsOf s) (a .flags) (h .mass) (h .part)
 
--- its length, 92 + N + 4I + 76L
+-- its length, 108 + N + 4I + 76L
 unfoldable pub recordLength : Sides → Lent → ℕ
-recordLength s a = lengthOf (cellsOf s) (interfaces (cellsOf s) (stateOf 18 a .flag)) (liquids (cellsOf s) (stateOf 18 a .flag))
+recordLength s a = lengthOf counts 3 (cellsOf s) (interfaces (cellsOf s) (stateOf 18 a .flag)) (19 * liquids (cellsOf s) (stateOf 18 a .flag))
 
 -- settings that fit the record's numbers, as those in their ranges do
 pub record Small (g : Settings) (t : Site) : Type 0 where
@@ -89,5 +89,5 @@ pub record Small (g : Settings) (t : Site) : Type 0 where
 
 -- names every definition of this file: whoever unfolds this computes with all of them
 unfoldable pub open-layout : Unit {0}
-unfolding siteGood interfaces liquids massBytes cellBytes partBytes headBytes cellsBytes recordOf recordLength
+unfolding siteGood interfaces liquids massBytes cellBytes partBytes siteBytes totalsBytes headBytes cellsBytes recordOf recordLength
 open-layout = tt

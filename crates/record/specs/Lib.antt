@@ -1,6 +1,8 @@
 pub mod Bytes
+pub mod Places
 pub mod Layout
 pub mod Reading
 pub mod Writing
+pub mod Back
 pub mod Passes
 pub mod Promise

@@ -12,13 +12,14 @@ use Rattle.lattice.specs.Lattice.{d3q19, density}
 use Rattle.lattice.specs.Cell.{massGood}
 use Rattle.lattice.specs.Body.{bodyGood}
 use Rattle.grid.specs.Grid.{sidesGood, gridOf}
-use Rattle.grid.specs.State.{byFlag, liquid, lentOf}
+use Rattle.grid.specs.State.{byFlag, liquid}
 use Rattle.grid.specs.Step.{fillFor}
 use Rattle.grid.specs.Good.{badFlag}
 use Rattle.grid.specs.Passes.{flagOf}
 use Rattle.record.specs.Bytes.{u32At, i32At}
-use Rattle.record.specs.Layout.{interfaces, liquids, massesFrom, partsFrom, lengthOf}
-use Rattle.record.specs.Reading.{sidesIn, cellsIn, flagIn, interfacesIn, liquidsIn, stateIn}
+use Rattle.record.specs.Places.{counts, settingsFrom, originFrom, totalsFrom, cellsFrom, massesFrom, partsFrom, lengthOf}
+use Rattle.record.specs.Layout.{interfaces, liquids}
+use Rattle.record.specs.Reading.{sidesIn, totalsIn, cellsIn, flagIn, interfacesIn, liquidsIn, setIn}
 
 -- a section of n numbers is there: its count, and its bytes
 pub record Held (r : List ℕ) (from n size : ℕ) : Type 0 where
@@ -27,16 +28,16 @@ pub record Held (r : List ℕ) (from n size : ℕ) : Type 0 where
 
 -- a record whose sections, sides and flags passed, with no byte past its end
 pub record Sound (r : List ℕ) : Type 0 where
-  pub first : Held r 0 3 4
+  pub first : Held r 0 (counts .sides) 4
   pub sides : sidesGood (sidesIn r) ≡ true
-  pub settings : Held r 16 5 4
-  pub origin : Held r 40 3 8
-  pub carry : Held r 68 1 8
-  pub flags : Held r 80 (cellsIn r) 1
+  pub settings : Held r (settingsFrom counts) (counts .settings) 4
+  pub origin : Held r (originFrom counts) (counts .origin) 8
+  pub totals : Held r (totalsFrom counts) (totalsIn r) 8
+  pub flags : Held r (cellsFrom counts (totalsIn r)) (cellsIn r) 1
   pub tested : cellsIn r ≤ badFlag (gridOf (sidesIn r)) (flagIn r)
-  pub masses : Held r (massesFrom (cellsIn r)) (interfacesIn r) 4
-  pub parts : Held r (partsFrom (cellsIn r) (interfacesIn r)) (19 * liquidsIn r) 4
-  pub end : length r ≤ lengthOf (cellsIn r) (interfacesIn r) (liquidsIn r)
+  pub masses : Held r (massesFrom counts (totalsIn r) (cellsIn r)) (interfacesIn r) 4
+  pub parts : Held r (partsFrom counts (totalsIn r) (cellsIn r) (interfacesIn r)) (19 * liquidsIn r) 4
+  pub end : length r ≤ lengthOf counts (totalsIn r) (cellsIn r) (interfacesIn r) (19 * liquidsIn r)
 
 -- the mass of an interface cell, and the parts of a liquid one
 abbrev pub heldMass : List ℕ → List ℕ → ℕ → ℕ → ℤ
@@ -63,10 +64,10 @@ pub record Loaded (rec flags : List ℕ) (from : ℕ) (parts masses : List ℤ) 
 
 -- the state of a record in the lent slices
 pub record Taken (r : List ℕ) (parts masses : List ℤ) (fills : List ℕ) (carry : List ℤ) : Type 0 where
-  pub parts-are : parts ≡ lentOf 18 (cellsIn r) (stateIn r) .parts
-  pub masses-are : masses ≡ lentOf 18 (cellsIn r) (stateIn r) .masses
-  pub fills-are : fills ≡ lentOf 18 (cellsIn r) (stateIn r) .fills
-  pub carry-is : carry ≡ lentOf 18 (cellsIn r) (stateIn r) .carry
+  pub parts-are : parts ≡ setIn r .parts
+  pub masses-are : masses ≡ setIn r .masses
+  pub fills-are : fills ≡ setIn r .fills
+  pub carry-is : carry ≡ setIn r .carry
 
 -- test 6 of one cell, of which only the record's own numbers can break a rule
 unfoldable pub fairBy : ℕ → ℤ → (ℕ → ℤ) → Bool

@@ -6,7 +6,7 @@ use Prim.Native.Nat.{ℕ, _+_, _-_}
 use denote.Ref.{RefT, now}
 use lib.Dec.{leb}
 use lib.IntN.{ℤ}
-use lib.ListN.{take, drop}
+use lib.ListN.{length, take, drop}
 use Rattle.lattice.specs.declared.Settings.{Settings}
 use Rattle.grid.specs.declared.Sides.{Sides}
 use Rattle.grid.specs.Grid.{sidesGood, cellsOf}
@@ -16,7 +16,7 @@ use Rattle.record.specs.declared.Site.{Site}
 use Rattle.record.specs.declared.Written.{Written}
 use Rattle.record.specs.declared.Head.{Head}
 use Rattle.record.specs.declared.Span.{Span}
-use Rattle.record.specs.Reading.{readHead, readSet}
+use Rattle.record.specs.Reading.{flagsAt, flagsFrom, readHead, readFlags, readSet}
 use Rattle.record.specs.Writing.{written, writtenRoom}
 
 -- the set that the reader is lent lacks the flags
@@ -31,16 +31,23 @@ pub record Read (r : List ℕ) (a : Lent) (head : Head) (parts masses : List ℤ
   pub fills-are : fills ≡ readSet r a .fills
   pub carry-is : carry ≡ readSet r a .carry
 
--- where the flag section of a head stands in bytes of this length; the part that a refusal, or a head of another record, hands back is empty
-abbrev pub spanOf : ℕ → Head → Span
-spanOf n h =
-    cond (accepted (h .answer) && sidesGood (h .sides) && leb (84 + cellsOf (h .sides)) n) (record { from = 84; to = 84 + cellsOf (h .sides) }) (record { from = 0; to = 0 })
+-- where the flag section of a head stands in a record's bytes, by the record's own count of section 4; the part that a refusal, or a head of another
+-- record, hands back is empty
+abbrev pub spanOf : List ℕ → Head → Span
+spanOf r h =
+    cond (accepted (h .answer) && sidesGood (h .sides) && leb (flagsAt r + cellsOf (h .sides)) (length r)) (record { from = flagsAt r; to = flagsAt r + cellsOf (h .sides) }) (record { from = 0; to = 0 })
 
 -- r is that part of the caller's bytes s, and no copy: it stands in the memory of s
 pub record Own (s : RefT (List ℕ)) (p : Span) (r : RefT (List ℕ)) : Type 0 where
   pub bytes : now r ≡ take (p .to - p .from) (drop (p .from) (now s))
   pub block : r .ptr .0 ≡ s .ptr .0
   pub place : r .ptr .1 ≡ s .ptr .1 + p .from
+
+-- the reader that hands the flags back: they are the record's flag section, empty beside a refusal, and stand in the memory of the record
+pub record Handed (s : RefT (List ℕ)) (a : Lent) (flags : RefT (List ℕ)) : Type 0 where
+  pub flags-are : now flags ≡ readFlags (now s) a
+  pub block : flags .ptr .0 ≡ s .ptr .0
+  pub place : flags .ptr .1 ≡ s .ptr .1 + flagsFrom (now s) a
 
 -- the writer: its answer with the record's length, and the room
 pub record Wrote (s : Sides) (g : Settings) (t : Site) (a : Lent) (room : List ℕ) (answer : Written) (after : List ℕ) : Type 0 where

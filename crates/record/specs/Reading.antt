@@ -16,32 +16,62 @@ use Rattle.grid.specs.Step.{fillFor}
 use Rattle.grid.specs.Good.{badFlag, badFluid, badRule}
 use Rattle.grid.specs.Outcome.{accepted, orRefuse, ifNone}
 use Rattle.grid.specs.Passes.{flagOf}
+use Rattle.pumps.specs.Three.{withTotals, totalsGood}
 use Rattle.record.specs.declared.Site.{Site}
 use Rattle.record.specs.declared.Head.{Head}
 use Rattle.record.specs.Bytes.{part, u32At, i32At, i64At}
-use Rattle.record.specs.Layout.{siteGood, interfaces, liquids, massesFrom, partsFrom, lengthOf}
+use Rattle.record.specs.Places.{past, counts, settingsFrom, originFrom, totalsFrom, cellsFrom, massesFrom, partsFrom}
+use Rattle.record.specs.Layout.{siteGood, interfaces, liquids}
 
 -- ---- what the sections hold, were they whole
 
--- sections 1 to 4: sides, settings, origin, carry
+-- number i of sections 1 to 4: sides, settings, origin, totals
+abbrev sideAt : List ℕ → ℕ → ℕ
+sideAt r i = u32At r (past 0 4 i)
+
+abbrev settingAt : List ℕ → ℕ → ℤ
+settingAt r i = i32At r (past (settingsFrom counts) 4 i)
+
+abbrev originAt : List ℕ → ℕ → ℤ
+originAt r i = i64At r (past (originFrom counts) 8 i)
+
+abbrev totalAt : List ℕ → ℕ → ℤ
+totalAt r i = i64At r (past (totalsFrom counts) 8 i)
+
 unfoldable pub sidesIn : List ℕ → Sides
-sidesIn r = record { nx = u32At r 4; ny = u32At r 8; nz = u32At r 12 }
+sidesIn r = record { nx = sideAt r 0; ny = sideAt r 1; nz = sideAt r 2 }
 
 unfoldable pub settingsIn : List ℕ → Settings
-settingsIn r = record { p = i32At r 20; gx = i32At r 24; gy = i32At r 28; gz = i32At r 32 }
+settingsIn r = record { p = settingAt r 0; gx = settingAt r 1; gy = settingAt r 2; gz = settingAt r 3 }
 
 unfoldable pub siteIn : List ℕ → Site
-siteIn r = record { edge = i32At r 36; x = i64At r 44; y = i64At r 52; z = i64At r 60 }
+siteIn r = record { edge = settingAt r 4; x = originAt r 0; y = originAt r 1; z = originAt r 2 }
+
+-- section 4: one number where its count says so, else three are asked for; with one, poured and taken are 0
+unfoldable pub totalsIn : List ℕ → ℕ
+totalsIn r = cond (leb (totalsFrom counts + 4) (length r) && eqb (u32At r (totalsFrom counts)) 1) 1 3
 
 unfoldable pub carryIn : List ℕ → ℤ
-carryIn r = i64At r 72
+carryIn r = totalAt r 0
 
--- section 5: the N flags from byte 84 on, and the flag of a cell
+abbrev pub laterIn : List ℕ → ℕ → ℤ
+laterIn r i = cond (eqb (totalsIn r) 3) (totalAt r i) (pos 0)
+
+unfoldable pub pouredIn : List ℕ → ℤ
+pouredIn r = laterIn r 1
+
+unfoldable pub takenIn : List ℕ → ℤ
+takenIn r = laterIn r 2
+
+-- section 5: the byte where its numbers begin, 84 or 100 by the count of section 4; the N flags, and the flag of a cell
+abbrev pub flagsAt : List ℕ → ℕ
+flagsAt r = cellsFrom counts (totalsIn r) + 4
+
 unfoldable pub cellsIn : List ℕ → ℕ
 cellsIn r = cellsOf (sidesIn r)
 
 unfoldable pub flagsIn : List ℕ → List ℕ
-flagsIn r = part (cellsIn r) 84 r
+flagsIn r = part (cellsIn r) (flagsAt r) r
 
 unfoldable pub flagIn : List ℕ → ℕ → ℕ
 flagIn r c = flagOf (flagsIn r) c
@@ -55,11 +85,11 @@ liquidsIn r = liquids (cellsIn r) (flagIn r)
 
 -- section 6: interface masses by cell number, so a cell's is past those of the interface cells before it
 unfoldable pub massAt : List ℕ → ℕ → ℤ
-massAt r c = i32At r (massesFrom (cellsIn r) + 4 + 4 * interfaces c (flagIn r))
+massAt r c = i32At r (massesFrom counts (totalsIn r) (cellsIn r) + 4 + 4 * interfaces c (flagIn r))
 
 -- section 7: parts of liquid cells by cell number, 19 each
 unfoldable pub partAt : List ℕ → ℕ → ℕ → ℤ
-partAt r c k = i32At r (partsFrom (cellsIn r) (interfacesIn r) + 4 + 4 * (19 * liquids c (flagIn r) + k))
+partAt r c k = i32At r (partsFrom counts (totalsIn r) (cellsIn r) (interfacesIn r) + 4 + 4 * (19 * liquids c (flagIn r) + k))
 
 -- the state: parts of wall and empty cells 0, fluid mass = ρ, fills worked out
 unfoldable pub partIn : List ℕ → ℕ → ℕ → ℤ
@@ -77,6 +107,10 @@ stateIn r = record {
   carry = carryIn r;
 }
 
+-- and the set that holds it, with poured and taken
+abbrev pub setIn : List ℕ → Lent
+setIn r = withTotals (lentOf 18 (cellsIn r) (stateIn r)) (pouredIn r) (takenIn r)
+
 -- ---- the tests, in the reader's order
 
 -- a section of n numbers of some size: not whole is 10 at its beginning, and its count is tested as soon as it is read, 11
@@ -86,35 +120,46 @@ whole r number from n size rest =
     (orRefuse (eqb (u32At r from) n) 11 number
     (orRefuse (leb (from + 4 + size * n) (length r)) 10 from rest))
 
+-- sections 6 and 7 of i masses and 19l parts, from the byte where section 6 begins, and that nothing follows
+abbrev pub ends : List ℕ → ℕ → ℕ → ℕ → Answer → Answer
+ends r from i l rest =
+    let parts = past from 4 i in
+    let end = past parts 4 (19 * l) in
+    whole r 6 from i 4
+    (whole r 7 parts (19 * l) 4
+    (orRefuse (leb (length r) end) 10 end rest))
+
+-- where they begin in a record
+abbrev pub behindFlags : List ℕ → ℕ
+behindFlags r = massesFrom counts (totalsIn r) (cellsIn r)
+
 -- test 2, by the lengths of parts, masses, fills and carry: the reader's set lacks the flags
 unfoldable pub slicesFit : ℕ → ℕ → ℕ → ℕ → ℕ → Bool
-slicesFit n parts masses fills carry = eqb parts (19 * n) && eqb masses n && eqb fills n && eqb carry 1
+slicesFit n parts masses fills carry = eqb parts (19 * n) && eqb masses n && eqb fills n && eqb carry 3
 
 -- the sections, after section 1 test 1 and 2, after section 5 test 4, and left-over bytes after section 7
 unfoldable pub shapeAnswer : List ℕ → ℕ → ℕ → ℕ → ℕ → Answer → Answer
 shapeAnswer r parts masses fills carry rest =
+    let k = totalsIn r in
     let n = cellsIn r in
-    let i = interfacesIn r in
-    let l = liquidsIn r in
-    whole r 1 0 3 4
+    whole r 1 0 (counts .sides) 4
     (orRefuse (sidesGood (sidesIn r)) 1 0
     (orRefuse (slicesFit n parts masses fills carry) 2 0
-    (whole r 2 16 5 4
-    (whole r 3 40 3 8
-    (whole r 4 68 1 8
-    (whole r 5 80 n 1
+    (whole r 2 (settingsFrom counts) (counts .settings) 4
+    (whole r 3 (originFrom counts) (counts .origin) 8
+    (whole r 4 (totalsFrom counts) k 8
+    (whole r 5 (cellsFrom counts k) n 1
     (ifNone n 4 (badFlag (gridOf (sidesIn r)) (flagIn r))
-    (whole r 6 (massesFrom n) i 4
-    (whole r 7 (partsFrom n i) (19 * l) 4
-    (orRefuse (leb (length r) (lengthOf n i l)) 10 (lengthOf n i l) rest))))))))))
+    (ends r (behindFlags r) (interfacesIn r) (liquidsIn r) rest))))))))
 
--- then 3, 5, 6
+-- then 3, 5, 6, and of poured and taken 6 at N
 unfoldable pub contentAnswer : List ℕ → Answer
 contentAnswer r =
     let n = cellsIn r in
     orRefuse (siteGood (settingsIn r) (siteIn r)) 3 0
     (ifNone n 5 (badFluid 18 (gridOf (sidesIn r)) (flagIn r))
-    (ifNone (suc n) 6 (badRule d3q19 n (stateIn r)) Done))
+    (ifNone (suc n) 6 (badRule d3q19 n (stateIn r))
+    (orRefuse (totalsGood (pouredIn r) (takenIn r)) 6 n Done)))
 
 unfoldable pub readAnswer : List ℕ → Lent → Answer
 readAnswer r a = shapeAnswer r (length (a .parts)) (length (a .masses)) (length (a .fills)) (length (a .carry)) (contentAnswer r)
@@ -137,16 +182,16 @@ readHead r a =
 
 -- the flag section, the caller's own bytes from `flagsFrom` on; a part returned beside a refusal is empty
 unfoldable pub flagsFrom : List ℕ → Lent → ℕ
-flagsFrom r a = cond (accepted (readAnswer r a)) 84 0
+flagsFrom r a = cond (accepted (readAnswer r a)) (flagsAt r) 0
 
 unfoldable pub readFlags : List ℕ → Lent → List ℕ
 readFlags r a = cond (accepted (readAnswer r a)) (flagsIn r) []
 
 -- the lent slices: the state read, or untouched; `flags` is no part of them
 unfoldable pub readSet : List ℕ → Lent → Lent
-readSet r a = cond (accepted (readAnswer r a)) (lentOf 18 (cellsIn r) (stateIn r)) a
+readSet r a = cond (accepted (readAnswer r a)) (setIn r) a
 
 -- names every definition of this file: whoever unfolds this computes with all of them
 unfoldable pub open-reading : Unit {0}
-unfolding sidesIn settingsIn siteIn carryIn cellsIn flagsIn flagIn interfacesIn liquidsIn massAt partAt partIn massIn stateIn whole slicesFit shapeAnswer contentAnswer readAnswer readHead flagsFrom readFlags readSet
+unfolding sidesIn settingsIn siteIn totalsIn carryIn pouredIn takenIn cellsIn flagsIn flagIn interfacesIn liquidsIn massAt partAt partIn massIn stateIn whole slicesFit shapeAnswer contentAnswer readAnswer readHead flagsFrom readFlags readSet
 open-reading = tt

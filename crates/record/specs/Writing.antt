@@ -4,14 +4,14 @@ use mathlib.Core.Bool.{Bool, true, false, cond}
 use mathlib.Core.List.{List, [], _∷_, _++_}
 use lib.Dec.{leb}
 use lib.ListN.{length, drop}
-use Rattle.lattice.specs.Lattice.{d3q19}
 use Rattle.lattice.specs.declared.Settings.{Settings}
 use Rattle.grid.specs.declared.Sides.{Sides}
 use Rattle.grid.specs.declared.Answer.{Answer}
 use Rattle.grid.specs.declared.Answer.the-variants.{Done, Refused}
-use Rattle.grid.specs.Grid.{cellsOf, sidesGood, gridOf}
-use Rattle.grid.specs.State.{Lent, stateOf}
-use Rattle.grid.specs.Outcome.{accepted, orRefuse, goodAnswer, lengthsGood}
+use Rattle.grid.specs.Grid.{cellsOf, sidesGood}
+use Rattle.grid.specs.State.{Lent}
+use Rattle.grid.specs.Outcome.{accepted, orRefuse}
+use Rattle.pumps.specs.Three.{threeLengths, threeGood}
 use Rattle.record.specs.declared.Site.{Site}
 use Rattle.record.specs.declared.Written.{Written}
 use Rattle.record.specs.Layout.{siteGood, recordOf, recordLength}
@@ -20,9 +20,9 @@ use Rattle.record.specs.Layout.{siteGood, recordOf, recordLength}
 unfoldable pub writeAnswer : Sides → Settings → Site → Lent → List ℕ → Answer
 writeAnswer s g t a room =
     orRefuse (sidesGood s) 1 0
-    (orRefuse (lengthsGood (cellsOf s) a) 2 0
+    (orRefuse (threeLengths (cellsOf s) a) 2 0
     (orRefuse (siteGood g t) 3 0
-    (goodAnswer d3q19 (gridOf s) (stateOf 18 a)
+    (threeGood s a
     (orRefuse (leb (recordLength s a) (length room)) 12 (recordLength s a) Done))))
 
 -- with the record's length, 0 beside a refusal

@@ -111,7 +111,7 @@ fn slices_fit(n: usize, parts: usize, masses: usize, fills: usize, carry: usize)
     requires { ⌜ n ≤ 262144 ⌝ }
     ensures { λ r. ⌜ r ≡ slicesFit n parts masses fills carry ⌝ }
 {
-    (parts == 19 * n) & (masses == n) & (fills == n) & (carry == 1)
+    (parts == 19 * n) & (masses == n) & (fills == n) & (carry == 3)
 }
 
 // Section 1, then tests 1 and 2.

@@ -3,6 +3,7 @@ pub mod count;
 pub mod flags;
 pub mod given;
 pub mod number;
+pub mod places;
 pub mod section;
 
 use grid::Answer;

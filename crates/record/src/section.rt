@@ -1,15 +1,13 @@
 // The reader's tests of a section, and of the sections in a row.
 use crate::number::u32_at;
+use crate::places::totals_in;
 use grid::Answer;
 ghost use mathlib.Core.Path.{_≡_};
 ghost use Prim.Native.Nat.{_≤_};
-ghost use Rattle.grid.specs.Outcome.{accepted, orRefuse};
+ghost use Rattle.grid.specs.Outcome.{accepted};
 ghost use Rattle.grid.specs.declared.Answer.the-variants.{Done};
-ghost use Rattle.record.specs.Layout.{massesFrom, partsFrom, lengthOf};
-ghost use lib.Dec.{leb};
-ghost use lib.ListN.{length};
-ghost use Prim.Native.Nat.{_*_};
-ghost use Rattle.record.specs.Reading.{whole};
+ghost use Rattle.record.specs.Places.{counts, settingsFrom, originFrom, totalsFrom, cellsFrom};
+ghost use Rattle.record.specs.Reading.{totalsIn, whole, ends};
 
 pub fn passed(a: Answer) -> bool
     ensures { λ r. ⌜ r ≡ accepted a ⌝ }
@@ -39,10 +37,10 @@ pub(crate) fn section(rec: &[u8], number: usize, from: usize, n: usize, size: us
     Answer::Done
 }
 
-// Sections 2 to 5: settings, origin, carry and flags.
+// Sections 2 to 5: settings, origin, totals and flags.
 pub fn front_sections(rec: &[u8], n: usize) -> Answer
     requires { ⌜ n ≤ 262144 ⌝ }
-    ensures { λ r. ⌜ r ≡ whole (now (rec .entry)) 2 16 5 4 (whole (now (rec .entry)) 3 40 3 8 (whole (now (rec .entry)) 4 68 1 8 (whole (now (rec .entry)) 5 80 n 1 Done))) ⌝ }
+    ensures { λ r. ⌜ r ≡ whole (now (rec .entry)) 2 (settingsFrom counts) (counts .settings) 4 (whole (now (rec .entry)) 3 (originFrom counts) (counts .origin) 8 (whole (now (rec .entry)) 4 (totalsFrom counts) (totalsIn (now (rec .entry))) 8 (whole (now (rec .entry)) 5 (cellsFrom counts (totalsIn (now (rec .entry)))) n 1 Done))) ⌝ }
 {
     let settings = section(rec, 2, 16, 5, 4);
     if !passed(settings) {
@@ -52,29 +50,31 @@ pub fn front_sections(rec: &[u8], n: usize) -> Answer
     if !passed(origin) {
         return origin;
     }
-    let carry = section(rec, 4, 68, 1, 8);
-    if !passed(carry) {
-        return carry;
+    let k = totals_in(rec);
+    let totals = section(rec, 4, 68, k, 8);
+    if !passed(totals) {
+        return totals;
     }
-    section(rec, 5, 80, n, 1)
+    section(rec, 5, 72 + 8 * k, n, 1)
 }
 
-// Sections 6 and 7, masses and parts, and that nothing follows.
-pub fn cell_sections(rec: &[u8], n: usize, i: usize, l: usize) -> Answer
-    requires { ⌜ n ≤ 262144 ⌝ }
+// Sections 6 and 7, masses and parts, from the byte where section 6 begins, and that nothing follows.
+pub fn cell_sections(rec: &[u8], from: usize, i: usize, l: usize) -> Answer
+    requires { ⌜ from ≤ 262244 ⌝ }
     requires { ⌜ i ≤ 262144 ⌝ }
     requires { ⌜ l ≤ 262144 ⌝ }
-    ensures { λ r. ⌜ r ≡ whole (now (rec .entry)) 6 (massesFrom n) i 4 (whole (now (rec .entry)) 7 (partsFrom n i) (19 * l) 4 (orRefuse (leb (length (now (rec .entry))) (lengthOf n i l)) 10 (lengthOf n i l) Done)) ⌝ }
+    ensures { λ r. ⌜ r ≡ ends (now (rec .entry)) from i l Done ⌝ }
 {
-    let masses = section(rec, 6, 84 + n, i, 4);
+    let masses = section(rec, 6, from, i, 4);
     if !passed(masses) {
         return masses;
     }
-    let parts = section(rec, 7, 88 + n + 4 * i, 19 * l, 4);
+    let behind = from + 4 + 4 * i;
+    let parts = section(rec, 7, behind, 19 * l, 4);
     if !passed(parts) {
         return parts;
     }
-    let end = 92 + n + 4 * i + 76 * l;
+    let end = behind + 4 + 4 * (19 * l);
     if rec.len() > end {
         return Answer::Refused(10, end);
     }

@@ -6,10 +6,10 @@ use Prim.Native.Nat.{ℕ, zero, suc, _*_, _/_, _%_, _≤_, _<_}
 use lib.IntN.{ℤ}
 use lib.ListN.{length, getD, replicate, length-replicate}
 use Rattle.whole.specs.Bools.{and-left, and-right}
-use Rattle.whole.specs.Fold.{tab, first}
+use Rattle.whole.specs.Fold.{tab, all, first}
 use Rattle.whole.specs.Tab.{length-tab}
-use Rattle.lattice.specs.Lattice.{d3q19}
-use Rattle.lattice.specs.Cell.{dense, massGood}
+use Rattle.lattice.specs.Lattice.{dot, density, momentum, d3q19}
+use Rattle.lattice.specs.Cell.{partGood, dense, slow, massGood}
 use Rattle.lattice.specs.declared.Settings.{Settings}
 use Rattle.grid.specs.declared.Sides.{Sides}
 use Rattle.grid.specs.declared.Answer.{Answer}
@@ -25,7 +25,9 @@ use Rattle.grid.specs.Halfway.{Alike, Moved, Turning, Turned, Stepping, Advance
 use Rattle.grid.specs.Passes.{Flagged, openedMark}
 use Rattle.grid.proofs.Accepted.{none-found, skip}
 use Rattle.grid.proofs.Accurate.{stays}
+use Rattle.grid.proofs.Box.{grid-laid}
 use Rattle.grid.proofs.Checks.{stop}
+use Rattle.grid.proofs.Dense.{newborn-cases}
 use Rattle.grid.proofs.Fair.{Fair, fair-holds}
 use Rattle.grid.proofs.Listed.{same-listed, lengths-listed}
 use Rattle.grid.proofs.Prepared.{sized}
@@ -41,14 +43,6 @@ use Rattle.step.specs.Finished.{Finishing, Finished, Tried}
 use Rattle.step.proofs.Opened.{open-fluid, open-near}
 use Rattle.step.proofs.Refills.{fillable, fills-next, masses-fair}
 use Rattle.step.proofs.Uncarried.{fast-is, collided-is, moved-part-is, moved-mass-is, first-mark-is}
-
--- what is interface and was not liquid was empty
-newborn-cases : (f : ℕ) (bf fi em be : Bool) → liquid f ≡ false → liquid (flagAfter f bf fi em be) ≡ true → (f ≡ 0) × (flagAfter f bf fi em be ≡ 1)
-newborn-cases zero true fi em be d l = (refl, refl)
-newborn-cases zero false fi em be d l = absurd (false≢true l)
-newborn-cases (suc zero) bf fi em be d l = absurd (false≢true (sym d))
-newborn-cases (suc (suc zero)) bf fi em be d l = absurd (false≢true (sym d))
-newborn-cases (suc (suc (suc n))) bf fi em be d l = absurd (false≢true l)
 
 -- what pass 1 answered
 abbrev is-stopped : Passed → Bool
@@ -187,14 +181,25 @@ module _ (s : Sides) (g : Settings) (a : Lent) where
                   w .newborn et c h (n .0) (n .1)
 
           fair : Fair S
-          unfolding sceneOf gridOf box cellsOf
-          fair = record { bodies = bodies; masses = mass-fair ew; carry = w .carry-fair et }
+          unfolding sceneOf gridOf box cellsOf bodyGood
+          fair = record {
+            parts = λ c h l. and-left (sound c) (dense (density d3q19 (newPart S c))) (and-left (sound c && dense (density d3q19 (newPart S c))) (slowly c) (bodies c h l));
+            speeds = λ c h l. and-right (sound c && dense (density d3q19 (newPart S c))) (slowly c) (bodies c h l);
+            masses = mass-fair ew;
+            carry = w .carry-fair et;
+          }
+            where
+              sound : ℕ → Bool
+              sound c = all (suc (d3q19 .q)) (λ k. partGood (newPart S c k))
+
+              slowly : ℕ → Bool
+              slowly c = slow (density d3q19 (newPart S c)) (dot (momentum d3q19 (newPart S c)) (momentum d3q19 (newPart S c)))
 
           pub fair-answer : Done ≡ moveAnswer S
           unfolding moveAnswer sceneOf gridOf box cellsOf
           fair-answer =
               sym (skip (cellsOf s) 7 (first (cellsOf s) (tooFast S)) (ifNone (suc (cellsOf s)) 8 (badRule d3q19 (cellsOf s) (next S)) Done) t
-              ∙ skip (suc (cellsOf s)) 8 (badRule d3q19 (cellsOf s) (next S)) Done (fair-holds S dense-now fair))
+              ∙ skip (suc (cellsOf s)) 8 (badRule d3q19 (cellsOf s) (next S)) Done (fair-holds S (grid-laid s) (poise .walled) dense-now fair))
 
         -- ---- test 8 by the scan
         bad-next : badRule d3q19 (cellsOf s) (stateOf 18 second) ≡ badRule d3q19 (cellsOf s) (next S)

@@ -28,6 +28,7 @@ use Rattle.grid.specs.Outcome.{sceneOf}
 use Rattle.grid.specs.Between.{Poised, carried}
 use Rattle.grid.specs.Passes.{lowOf, offsetOf}
 use Rattle.grid.specs.Sight.{Around, sight}
+use Rattle.grid.proofs.Dense.{born-part}
 use Rattle.grid.proofs.Listed.{part-at}
 use Rattle.grid.proofs.Moved.{density-collided, density-born}
 use Rattle.grid.proofs.Same.{density-same}
@@ -39,7 +40,7 @@ use Rattle.grid.specs.Fill.{Weighty, partOf}
 use Rattle.turn.specs.Filled.{Fillable, Refilled, fillAt, fairMass, fairAt}
 use Rattle.turn.proofs.Births.{wet-low}
 use Rattle.turn.proofs.Means.{born-tame}
-use Rattle.turn.proofs.Offspring.{tested, within, born-seen, fed, is-born, new-part}
+use Rattle.turn.proofs.Offspring.{tested, within, born-seen, fed, is-born}
 use Rattle.step.proofs.Heavy.{still-in, relaxed-in, weighty, weighty-same, quad-of}
 
 -- ---- one cell, as a function of one cell sees it
@@ -108,7 +109,7 @@ module _ (s : Sides) (g : Settings) (flags : List ℕ) (parts masses : List ℤ)
   new-weighty c h z n =
       let inside = within s g flags parts masses fills carry p c h (omega arith) in
       weighty-same (born seen c) (newPart step c)
-      (λ k m. born-seen s g flags parts masses fills carry p c inside k ∙ sym (new-part s g flags parts masses fills carry p (tab (cellsOf s) (newFlag step)) refl c k z n))
+      (λ k m. born-seen s g flags parts masses fills carry p c inside k ∙ sym (born-part step c z n k))
       (born-weighty flags parts fills (tab 19 (offsetOf s)) (lowOf s) g calm (relaxation-of g (p .settings)) c (calm .around c (listed h) (omega arith))
       (fed s g flags parts masses fills carry p (tab (cellsOf s) (newFlag step)) refl c h (is-born s g flags parts masses fills carry p (tab (cellsOf s) (newFlag step)) refl c h z n)))
 

@@ -1,47 +1,27 @@
--- Figures of the readings, computed from the definitions: document 01's three placings, and the readings of case T. Assumes nothing.
+-- Figures of the readings, computed from the definitions: a placing on three axes, and the readings of case T. Document 01's own placings stand with its
+-- other figures, in figures/specs/Table.antt. Assumes nothing.
 use mathlib.Core.Path.{_≡_, refl}
 use mathlib.Core.Bool.{cond}
 use mathlib.Core.List.{List}
 use Prim.Native.Nat.{ℕ}
 use lib.Dec.{eqb}
-use lib.IntN.{ℤ, pos}
+use lib.IntN.{pos}
 use Rattle.whole.specs.Fold.{tab, open-fold}
 use Rattle.grid.specs.declared.Sides.{Sides}
 use Rattle.grid.specs.Grid.{open-grid}
-use Rattle.tunnel.specs.declared.Point.{Point}
-use Rattle.tunnel.specs.declared.Placed.the-variants.{Refused, Cell}
-use Rattle.tunnel.specs.Place.{axisOf, placeOf, open-place}
+use Rattle.tunnel.specs.declared.Placed.the-variants.{Cell}
+use Rattle.tunnel.specs.Place.{placeOf, open-place}
 use Rattle.tunnel.specs.Point.{refused, pointOf, open-point}
 use Rattle.tunnel.specs.Depth.{solid, dry, deep, depthOf, open-depth}
 use Rattle.tunnel.specs.Depth as depth
 
--- edge 50, origin 5,200,000,000, one axis of 10 cells
-axis-two : axisOf (pos 5200000149) (pos 5200000000) 50 10 ≡ 2
-unfolding open-place
-axis-two = refl
-
-axis-three : axisOf (pos 5200000150) (pos 5200000000) 50 10 ≡ 3
-unfolding open-place
-axis-three = refl
-
-axis-outside : axisOf (pos 5199999999) (pos 5200000000) 50 10 ≡ 10
-unfolding open-place
-axis-outside = refl
-
--- the same on all three axes of a grid of 10×10×10
+-- edge 50, origin 5,200,000,000 on all three axes of a grid of 10×10×10: cells 2, 2 and 3
 ten : Sides
 ten = record { nx = 10; ny = 10; nz = 10 }
 
-corner : ℤ → Point
-corner a = record { x = a; y = pos 5200000149; z = pos 5200000150 }
-
-place-two : placeOf ten (pos 50) (record { x = pos 5200000000; y = pos 5200000000; z = pos 5200000000 }) (corner (pos 5200000149)) ≡ Cell 322
-unfolding open-place open-grid ten corner
-place-two = refl
-
-place-outside : placeOf ten (pos 50) (record { x = pos 5200000000; y = pos 5200000000; z = pos 5200000000 }) (corner (pos 5199999999)) ≡ Refused 13 0
-unfolding open-place open-grid ten corner
-place-outside = refl
+place-corner : placeOf ten (pos 50) (record { x = pos 5200000000; y = pos 5200000000; z = pos 5200000000 }) (record { x = pos 5200000149; y = pos 5200000149; z = pos 5200000150 }) ≡ Cell 322
+unfolding open-place open-grid ten
+place-corner = refl
 
 -- case T: 3×3×3, the centre interface, its fill 32,768
 three : Sides

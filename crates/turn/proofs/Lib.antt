@@ -1,6 +1,5 @@
 pub mod Weighed
 pub mod Fills
-pub mod Picked
 pub mod Births
 pub mod Means
 pub mod Newborns

@@ -3,8 +3,8 @@
 use mathlib.Core.Path.{_≡_, refl, sym, ap, ap₂, _∙_, subst}
 use mathlib.Core.Bool.{Bool, true, cond}
 use mathlib.Core.List.{List}
-use Prim.Native.Nat.{ℕ, zero, suc, _+_, _-_, _*_, _/_, _<_, _≤_}
-use native.Mathlib.Nat.{le-div-iff-mul-le, div-le-of-le-mul, le-trans, le-of-eq, mul-comm}
+use Prim.Native.Nat.{ℕ, zero, suc, _+_, _-_, _*_, _<_, _≤_}
+use native.Mathlib.Nat.{div-le-of-le-mul, le-trans, le-of-eq}
 use native.Mathlib.Omega.{arith}
 use lib.IntN.{ℤ, pos, negsuc, natAbs, _+ℤ_}
 use lib.Signed.{_≤ℤ_, _<ℤ_, quotZ, shrZ}
@@ -13,7 +13,7 @@ use Rattle.whole.specs.Bools.{and-true}
 use Rattle.whole.specs.Bounds.{abs-quot}
 use Rattle.whole.specs.Fold.{sum, count}
 use Rattle.whole.specs.Machine.{Within}
-use Rattle.whole.specs.Parts.{≤-parts, parts-≤, parts-<}
+use Rattle.whole.specs.Parts.{≤-parts, parts-<}
 use Rattle.lattice.specs.Lattice.{V3, dot, d3q19}
 use Rattle.lattice.specs.Cell.{dense, slow}
 use Rattle.lattice.specs.Body.{Tame, steadyFlow}
@@ -23,9 +23,9 @@ use Rattle.lattice.proofs.Tame.{steady-tame}
 use Rattle.grid.specs.State.{Scene, liquid, stateOf}
 use Rattle.grid.specs.Step.{newDensity, newMomentum, liquidNear, nearSum, bornDensity, bornMomentum}
 use Rattle.grid.specs.Sight.{Around, sight}
+use Rattle.grid.proofs.Picked.{count-le, count-more, picked, picked-more, picked-abs, picked-low, floor-low, floor-abs}
 use Rattle.turn.specs.declared.birth.Sum.{Sum}
 use Rattle.turn.specs.Born.{Tested, Roomy, Added, Countable, Meant, Begins, flowSight}
-use Rattle.turn.proofs.Picked.{count-le, count-more, picked, picked-more, picked-abs, picked-low}
 
 module _ (flags : List ℕ) (parts : List ℤ) (fills off : List ℕ) (low : ℕ) (g : Settings) (c : ℕ) where
   abbrev S : Scene
@@ -148,14 +148,6 @@ module _ (flags : List ℕ) (parts : List ℤ) (fills off : List ℕ) (low : ℕ
     }
 
     -- a mean lies where the terms lie
-    floor-low : (s : ℤ) (k b : ℕ) → 0 < k → pos (k * b) ≤ℤ s → pos b ≤ℤ shrZ s k
-    floor-low (pos m) k b z h = parts-≤ (let l : b ≤ m / k = le-div-iff-mul-le z .1 (omega (arith, ≤-parts h, mul-comm b k)) in omega arith)
-    floor-low (negsuc m) k b z h = absurd (omega (arith, ≤-parts h))
-
-    floor-abs : (s : ℤ) (k a b : ℕ) → pos a ≤ℤ s → natAbs s ≤ k * b → Within (shrZ s k) b
-    floor-abs (pos m) k a b h l = record { abs = div-le-of-le-mul k l }
-    floor-abs (negsuc m) k a b h l = absurd (omega (arith, ≤-parts h))
-
     cut-abs : (s : ℤ) (k b : ℕ) → natAbs s ≤ k * b → Within (quotZ s (pos k)) b
     cut-abs s k b l = record { abs = le-trans (le-of-eq (abs-quot s (pos k))) (div-le-of-le-mul k l) }
 

@@ -1,11 +1,10 @@
 -- From the step's scene to what the pass over new interface cells asks, and from what it leaves to the step's scene: a set that is poised and that
 -- passed stage 3's test, new flags, and moved parts. Assumes nothing.
 use mathlib.Core.Path.{_≡_, refl, sym, ap, ap₂, _∙_, subst}
-use mathlib.Core.Logic.{_⊎_, inl, inr}
 use mathlib.Core.Bool.{Bool, true, false, _&&_, not, cond, false≢true}
 use mathlib.Core.List.{List}
 use Prim.Native.Nat.{ℕ, zero, suc, _+_, _-_, _*_, _/_, _%_, _≤_, _<_}
-use native.Mathlib.Nat.{not-suc-le-zero, lt-suc-self, le-step, eq-or-lt-of-le, le-of-suc-le-suc, mod-lt, div-add-mod}
+use native.Mathlib.Nat.{lt-suc-self, le-step, mod-lt, div-add-mod}
 use native.Mathlib.Omega.{arith}
 use lib.Dec.{eqb}
 use lib.IntN.{ℤ, pos}
@@ -13,23 +12,24 @@ use lib.ListN.{length, getD}
 use borrow.Author.Tests.{eqb-true, eq-eqb, ne-eqb}
 use Rattle.whole.specs.Bools.{and-left, and-right, and-true, cond-yes, cond-no}
 use Rattle.whole.specs.Fold.{tab, all, count, first}
-use Rattle.whole.specs.Search.{all-at, any-where, first-none}
+use Rattle.whole.specs.Search.{all-at, first-none}
 use Rattle.whole.specs.Sums.{sum-cong}
 use Rattle.whole.specs.Tab.{getD-tab, length-tab, tab-cong}
 use Rattle.lattice.specs.Lattice.{V3, dot, d3q19}
-use Rattle.lattice.specs.Cell.{cut, floor, dense, slow, over, relaxationGood, gravityGood}
+use Rattle.lattice.specs.Cell.{cut, floor, dense, slow, relaxationGood, gravityGood}
 use Rattle.lattice.specs.Body.{stillDir, stillPart, bodyGood}
 use Rattle.lattice.specs.declared.Settings.{Settings}
 use Rattle.lattice.proofs.Paired.{paired19}
 use Rattle.grid.specs.declared.Sides.{Sides}
 use Rattle.grid.specs.Grid.{cellsOf}
 use Rattle.grid.specs.State.{Scene, byFlag, liquid, stateOf}
-use Rattle.grid.specs.Step.{flagAt, newDensity, newMomentum, tooFast, filled, besideFilled, emptied, besideEmptied, flagAfter, newFlag, tradedMass, liquidNear, nearSum, bornDensity, bornMomentum, bornDir, born, newPart, collided}
+use Rattle.grid.specs.Step.{flagAt, newDensity, newMomentum, tooFast, filled, besideFilled, emptied, besideEmptied, flagAfter, newFlag, liquidNear, nearSum, bornDensity, bornMomentum, bornDir, born, newPart, collided}
 use Rattle.grid.specs.Outcome.{settingsGood, sceneOf}
 use Rattle.grid.specs.Between.{Poised, carried, movedPart, bornPart}
 use Rattle.grid.specs.Passes.{Inner, lowOf, offsetOf}
 use Rattle.grid.specs.Sight.{Around, sight}
 use Rattle.grid.proofs.Beside.{Offsets, place-is, place-low}
+use Rattle.grid.proofs.Dense.{has-liquid, born-part}
 use Rattle.grid.proofs.Listed.{part-at}
 use Rattle.grid.proofs.Same.{body-same}
 use Rattle.flow.proofs.Mirrored.{around}
@@ -43,15 +43,6 @@ count-same : (n : ℕ) (f g : ℕ → Bool) → ((a : ℕ) → a < n → f a ≡
 unfolding count
 count-same zero f g h = refl
 count-same (suc n) f g h = ap₂ (λ (k : ℕ) (b : Bool). k + cond b 1 0) (count-same n f g (λ a k. h a (le-step k))) (h n (lt-suc-self n))
-
-count-some : (n : ℕ) (f : ℕ → Bool) (a : ℕ) → a < n → f a ≡ true → 0 < count n f
-unfolding count
-count-some zero f a h e = absurd (not-suc-le-zero h)
-count-some (suc n) f a h e = go (eq-or-lt-of-le (le-of-suc-le-suc h)) (λ k. count-some n f a k e)
-  where
-    go : (a ≡ n) ⊎ (a < n) → (a < n → 0 < count n f) → 0 < count n f + cond (f n) 1 0
-    go (inl q) r = let t : f n ≡ true = ap f (sym q) ∙ e in rw t (omega arith)
-    go (inr k) r = omega (arith, r k)
 
 -- what is not too fast is dense and slow
 steady-both : (l d s : Bool) → l ≡ true → (l && not (d && s)) ≡ false → (d ≡ true) × (s ≡ true)
@@ -178,29 +169,12 @@ module _ (s : Sides) (g : Settings) (flags : List ℕ) (parts masses : List ℤ)
     was-empty c e = eqb-true (getD flags c 3) 0 (and-left (eqb (getD flags c 3) 0) (eqb (getD flags2 c 3) 1) e)
 
     -- an empty cell becomes interface beside a filled cell, which was liquid
-    beside-true : (f : ℕ) (bf fi em be : Bool) → f ≡ 0 → eqb (flagAfter f bf fi em be) 1 ≡ true → bf ≡ true
-    beside-true f bf fi em be z e = go bf (subst (λ (k : ℕ). eqb (flagAfter k bf fi em be) 1 ≡ true) z e)
-      where
-        go : (b : Bool) → eqb (cond b 1 0) 1 ≡ true → b ≡ true
-        go true t = refl
-        go false t = t
-
-    filled-wet : (f : ℕ) (o : Bool) → byFlag f false o false false ≡ true → liquid f ≡ true
-    filled-wet zero o e = absurd (false≢true e)
-    filled-wet (suc zero) o e = refl
-    filled-wet (suc (suc zero)) o e = absurd (false≢true e)
-    filled-wet (suc (suc (suc n))) o e = absurd (false≢true e)
-
     pub fed : (c : ℕ) → c < cellsOf s → newlyBorn flags flags2 c ≡ true → 0 < liquidNear seen c
-    unfolding newFlag besideFilled filled liquidNear sceneOf stateOf d3q19
+    unfolding sceneOf stateOf
     fed c h e =
         let w = was-empty c e in
         let b = and-right (eqb (getD flags c 3) 0) (eqb (newFlag step c) 1) (sym (born-test c h) ∙ e) in
-        let f = any-where 18 (λ a. filled step (step .grid .near c (suc a)))
-        (beside-true (getD flags c 3) (besideFilled step c) (filled step c) (emptied step c) (besideEmptied step c) w b) in
-        subst (λ (n : ℕ). 0 < n) (sym (liquid-seen c (within c h (omega arith))))
-        (count-some 18 (λ a. liquid (getD flags (step .grid .near c (suc a)) 3)) (f .0) (f .1)
-        (filled-wet (getD flags (step .grid .near c (suc (f .0))) 3) (over (tradedMass step (step .grid .near c (suc (f .0)))) (newDensity step (step .grid .near c (suc (f .0))))) (f .2)))
+        subst (λ (n : ℕ). 0 < n) (sym (liquid-seen c (within c h (omega arith)))) (has-liquid step c w (eqb-true (newFlag step c) 1 b))
 
     pub fertile : cellsOf s ≤ first (cellsOf s) (tooFast step) → Fertile flags parts fills (tab 19 (offsetOf s)) (lowOf s) g flags2
     fertile fast = record {
@@ -227,13 +201,6 @@ module _ (s : Sides) (g : Settings) (flags : List ℕ) (parts masses : List ℤ)
     unfolding sceneOf stateOf
     is-born c h z n = born-test c h ∙ and-true (eqb (getD flags c 3) 0) (eqb (newFlag step c) 1) (eq-eqb (getD flags c 3) 0 z) (eq-eqb (newFlag step c) 1 n)
 
-    pub new-part : (c k : ℕ) → flagAt step c ≡ 0 → newFlag step c ≡ 1 → newPart step c k ≡ born step c k
-    unfolding newPart newFlag
-    new-part c k z n =
-        ap (λ (f : ℕ). byFlag f (cond (besideFilled step c) (born step c k) (pos 0)) (cond (emptied step c) (pos 0) (collided step c k)) (collided step c k) (pos 0)) z
-        ∙ cond-yes (born step c k) (pos 0)
-        (beside-true (flagAt step c) (besideFilled step c) (filled step c) (emptied step c) (besideEmptied step c) z (eq-eqb (newFlag step c) 1 n))
-
     module _ (before : List ℤ) (moved : before ≡ tab (19 * cellsOf s) (λ m. movedPart step (m / 19) (m % 19))) where
       later-is : (c k : ℕ) → c < cellsOf s → k ≤ 18 → laterPart seen (newlyBorn flags flags2) before c k ≡ bornPart step c k
       unfolding laterPart bornPart movedPart newFlag sceneOf stateOf
@@ -256,5 +223,5 @@ module _ (s : Sides) (g : Settings) (flags : List ℕ) (parts masses : List ℤ)
         newborn-fair t c h z n =
             let w = is-born c h z n in
             let a = all-at (length flags) (laterFair seen (newlyBorn flags flags2)) (sym (r .fair-is) ∙ t) c (subst (λ (m : ℕ). c < m) (sym (p .flags)) h) in
-            body-same d3q19 (newPart step c) (born seen c) (λ k l. new-part c k z n ∙ sym (born-seen c (within c h (omega (arith, was-empty c w))) k))
+            body-same d3q19 (newPart step c) (born seen c) (λ k l. born-part step c z n k ∙ sym (born-seen c (within c h (omega (arith, was-empty c w))) k))
             ∙ sym (cond-yes (bodyGood d3q19 (born seen c)) true w) ∙ a

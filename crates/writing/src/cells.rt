@@ -12,7 +12,8 @@ ghost use lib.IntN.{pos};
 ghost use lib.ListN.{length, getD};
 ghost use lib.Seq.{sets};
 ghost use Rattle.grid.specs.Passes.{flagOf};
-ghost use Rattle.record.specs.Layout.{section, interfaces, liquids, lengthOf, massBytes, partBytes, cellsBytes};
+ghost use Rattle.record.specs.Places.{counts, cellsFrom, lengthOf};
+ghost use Rattle.record.specs.Layout.{section, interfaces, liquids, massBytes, partBytes, cellsBytes};
 
 fn put_flag_section(room: &mut [u8], at: usize, flags: &[u8])
     requires { ⌜ at + 4 + length (now flags) ≤ length (now room) ⌝ }
@@ -43,25 +44,25 @@ fn put_part_section(room: &mut [u8], at: usize, flags: &[u8], parts: &[i32])
     put_parts(room, at + 4, flags, parts);
 }
 
-// The bytes of a record of these flags: 92 + N + 4I + 76L.
+// The bytes of a record of these flags: 108 + N + 4I + 76L.
 pub fn record_length(flags: &[u8]) -> usize
     requires { ⌜ length (now flags) ≤ 262144 ⌝ }
-    ensures { λ r. ⌜ r ≡ lengthOf (length (now (flags .entry))) (interfaces (length (now (flags .entry))) (flagOf (now (flags .entry)))) (liquids (length (now (flags .entry))) (flagOf (now (flags .entry)))) ⌝ }
+    ensures { λ r. ⌜ r ≡ lengthOf counts 3 (length (now (flags .entry))) (interfaces (length (now (flags .entry))) (flagOf (now (flags .entry)))) (19 * liquids (length (now (flags .entry))) (flagOf (now (flags .entry)))) ⌝ }
 {
-    92 + flags.len() + 4 * interface_cells(flags) + 76 * liquid_cells(flags)
+    108 + flags.len() + 4 * interface_cells(flags) + 76 * liquid_cells(flags)
 }
 
-// Sections 5 to 7, from byte 80 on.
+// Sections 5 to 7, from byte 96 on.
 pub fn put_cells(room: &mut [u8], flags: &[u8], parts: &[i32], masses: &[i32])
-    requires { ⌜ lengthOf (length (now flags)) (interfaces (length (now flags)) (flagOf (now flags))) (liquids (length (now flags)) (flagOf (now flags))) ≤ length (now room) ⌝ }
+    requires { ⌜ lengthOf counts 3 (length (now flags)) (interfaces (length (now flags)) (flagOf (now flags))) (19 * liquids (length (now flags)) (flagOf (now flags))) ≤ length (now room) ⌝ }
     requires { ⌜ length (now flags) ≤ 262144 ⌝ }
     requires { ⌜ length (now parts) ≡ 19 * length (now flags) ⌝ }
     requires { ⌜ length (now masses) ≡ length (now flags) ⌝ }
-    ensures { λ _. ⌜ now (room .exit) ≡ sets (now (room .entry)) 80 (cellsBytes (length (now (flags .entry))) (now (flags .entry)) (λ c. getD (now (masses .entry)) c (pos 0)) (λ c k. getD (now (parts .entry)) (19 * c + k) (pos 0))) ⌝ }
+    ensures { λ _. ⌜ now (room .exit) ≡ sets (now (room .entry)) (cellsFrom counts 3) (cellsBytes (length (now (flags .entry))) (now (flags .entry)) (λ c. getD (now (masses .entry)) c (pos 0)) (λ c k. getD (now (parts .entry)) (19 * c + k) (pos 0))) ⌝ }
 {
     let n = flags.len();
-    let at = 88 + n + 4 * interface_cells(flags);
-    put_flag_section(room, 80, flags);
-    put_mass_section(room, 84 + n, flags, masses);
+    let at = 104 + n + 4 * interface_cells(flags);
+    put_flag_section(room, 96, flags);
+    put_mass_section(room, 100 + n, flags, masses);
     put_part_section(room, at, flags, parts);
 }

@@ -1,4 +1,4 @@
-// The writer's sections 1 to 4: sides, settings, origin and carry.
+// The writer's sections 1 to 4: sides, settings, origin and totals.
 use grid::Sides;
 use lattice::Settings;
 use record::Site;
@@ -14,7 +14,7 @@ ghost use lib.Seq.{sets};
 ghost use Rattle.whole.specs.Machine.{Within};
 ghost use Rattle.grid.specs.Grid.{sidesGood};
 ghost use Rattle.record.specs.Bytes.{u32Of, i32Of, i64Of};
-ghost use Rattle.record.specs.Layout.{section, headBytes, Small};
+ghost use Rattle.record.specs.Layout.{section, totalsBytes, headBytes, Small};
 
 // A count or a side.
 pub fn put_count(room: &mut [u8], at: usize, n: usize)
@@ -67,23 +67,33 @@ fn put_origin(room: &mut [u8], t: Site)
     put_i64(room, 60, t.z);
 }
 
-fn put_carry(room: &mut [u8], carry: i64)
-    requires { ⌜ 80 ≤ length (now room) ⌝ }
-    ensures { λ _. ⌜ now (room .exit) ≡ sets (now (room .entry)) 68 (section 1 (i64Of carry ∷ [])) ⌝ }
+fn put_totals(room: &mut [u8], carry: i64, poured: i64, taken: i64)
+    requires { ⌜ 96 ≤ length (now room) ⌝ }
+    ensures { λ _. ⌜ now (room .exit) ≡ sets (now (room .entry)) 68 (totalsBytes carry poured taken) ⌝ }
 {
-    put_count(room, 68, 1);
+    put_count(room, 68, 3);
     put_i64(room, 72, carry);
+    put_i64(room, 80, poured);
+    put_i64(room, 88, taken);
 }
 
-// The first 80 bytes.
-pub fn put_head(room: &mut [u8], s: Sides, g: Settings, t: Site, carry: i64)
-    requires { ⌜ 80 ≤ length (now room) ⌝ }
+// The first 96 bytes.
+pub fn put_head(
+    room: &mut [u8],
+    s: Sides,
+    g: Settings,
+    t: Site,
+    carry: i64,
+    poured: i64,
+    taken: i64,
+)
+    requires { ⌜ 96 ≤ length (now room) ⌝ }
     requires { ⌜ sidesGood s ≡ true ⌝ }
     requires { ⌜ Small g t ⌝ }
-    ensures { λ _. ⌜ now (room .exit) ≡ sets (now (room .entry)) 0 (headBytes s g t carry) ⌝ }
+    ensures { λ _. ⌜ now (room .exit) ≡ sets (now (room .entry)) 0 (headBytes s g t carry poured taken) ⌝ }
 {
     put_sides(room, s);
     put_settings(room, g, t);
     put_origin(room, t);
-    put_carry(room, carry);
+    put_totals(room, carry, poured, taken);
 }

@@ -4,11 +4,11 @@ use crate::cells::record_length;
 use crate::front::put_head;
 use grid::Answer;
 use grid::Sides;
-use grid::checking::checked;
 use grid::extent::cells;
 use grid::extent::good_sides;
-use grid::lengths::good_lengths;
 use lattice::Settings;
+use pumps::entry::checked;
+use pumps::entry::three_lengths;
 use record::Site;
 use record::Written;
 use record::given::good_site;
@@ -20,14 +20,15 @@ ghost use Prim.Native.Nat.{_+_, _*_, _≤_};
 ghost use lib.IntN.{pos};
 ghost use lib.ListN.{length, getD};
 ghost use lib.Seq.{sets};
-ghost use Rattle.grid.specs.Grid.{sidesGood, cellsOf, gridOf};
+ghost use Rattle.grid.specs.Grid.{sidesGood, cellsOf};
 ghost use Rattle.grid.specs.Passes.{flagOf};
 ghost use Rattle.grid.specs.declared.Answer.the-variants.{Done};
-ghost use Rattle.grid.specs.State.{Lent, stateOf};
-ghost use Rattle.grid.specs.Outcome.{orRefuse, goodAnswer, lengthsGood};
-ghost use Rattle.lattice.specs.Lattice.{d3q19};
+ghost use Rattle.grid.specs.State.{lent};
+ghost use Rattle.grid.specs.Outcome.{orRefuse};
+ghost use Rattle.pumps.specs.Three.{threeLengths, threeGood};
 ghost use Rattle.record.specs.Promise.{Wrote};
-ghost use Rattle.record.specs.Layout.{siteGood, Small, interfaces, liquids, lengthOf, headBytes, cellsBytes};
+ghost use Rattle.record.specs.Places.{counts, lengthOf};
+ghost use Rattle.record.specs.Layout.{siteGood, Small, interfaces, liquids, headBytes, cellsBytes};
 
 // The record of a grid that passed its tests, into room that suffices.
 fn put_record(
@@ -38,6 +39,8 @@ fn put_record(
     parts: &[i32],
     masses: &[i32],
     carry: i64,
+    poured: i64,
+    taken: i64,
     room: &mut [u8],
 )
     requires { ⌜ sidesGood s ≡ true ⌝ }
@@ -45,10 +48,10 @@ fn put_record(
     requires { ⌜ length (now flags) ≡ cellsOf s ⌝ }
     requires { ⌜ length (now parts) ≡ 19 * cellsOf s ⌝ }
     requires { ⌜ length (now masses) ≡ cellsOf s ⌝ }
-    requires { ⌜ lengthOf (length (now flags)) (interfaces (length (now flags)) (flagOf (now flags))) (liquids (length (now flags)) (flagOf (now flags))) ≤ length (now room) ⌝ }
-    ensures { λ _. ⌜ now (room .exit) ≡ sets (now (room .entry)) 0 (headBytes s g t carry ++ cellsBytes (length (now (flags .entry))) (now (flags .entry)) (λ c. getD (now (masses .entry)) c (pos 0)) (λ c k. getD (now (parts .entry)) (19 * c + k) (pos 0))) ⌝ }
+    requires { ⌜ lengthOf counts 3 (length (now flags)) (interfaces (length (now flags)) (flagOf (now flags))) (19 * liquids (length (now flags)) (flagOf (now flags))) ≤ length (now room) ⌝ }
+    ensures { λ _. ⌜ now (room .exit) ≡ sets (now (room .entry)) 0 (headBytes s g t carry poured taken ++ cellsBytes (length (now (flags .entry))) (now (flags .entry)) (λ c. getD (now (masses .entry)) c (pos 0)) (λ c k. getD (now (parts .entry)) (19 * c + k) (pos 0))) ⌝ }
 {
-    put_head(room, s, g, t, carry);
+    put_head(room, s, g, t, carry, poured, taken);
     put_cells(room, flags, parts, masses);
 }
 
@@ -63,13 +66,13 @@ fn fit(
     fills: &[u32],
     carry: &[i64],
 ) -> Answer
-    ensures { λ r. ⌜ r ≡ orRefuse (sidesGood s) 1 0 (orRefuse (lengthsGood (cellsOf s) (record { flags = now (flags .entry); parts = now (parts .entry); masses = now (masses .entry); fills = now (fills .entry); carry = now (carry .entry) })) 2 0 (orRefuse (siteGood g t) 3 0 (goodAnswer d3q19 (gridOf s) (stateOf 18 (record { flags = now (flags .entry); parts = now (parts .entry); masses = now (masses .entry); fills = now (fills .entry); carry = now (carry .entry) })) Done))) ⌝ }
+    ensures { λ r. ⌜ r ≡ orRefuse (sidesGood s) 1 0 (orRefuse (threeLengths (cellsOf s) (lent (now (flags .entry)) (now (parts .entry)) (now (masses .entry)) (now (fills .entry)) (now (carry .entry)))) 2 0 (orRefuse (siteGood g t) 3 0 (threeGood s (lent (now (flags .entry)) (now (parts .entry)) (now (masses .entry)) (now (fills .entry)) (now (carry .entry))) Done))) ⌝ }
 {
     if !good_sides(s) {
         return Answer::Refused(1, 0);
     }
     let n = cells(s);
-    if !good_lengths(
+    if !three_lengths(
         flags.len(),
         parts.len(),
         masses.len(),
@@ -97,7 +100,7 @@ pub fn write(
     carry: &[i64],
     room: &mut [u8],
 ) -> Written
-    ensures { λ r. ⌜ Wrote s g t (record { flags = now (flags .entry); parts = now (parts .entry); masses = now (masses .entry); fills = now (fills .entry); carry = now (carry .entry) }) (now (room .entry)) r (now (room .exit)) ⌝ }
+    ensures { λ r. ⌜ Wrote s g t (lent (now (flags .entry)) (now (parts .entry)) (now (masses .entry)) (now (fills .entry)) (now (carry .entry))) (now (room .entry)) r (now (room .exit)) ⌝ }
 {
     let tested = fit(s, g, t, flags, parts, masses, fills, carry);
     if !passed(tested) {
@@ -113,8 +116,10 @@ pub fn write(
             bytes: 0,
         };
     }
-    let k = carry[0];
-    put_record(s, g, t, flags, parts, masses, k, room);
+    let kept = carry[0];
+    let poured = carry[1];
+    let taken = carry[2];
+    put_record(s, g, t, flags, parts, masses, kept, poured, taken, room);
     Written {
         answer: Answer::Done,
         bytes: long,

@@ -6,10 +6,12 @@ mod draw;
 mod place;
 mod point;
 mod pools;
+mod pour;
 mod profile;
 mod run;
 mod step;
 mod surface;
+mod take;
 mod water;
 mod write;
 
@@ -35,6 +37,8 @@ pub const COMMANDS: &[Command] = &[
     water::COMMAND,
     step::COMMAND,
     run::COMMAND,
+    pour::COMMAND,
+    take::COMMAND,
     write::COMMAND,
     place::COMMAND,
     point::COMMAND,

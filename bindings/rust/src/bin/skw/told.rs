@@ -7,7 +7,7 @@ const SECTIONS: [(&str, usize); 7] = [
     ("sides", 4),
     ("settings", 4),
     ("origin", 8),
-    ("carry", 8),
+    ("carry, poured, taken", 8),
     ("flags", 1),
     ("interface masses", 4),
     ("parts of liquid cells", 4),
@@ -23,7 +23,7 @@ pub fn in_grid(refusal: Refusal, sides: Sides) -> String {
     let words = refusal.words();
     match refusal.at() {
         Place::CellOrCarry(at) if at == sides.nx * sides.ny * sides.nz => {
-            format!("refusal {number}: {words}, at {at}, which stands for the carry")
+            format!("refusal {number}: {words}, at {at}, which stands for the carry, poured or taken")
         }
         Place::Cell(at) | Place::CellOrCarry(at) => format!("refusal {number}: {words}, {}", cell(at)),
         Place::None if number == Refusal::OUTSIDE => {

@@ -185,12 +185,12 @@ highest-requires c κs = search needs
 
 by-divider-requires : tie.Need-by-divider-requires Inv-loop μ-loop
 by-divider-requires c κs =
-    let s = c .before .before .before .before .before .before in
-    (s .pre .0, steady-tame (s .args .v) (s .pre .1), rw (toZ-ofZ (s .fits .p)) (s .pre .2))
+    let s = c .before .before .before .before .before .before .before in
+    (s .good .0 .1 .0 .1, s .pre .0, steady-tame (s .args .v) (s .pre .1), rw (toZ-ofZ (s .fits .p)) (s .pre .2))
 
 returns : tie.Need-returns Inv-loop μ-loop
 returns c =
-    let s = c .before .before .before .before .before .before .before in
+    let s = c .before .before .before .before .before .before .before .before in
     rw (toZ-ofZ (s .fits .p)) at (c .by-divider .ensures)
 
 array-set-from-a-3 : tie.Need-array-set-from-a-3 Inv-loop μ-loop

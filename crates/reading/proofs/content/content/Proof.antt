@@ -9,10 +9,11 @@ use Rattle.lattice.specs.declared.Settings.{Settings}
 use Rattle.grid.specs.declared.Answer.the-variants.{Done}
 use Rattle.grid.specs.Grid.{gridOf}
 use Rattle.grid.specs.Good.{badFluid, badRule}
-use Rattle.grid.specs.Outcome.{ifNone}
+use Rattle.grid.specs.Outcome.{orRefuse, ifNone}
+use Rattle.pumps.specs.Three.{totalsGood}
 use Rattle.record.specs.declared.Site.{Site}
 use Rattle.record.specs.Layout.{siteGood}
-use Rattle.record.specs.Reading.{sidesIn, settingsIn, siteIn, cellsIn, flagIn, stateIn, contentAnswer}
+use Rattle.record.specs.Reading.{sidesIn, settingsIn, siteIn, pouredIn, takenIn, cellsIn, flagIn, stateIn, contentAnswer}
 use Rattle.record.proofs.Answers.{or-pass, or-fail}
 use Rattle.reading.proofs.content.content.Statement.{statement}
 use Rattle.reading.proofs.content.content.Tie as tie
@@ -47,7 +48,7 @@ unfolding contentAnswer
 returns c =
     let r = now (c .before .before .before .before .before .args .rec) in
     let n = cellsIn r in
-    let five = ifNone n 5 (badFluid 18 (gridOf (sidesIn r)) (flagIn r)) (ifNone (suc n) 6 (badRule d3q19 n (stateIn r)) Done) in
+    let five = ifNone n 5 (badFluid 18 (gridOf (sidesIn r)) (flagIn r)) (ifNone (suc n) 6 (badRule d3q19 n (stateIn r)) (orRefuse (totalsGood (pouredIn r) (takenIn r)) 6 n Done)) in
     sym (or-fail 3 0 five (sym (site-is (c .before)) ∙ not-true _ (c .if1 .taken)))
 
 -- src/content.rt:55:5
@@ -60,7 +61,7 @@ unfolding contentAnswer
 returns-2 c =
     let r = now (c .before .before .before .before .before .before .args .rec) in
     let n = cellsIn r in
-    let five = ifNone n 5 (badFluid 18 (gridOf (sidesIn r)) (flagIn r)) (ifNone (suc n) 6 (badRule d3q19 n (stateIn r)) Done) in
+    let five = ifNone n 5 (badFluid 18 (gridOf (sidesIn r)) (flagIn r)) (ifNone (suc n) 6 (badRule d3q19 n (stateIn r)) (orRefuse (totalsGood (pouredIn r) (takenIn r)) 6 n Done)) in
     c .cell-tests .ensures ∙ sym (or-pass 3 0 five (sym (site-is (c .before .before)) ∙ not-false _ (c .before .if1 .left)))
 
 pub content-spec : {M : Type 1} → statement M

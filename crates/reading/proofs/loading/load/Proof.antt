@@ -41,6 +41,7 @@ use denote.Triple.Walked.{says, Stays, stay-none-slice, gave-slice, walkOf, goes
 use denote.Triple.Clauses.{ensured, lasts}
 use denote.Exit.{yes}
 use Rattle.record.specs.Promise.{flagless, spanOf, Read, Own}
+use Rattle.record.proofs.Spanned.{handed}
 use Rattle.lattice.specs.declared.Settings.{Settings}
 use Rattle.grid.specs.declared.Sides.{Sides}
 use Rattle.grid.specs.declared.Answer.{Answer}
@@ -125,8 +126,8 @@ module _ {M : Type 1} (𝓤 : URA M) (H : Heap 𝓤) (A : Atoms 𝓤) (W : Given
       qed W (‵ (flft κ q) ∷ ‵ Owned ∷ ‵ (D.the-row .own h (D′.lowered h ∷ [])) ∷ []) ∵
       nothing ! $ move ! (1 ∷ 0 ∷ []) $ join ! $ nothing ! $ move ! (3 ∷ 0 ∷ []) $ fjoin ! $ move ! (2 ∷ 0 ∷ []) $ fjoin ! $ move ! (1 ∷ 0 ∷ []) $ join ! $ frame ! $ done !
 
-  flags-said : (h : Head) (f : RefT (List ℕ)) → ent 𝓤 (ensured 𝓤 H A flags.ended (flags.clauses 𝓤 H A mem run) (κ, tt) (x₀, (h, tt)) tt f) (fact 𝓤 (Own x₀ (spanOf (length (now x₀)) h) f))
-  flags-said h f = exE 𝓤 _ (λ ws. snd∗ 𝓤 (sem 𝓤 H A (lasts flags.ended (κ, tt) (x₀, (h, tt)) ws)) (fact 𝓤 (Own x₀ (spanOf (length (now x₀)) h) f)))
+  flags-said : (h : Head) (f : RefT (List ℕ)) → ent 𝓤 (ensured 𝓤 H A flags.ended (flags.clauses 𝓤 H A mem run) (κ, tt) (x₀, (h, tt)) tt f) (fact 𝓤 (Own x₀ (spanOf (now x₀) h) f))
+  flags-said h f = exE 𝓤 _ (λ ws. snd∗ 𝓤 (sem 𝓤 H A (lasts flags.ended (κ, tt) (x₀, (h, tt)) ws)) (fact 𝓤 (Own x₀ (spanOf (now x₀) h) f)))
 
   -- what is known of each result holds of the machine value that it spells
   whole-head : (h : Head) (w : Val) → Is D.the-row h (w ∷ []) → Is D.the-row h (D′.lowered h ∷ [])
@@ -152,12 +153,12 @@ module _ {M : Type 1} (𝓤 : URA M) (H : Heap 𝓤) (A : Atoms 𝓤) (W : Given
   abbrev Left : RefT (List ℕ) → Ws → List (Item 𝓤)
   Left f zs = ‵ (ShrSlice (named 0) κ u8 .own f (v f ∷ [])) ∷ (‵ (flft κ q) ⊛ ‵ ftrue) ∷ ‵ Owned ∷ raw (toks 𝓤 A 4 κs qs) ∷ ‵ (finally i64 (x₄ .name) (zs .1 .1 .1 .1 .0)) ∷ ‵ (finally u32 (x₃ .name) (zs .1 .1 .1 .0)) ∷ ‵ (finally i32 (x₂ .name) (zs .1 .1 .0)) ∷ ‵ (finally i32 (x₁ .name) (zs .1 .0)) ∷ []
 
-  exits : (h : Head) (f : RefT (List ℕ)) (zs : Ws) → Is D.the-row h (D′.lowered h ∷ []) → Says h zs → Own x₀ (spanOf (length (now x₀)) h) f
+  exits : (h : Head) (f : RefT (List ℕ)) (zs : Ws) → Is D.the-row h (D′.lowered h ∷ []) → Says h zs → Own x₀ (spanOf (now x₀) h) f
       → length (zs .1 .0) ≡ length (now x₁) → length (zs .1 .1 .0) ≡ length (now x₂) → length (zs .1 .1 .1 .0) ≡ length (now x₃) → length (zs .1 .1 .1 .1 .0) ≡ length (now x₄)
       → ent 𝓤 (⋆ 𝓤 H A (Left f zs)) (Post (L′.lowered (made h f)))
   exits h f zs is e e′ m₁ m₂ m₃ m₄ =
       qed W (Left f zs) ∵
-      suffices ! _ (ends-at 𝓤 H A this.ended stayed (this.clauses 𝓤 H A mem run) W (((κ, κs), (q, qs), tt, a, vals), tt) (L′.lowered (made h f)) (made h f) zs (tt, (m₁, (m₂, (m₃, (m₄, tt)))))) $ says ! (e, e′) $
+      suffices ! _ (ends-at 𝓤 H A this.ended stayed (this.clauses 𝓤 H A mem run) W (((κ, κs), (q, qs), tt, a, vals), tt) (L′.lowered (made h f)) (made h f) zs (tt, (m₁, (m₂, (m₃, (m₄, tt)))))) $ says ! (e, handed x₀ (flagless (now x₁) (now x₂) (now x₃) (now x₄)) h f (e .head-is) e′) $
       -- the tokens
       move ! (1 ∷ []) $ split ! $ move ! (0 ∷ 4 ∷ []) $ join ! $ frame ! $
       -- [true; what flags owns; what rec owns; the last lists]: what is had of the parameters
@@ -198,7 +199,7 @@ module _ {M : Type 1} (𝓤 : URA M) (H : Heap 𝓤) (A : Atoms 𝓤) (W : Given
         -- [what `flags_of` asks; what rec owns; the other tokens; the last lists; _15; …]
         calls-at ! fm (Flags 𝓤 H A mem run) known-flags (to-flags h) (and-then ! (load ! (from ! (stop !)) (look ! 35 refl)) (and-then ! (load ! (from ! (stop !)) (look ! 25 refl)) (no-more !))) (λ u.
         use1 W (later (some (λ (f : RefT (List ℕ)). ((‵ (flft κ q) ⊛ ‵ ftrue) ⊛ ‵ (ShrSlice (named 0) κ u8 .own f (u ∷ []))) ⊛ raw (ensured 𝓤 H A flags.ended (flags.clauses 𝓤 H A mem run) (κ, tt) (x₀, (h, tt)) tt f)))) (id⊢ 𝓤 _) $ await ! tt $ pick ! (λ f.
-        split ! $ move ! (1 ∷ []) $ use1 W (raw (fact 𝓤 (Own x₀ (spanOf (length (now x₀)) h) f))) (flags-said h f) $ heard ! (Own x₀ (spanOf (length (now x₀)) h) f) (λ e′. split ! $ move ! (1 ∷ []) $
+        split ! $ move ! (1 ∷ []) $ use1 W (raw (fact 𝓤 (Own x₀ (spanOf (now x₀) h) f))) (flags-said h f) $ heard ! (Own x₀ (spanOf (now x₀) h) f) (λ e′. split ! $ move ! (1 ∷ []) $
         peeks ! (ShrSlice (named 0) κ u8) (Is (ShrSlice (named 0) κ u8)) (shows 𝓤 H A (ShrSlice (named 0) κ u8)) f (u ∷ []) (λ is′.
         land ! (from ! (stop !)) (init ! 24 refl (shr-slice-lawful 𝓤 H A W erased κ u8 .typed f (u ∷ []) is′ .0)) $
         rewrite ! 24 (λ (u : Val). ‵ (fat fullShare (sliceTy (tyRef erased imm (tyInt w8))) l7 0 u)) (ap only (shr-slice-tells (named 0) κ u8 f _ is′)) refl $ rewrite ! 0 (λ (us : List Val). ‵ (ShrSlice (named 0) κ u8 .own f us)) (shr-slice-tells (named 0) κ u8 f _ is′) refl $

@@ -9,9 +9,9 @@ use Rattle.grid.specs.declared.Answer.the-variants.{Done}
 use Rattle.grid.specs.Grid.{sidesGood, cellsOf}
 use Rattle.grid.specs.Outcome.{accepted}
 use Rattle.grid.proofs.GoodSides.{good-sides}
-use Rattle.record.specs.Reading.{sidesIn, cellsIn, interfacesIn, liquidsIn}
+use Rattle.record.specs.Reading.{sidesIn, cellsIn, interfacesIn, liquidsIn, ends, behindFlags}
 use Rattle.record.proofs.Answers.{chain-stops, chain-ok}
-use Rattle.record.proofs.Shaped.{opens, fronts, flagged, ends, chain-opens, chain-fronts, opened, fronted, shape-is}
+use Rattle.record.proofs.Shaped.{opens, fronts, flagged, chain-opens, chain-fronts, opened, fronted, shape-is}
 use Rattle.reading.proofs.shape.shape.Statement.{statement}
 use Rattle.reading.proofs.shape.shape.Tie as tie
 
@@ -48,7 +48,7 @@ returns : tie.Need-returns
 returns c =
     let a = c .before .before .before .before .args in
     let r = now (a .rec) in
-    let back = flagged r (ends r (cellsIn r) (interfacesIn r) (liquidsIn r) Done) in
+    let back = flagged r (ends r (behindFlags r) (interfacesIn r) (liquidsIn r) Done) in
     let opening = opens r (a .parts) (a .masses) (a .fills) (a .carry) in
     let opens-so = chain-opens r (a .parts) (a .masses) (a .fills) (a .carry) in
     let is = shape-is r (a .parts) (a .masses) (a .fills) (a .carry) Done in
@@ -73,7 +73,7 @@ returns-2 : tie.Need-returns-2
 returns-2 c =
     let a = c .before .before .before .before .before .before .before .before .before .args in
     let r = now (a .rec) in
-    let back = flagged r (ends r (cellsIn r) (interfacesIn r) (liquidsIn r) Done) in
+    let back = flagged r (ends r (behindFlags r) (interfacesIn r) (liquidsIn r) Done) in
     let opening = opens r (a .parts) (a .masses) (a .fills) (a .carry) in
     let opens-so = chain-opens r (a .parts) (a .masses) (a .fills) (a .carry) in
     let is = shape-is r (a .parts) (a .masses) (a .fills) (a .carry) Done in
@@ -95,7 +95,7 @@ returns-3 : tie.Need-returns-3
 returns-3 c =
     let a = c .before .before .before .before .before .before .before .before .before .before .args in
     let r = now (a .rec) in
-    let back = flagged r (ends r (cellsIn r) (interfacesIn r) (liquidsIn r) Done) in
+    let back = flagged r (ends r (behindFlags r) (interfacesIn r) (liquidsIn r) Done) in
     let opening = opens r (a .parts) (a .masses) (a .fills) (a .carry) in
     let opens-so = chain-opens r (a .parts) (a .masses) (a .fills) (a .carry) in
     let is = shape-is r (a .parts) (a .masses) (a .fills) (a .carry) Done in

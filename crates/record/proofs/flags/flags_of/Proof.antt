@@ -19,7 +19,7 @@ span-requires c κs = search needs
 
 -- src/flags.rt:36:5
 inside : (c : tie.After-span) → Inside (length (now (c .before .before .args .rec))) (c .span .result)
-inside c = let a = c .before .before .args in subst (Inside (length (now (a .rec)))) (sym (c .span .ensures)) (span-inside (length (now (a .rec))) (a .h))
+inside c = let a = c .before .before .args in subst (Inside (length (now (a .rec)))) (sym (c .span .ensures)) (span-inside (now (a .rec)) (a .h))
 
 sub-result : tie.Need-sub-result
 sub-result c = inside c .order

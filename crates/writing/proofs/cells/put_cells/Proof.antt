@@ -1,7 +1,8 @@
 -- `writing::cells::put_cells` writes sections 5 to 7, one after the other. Assumes nothing.
 use borrow.Author.Needs.{needs}
-use mathlib.Core.Path.{refl, ap}
-use Prim.Native.Nat.{ℕ, _+_, _*_}
+use mathlib.Core.Path.{refl}
+use Prim.Native.Nat.{_+_, _*_}
+use native.Mathlib.Omega.{arith}
 use lib.IntN.{pos}
 use lib.ListN.{length, getD}
 use denote.Ref.{now}
@@ -41,7 +42,7 @@ returns c =
     let a = c .before .before .before .before .before .before .before .before .before .before .before .before .before .before .before .args in
     let s = now (a .flags) in
     cells-put (now (a .room)) s (λ k. getD (now (a .masses)) k (pos 0)) (λ k j. getD (now (a .parts)) (19 * k + j) (pos 0)) (length s) _ refl
-    (ap (λ (i : ℕ). 88 + length s + 4 * i) (c .before .before .before .before .before .before .before .before .before .before .before .before .interface-cells .ensures))
+    (omega (arith, c .before .before .before .before .before .before .before .before .before .before .before .before .interface-cells .ensures))
     (c .before .before .before .before .before .before .before .before .before .before .put-flag-section .ensures)
     (c .before .before .before .before .before .before .put-mass-section .ensures)
     (c .before .before .put-part-section .ensures)

@@ -35,7 +35,7 @@ add-result-3 c =
     }
 
 returns : tie.Need-returns
-returns c = search needs
+returns c = omega (arith, c .before .interface-cells .ensures, c .liquid-cells .ensures)
 
 pub record-length-spec : {M : Type 1} → statement M
 record-length-spec =

@@ -1,15 +1,17 @@
--- `writing::writer::put_record` writes the first 80 bytes, and the cells behind them. Assumes nothing.
+-- `writing::writer::put_record` writes the first 96 bytes, and the cells behind them. Assumes nothing.
 use borrow.Author.Needs.{needs}
-use mathlib.Core.Path.{ap, _∙_, _≡_, sym}
+use mathlib.Core.Path.{ap, ap₂, _∙_, _≡_, sym}
 use Prim.Native.Nat.{_+_, _*_, ℕ, _≤_}
 use lib.IntN.{ℤ, pos}
 use lib.ListN.{length, getD}
 use lib.Seq.{sets}
 use denote.Ref.{now}
 use mir.Syntax.{w64}
+use mir.Val.{toZ, ofZ}
 use mir.ValLaws.{toZ-ofZ}
 use mathlib.Core.Bool.{true}
 use native.Mathlib.Omega.{arith}
+use Rattle.record.specs.Places.{counts, cellsFrom}
 use Rattle.record.specs.Layout.{headBytes, cellsBytes}
 use Rattle.record.proofs.Numbers.{then-put}
 use Rattle.record.proofs.Assembled.{length-head}
@@ -49,11 +51,14 @@ returns c =
     let d = c .before .before .before .before .before .before .before .before .before .before in
     let a = d .args in
     let s = now (a .flags) in
-    then-put (now (a .room)) 0 80 (headBytes (a .s) (a .g) (a .t) (a .carry))
+    let head = headBytes (a .s) (a .g) (a .t) in
+    then-put (now (a .room)) 0 (cellsFrom counts 3) (head (a .carry) (a .poured) (a .taken))
     (cellsBytes (length s) s (λ k. getD (now (a .masses)) k (pos 0)) (λ k j. getD (now (a .parts)) (19 * k + j) (pos 0)))
-    (c .before .before .before .before .before .before .put-head .ensures ∙ ap (λ (z : ℤ). sets (now (a .room)) 0 (headBytes (a .s) (a .g) (a .t) z)) (toZ-ofZ w64 (a .carry) (d .fits .carry)))
+    (c .before .before .before .before .before .before .put-head .ensures
+    ∙ ap (λ (z : ℤ). sets (now (a .room)) 0 (head z (toZ w64 (ofZ w64 (a .poured))) (toZ w64 (ofZ w64 (a .taken))))) (toZ-ofZ w64 (a .carry) (d .fits .carry))
+    ∙ ap₂ (λ (y z : ℤ). sets (now (a .room)) 0 (head (a .carry) y z)) (toZ-ofZ w64 (a .poured) (d .fits .poured)) (toZ-ofZ w64 (a .taken) (d .fits .taken)))
     (c .before .before .put-cells .ensures)
-    (ap (λ (k : ℕ). 0 + k) (length-head (a .s) (a .g) (a .t) (a .carry)))
+    (ap (λ (k : ℕ). 0 + k) (length-head (a .s) (a .g) (a .t) (a .carry) (a .poured) (a .taken)))
 
 pub put-record-spec : {M : Type 1} → statement M
 put-record-spec = tie.close (tie.spec put-head-requires put-cells-requires same-length returns)

@@ -1,4 +1,4 @@
-// skw write: a record read and written back as the same bytes.
+// skw write: a record read and written back.
 
 use super::Command;
 use crate::arguments::{Arguments, OUTPUT};
@@ -8,10 +8,11 @@ use crate::records;
 pub const COMMAND: Command = Command {
     name: "write",
     usage: "[FILE] [-o FILE]",
-    summary: "read a record and write it back: the same bytes",
+    summary: "read a record and write it back",
     help: "\
 Reads a record and writes what was read. An accepted record comes back as the
-same bytes and a refused one not at all, so that what lies behind this in a pipe
+same bytes, or, where it has the carry alone in section 4, with poured and taken
+as 0 beside it; a refused one not at all, so that what lies behind this in a pipe
 gets whole records only.
 
     skw write sump.rec | cmp - sump.rec

@@ -1,0 +1,481 @@
+// The flume's plain step: P3 in i64 as one writes it for speed in Rust, every index unchecked and nothing proved.
+
+use oracle::flume::sets::fits;
+use oracle::{Set, SetMut};
+
+use crate::engine::{lend_again, Answer, Ran, ACCEPTED};
+use crate::flume::Settings;
+use crate::lattice::{
+    add, at, opposite, put, Changes, EMPTIED, EMPTY, FILLED, FLUID, INTERFACE, NOTHING, OPEN, WALL,
+};
+
+type Grid = crate::lattice::Grid<9>;
+
+const FULL: i64 = 65_536;
+const PART_LIMIT: i64 = 1_179_648;
+const LOWEST_DENSITY: i64 = 294_912;
+const HIGHEST_DENSITY: i64 = 1_179_648;
+const MASS_LIMIT: i64 = 2_359_296;
+const CARRY_LIMIT: i64 = 1_000_000_000_000;
+const MOST_STEPS: usize = 1000;
+
+type Parts = [i64; 9];
+
+/// Density and momentum of a cell.
+#[derive(Clone, Copy)]
+struct Flow {
+    rho: i64,
+    j: [i64; 2],
+}
+
+/// The pairs of directions have one weight each.
+#[inline(always)]
+const fn weight(i: usize) -> i64 {
+    if i < 5 {
+        4
+    } else {
+        1
+    }
+}
+
+/// e·v of the first direction of each pair; the second's is its negative.
+#[inline(always)]
+fn along([x, z]: [i64; 2]) -> [i64; 4] {
+    [x, z, x + z, x - z]
+}
+
+/// e·v of any direction.
+#[inline(always)]
+fn along_direction(dots: &[i64; 4], i: usize) -> i64 {
+    let dot = dots[(i - 1) / 2];
+    if i % 2 == 1 {
+        dot
+    } else {
+        -dot
+    }
+}
+
+#[inline(always)]
+fn square([x, z]: [i64; 2]) -> i64 {
+    x * x + z * z
+}
+
+#[inline(always)]
+fn flow_of(f: &Parts) -> Flow {
+    let apart = |h: usize| f[2 * h + 1] - f[2 * h + 2];
+    let x = apart(0) + apart(2) + apart(3);
+    let z = apart(1) + apart(2) - apart(3);
+    Flow { rho: f.iter().sum(), j: [x, z] }
+}
+
+#[inline(always)]
+fn steady(flow: &Flow) -> bool {
+    (LOWEST_DENSITY..=HIGHEST_DENSITY).contains(&flow.rho) && 9 * square(flow.j) <= flow.rho * flow.rho
+}
+
+#[inline(always)]
+fn inside(f: &Parts) -> bool {
+    f.iter().fold(true, |all, &part| all & (-PART_LIMIT..=PART_LIMIT).contains(&part))
+}
+
+#[inline(always)]
+fn fill_of(mass: i64, rho: i64) -> i64 {
+    if mass <= 0 {
+        0
+    } else if mass >= rho {
+        FULL
+    } else {
+        FULL * mass / rho
+    }
+}
+
+#[inline(always)]
+unsafe fn own(parts: &[i32], c: usize) -> Parts {
+    std::array::from_fn(|k| i64::from(at(parts, 9 * c + k)))
+}
+
+#[inline(always)]
+unsafe fn paste(parts: &mut [i32], c: usize, f: &Parts) {
+    for (k, &part) in f.iter().enumerate() {
+        put(parts, 9 * c + k, part as i32);
+    }
+}
+
+/// Stage 1 of an open cell.
+#[inline(always)]
+unsafe fn straight(grid: &Grid, parts: &[i32], c: usize) -> Parts {
+    std::array::from_fn(|k| i64::from(at(parts, grid.source(c, k))))
+}
+
+/// Stage 6's normal along each direction's pair, which stage 1 reads too; a wall counts with the cell's own fill.
+#[inline(always)]
+unsafe fn slopes(grid: &Grid, old: &Set, c: usize) -> [i64; 4] {
+    let fill = |i: usize| {
+        let b = grid.near(c, i);
+        i64::from(at(old.fills, if at(old.flags, b) == WALL { c } else { b }))
+    };
+    along([fill(2) - fill(1), fill(4) - fill(3)])
+}
+
+/// Stage 1 of any liquid cell.
+unsafe fn streamed(grid: &Grid, old: &Set, c: usize) -> Parts {
+    let own = own(old.parts, c);
+    let flow = flow_of(&own);
+    let dots = along(flow.j);
+    let (density, speed) = (flow.rho * flow.rho, square(flow.j));
+    let surface = at(old.flags, c) == INTERFACE;
+    let slopes = if surface { slopes(grid, old, c) } else { [0; 4] };
+    let mut f = own;
+    for i in 1..9 {
+        let (k, b) = (opposite(i), grid.near(c, i));
+        let flag = at(old.flags, b);
+        f[k] = if flag == WALL {
+            own[i]
+        } else if flag == EMPTY || along_direction(&slopes, i) > 0 {
+            let dot = dots[(i - 1) / 2];
+            weight(i) * 16_384 * (2 * density + 9 * dot * dot - 3 * speed) / density - own[i]
+        } else {
+            i64::from(at(old.parts, 9 * b + k))
+        };
+    }
+    f
+}
+
+/// Stage 2.
+unsafe fn traded(grid: &Grid, old: &Set, c: usize) -> i64 {
+    let fill = i64::from(at(old.fills, c));
+    let mut mass = i64::from(at(old.masses, c));
+    for i in 1..9 {
+        let b = grid.near(c, i);
+        let d = i64::from(at(old.parts, 9 * b + opposite(i))) - i64::from(at(old.parts, 9 * c + i));
+        mass += match at(old.flags, b) {
+            FLUID => d,
+            INTERFACE => (fill + i64::from(at(old.fills, b))) * d / 131_072,
+            _ => 0,
+        };
+    }
+    mass
+}
+
+/// Stage 3.
+#[inline(always)]
+fn pushed(f: &Parts, gravity: [i64; 2]) -> Flow {
+    let Flow { rho, j } = flow_of(f);
+    Flow { rho, j: std::array::from_fn(|axis| j[axis] + rho * gravity[axis] / 1_048_576) }
+}
+
+/// Stage 4. Opposite directions share their products.
+#[inline(always)]
+fn collided(f: &Parts, flow: &Flow, p: i64) -> Parts {
+    let rho = flow.rho;
+    let base = 2 * rho * rho - 3 * square(flow.j);
+    let mut parts = [0; 9];
+    let mut rest = rho;
+    for (h, dot) in along(flow.j).into_iter().enumerate() {
+        let i = 2 * h + 1;
+        let (even, odd) = (base + 9 * dot * dot, 6 * rho * dot);
+        let relaxed = |f: i64, q: i64| f + p * (weight(i) * q - 72 * rho * f) / (73_728 * rho);
+        parts[i] = relaxed(f[i], even + odd);
+        parts[i + 1] = relaxed(f[i + 1], even - odd);
+        rest -= parts[i] + parts[i + 1];
+    }
+    parts[0] = rest;
+    parts
+}
+
+/// Stages 1 to 4 and stage 5's tests, cell by cell. Answers whether every new liquid cell surely keeps the rules of
+/// test 8, or the cell that refusal 7 names.
+unsafe fn flowing(
+    grid: &Grid,
+    settings: Settings,
+    old: &Set,
+    new: &mut SetMut,
+    marks: &mut [u8],
+    changes: &mut Changes,
+) -> Result<bool, usize> {
+    let mut fair = true;
+    for c in 0..grid.n {
+        let flag = at(old.flags, c);
+        if flag != FLUID && flag != INTERFACE {
+            paste(new.parts, c, &[0; 9]);
+            put(new.masses, c, 0);
+            put(new.fills, c, 0);
+            put(marks, c, NOTHING);
+            continue;
+        }
+        let f = if at(marks, c) == OPEN { straight(grid, old.parts, c) } else { streamed(grid, old, c) };
+        let flow = pushed(&f, settings.gravity);
+        if !steady(&flow) {
+            return Err(c);
+        }
+        let f = collided(&f, &flow, settings.p);
+        paste(new.parts, c, &f);
+        fair &= inside(&f) & steady(&flow_of(&f));
+        let (mut mass, mut fill, mut mark) = (flow.rho, FULL, NOTHING);
+        if flag == INTERFACE {
+            mass = traded(grid, old, c);
+            fill = fill_of(mass, flow.rho);
+            fair &= mass.abs() <= MASS_LIMIT;
+            if 1000 * mass > 1001 * flow.rho {
+                mark = FILLED;
+                changes.filled.push(c);
+            } else if 1000 * mass < -flow.rho {
+                mark = EMPTIED;
+                changes.emptied.push(c);
+            }
+        }
+        put(new.masses, c, mass as i32);
+        put(new.fills, c, fill as u32);
+        put(marks, c, mark);
+    }
+    Ok(fair)
+}
+
+/// Stage 5's parts of a new interface cell. Its neighbours' flow is worked out once more: few cells need it.
+unsafe fn born(grid: &Grid, settings: Settings, old: &Set, c: usize) -> Parts {
+    let (mut count, mut rho, mut j) = (0, 0, [0; 2]);
+    for i in 1..9 {
+        let b = grid.near(c, i);
+        let flag = at(old.flags, b);
+        if flag == FLUID || flag == INTERFACE {
+            let flow = pushed(&streamed(grid, old, b), settings.gravity);
+            count += 1;
+            rho += flow.rho;
+            j = std::array::from_fn(|axis| j[axis] + flow.j[axis]);
+        }
+    }
+    let rho = rho / count;
+    let j = j.map(|sum| sum / count);
+    let (base, dots) = (2 * rho * rho - 3 * square(j), along(j));
+    let mut parts = [0; 9];
+    let mut rest = rho;
+    for i in 1..9 {
+        let dot = along_direction(&dots, i);
+        parts[i] = weight(i) * (base + 6 * rho * dot + 9 * dot * dot) / (72 * rho);
+        rest -= parts[i];
+    }
+    parts[0] = rest;
+    parts
+}
+
+/// Stage 6 of one converted cell; sign is 1 for a filled one, −1 for an emptied one.
+unsafe fn give(grid: &Grid, old: &Set, new: &mut SetMut, c: usize, excess: i64, sign: i64) {
+    let dots = slopes(grid, old, c);
+    let (mut targets, mut total) = (0, 0);
+    let mut weights = [0; 9];
+    for i in 1..9 {
+        if at(new.flags, grid.near(c, i)) == INTERFACE {
+            targets += 1;
+            weights[i] = (sign * along_direction(&dots, i)).max(0);
+            total += weights[i];
+        }
+    }
+    if targets == 0 {
+        new.carry[0] += excess;
+        return;
+    }
+    if total == 0 {
+        total = targets;
+        for (i, weight) in weights.iter_mut().enumerate().skip(1) {
+            *weight = i64::from(at(new.flags, grid.near(c, i)) == INTERFACE);
+        }
+    }
+    let (mut remainder, mut first) = (excess, 0);
+    for i in (1..9).rev().filter(|&i| weights[i] > 0) {
+        let (b, share) = (grid.near(c, i), excess * weights[i] / total);
+        add(new.masses, b, share as i32);
+        remainder -= share;
+        first = b;
+    }
+    add(new.masses, first, remainder as i32);
+}
+
+/// Stages 5 and 6, and the fills of the cells they touch. Answers as `flowing` does.
+unsafe fn converted(
+    grid: &Grid,
+    settings: Settings,
+    old: &Set,
+    new: &mut SetMut,
+    marks: &mut [u8],
+    mut changes: Changes,
+) -> bool {
+    let mut fair = true;
+    grid.convert(old.flags, new.flags, marks, &mut changes);
+    for &c in &changes.born {
+        let f = born(grid, settings, old, c);
+        fair &= inside(&f) & steady(&flow_of(&f));
+        paste(new.parts, c, &f);
+    }
+    for &c in &changes.filled {
+        let rho = flow_of(&own(new.parts, c)).rho;
+        give(grid, old, new, c, i64::from(at(new.masses, c)) - rho, 1);
+        put(new.masses, c, rho as i32);
+        put(new.fills, c, FULL as u32);
+    }
+    for &c in &changes.emptied {
+        give(grid, old, new, c, i64::from(at(new.masses, c)), -1);
+        paste(new.parts, c, &[0; 9]);
+        put(new.masses, c, 0);
+        put(new.fills, c, 0);
+    }
+    // Every cell whose flag or mass has changed besides lies beside a converted one.
+    for &c in changes.filled.iter().chain(&changes.emptied) {
+        put(marks, c, NOTHING);
+        for i in 1..9 {
+            let b = grid.near(c, i);
+            if at(new.flags, b) == INTERFACE {
+                let mass = i64::from(at(new.masses, b));
+                put(new.fills, b, fill_of(mass, flow_of(&own(new.parts, b)).rho) as u32);
+                fair &= mass.abs() <= MASS_LIMIT;
+            }
+        }
+    }
+    fair & (new.carry[0].abs() <= CARRY_LIMIT)
+}
+
+/// The place of test 6, or of test 8 in the next state.
+unsafe fn broken_place(grid: &Grid, set: &Set) -> Option<usize> {
+    let broken = |c: usize| {
+        let f = own(set.parts, c);
+        let (mass, fill) = (i64::from(at(set.masses, c)), i64::from(at(set.fills, c)));
+        let flag = at(set.flags, c);
+        if flag != FLUID && flag != INTERFACE {
+            return f.iter().fold(mass | fill, |all, &part| all | part) != 0;
+        }
+        // The ranges first: what is squared after them is small.
+        if !inside(&f) {
+            return true;
+        }
+        let flow = flow_of(&f);
+        !steady(&flow)
+            || if flag == FLUID {
+                mass != flow.rho || fill != FULL
+            } else {
+                mass.abs() > MASS_LIMIT || fill != fill_of(mass, flow.rho)
+            }
+    };
+    let carry_broken = !(-CARRY_LIMIT..=CARRY_LIMIT).contains(&set.carry[0]);
+    (0..grid.n).find(|&c| broken(c)).or(carry_broken.then_some(grid.n))
+}
+
+/// Test 3 as step and run make it.
+fn allowed(settings: Settings) -> bool {
+    let small = settings.gravity.iter().all(|g| (-1048..=1048).contains(g));
+    (1..=2037).contains(&settings.p) && small && square(settings.gravity) <= 1_099_511
+}
+
+/// Tests 1 to 6.
+fn tested(
+    sides: [usize; 2],
+    settings: Settings,
+    first: &Set,
+    second: &Set,
+    marks: &[u8],
+) -> Result<Grid, Answer> {
+    let grid = Grid::flume(sides).ok_or(Answer::refused(1, 0))?;
+    if !fits(first, grid.n) || !fits(second, grid.n) || marks.len() != grid.n {
+        return Err(Answer::refused(2, 0));
+    }
+    if !allowed(settings) {
+        return Err(Answer::refused(3, 0));
+    }
+    let refused = |number: u8| move |place: usize| Answer::refused(number, place);
+    // The lengths have been tested.
+    let found = unsafe {
+        let flag = grid.wrong_flag(first.flags).map(refused(4));
+        let open = || grid.open_fluid(first.flags).map(refused(5));
+        flag.or_else(open).or_else(|| broken_place(&grid, first).map(refused(6)))
+    };
+    found.map_or(Ok(grid), Err)
+}
+
+fn copy(from: &Set, to: &mut SetMut) {
+    to.flags.copy_from_slice(from.flags);
+    to.parts.copy_from_slice(from.parts);
+    to.masses.copy_from_slice(from.masses);
+    to.fills.copy_from_slice(from.fills);
+    to.carry.copy_from_slice(from.carry);
+}
+
+unsafe fn next_state(
+    grid: &Grid,
+    settings: Settings,
+    old: &Set,
+    new: &mut SetMut,
+    marks: &mut [u8],
+) -> Answer {
+    let mut changes = Changes::default();
+    grid.mark_open(old.flags, marks);
+    let mut fair = match flowing(grid, settings, old, new, marks, &mut changes) {
+        Ok(fair) => fair,
+        Err(place) => return Answer::refused(7, place),
+    };
+    new.flags.copy_from_slice(old.flags);
+    new.carry[0] = old.carry[0];
+    if !changes.none() {
+        fair &= converted(grid, settings, old, new, marks, changes);
+    }
+    // Only where something may be broken is the next state looked through.
+    match if fair { None } else { broken_place(grid, &new.as_set()) } {
+        Some(place) => Answer::refused(8, place),
+        None => ACCEPTED,
+    }
+}
+
+/// The inner step: stages 1 to 7 with tests 7 and 8, without tests 1 to 6.
+///
+/// # Safety
+/// The first set is a good state of this grid, and the second set and the marks have its lengths.
+pub unsafe fn inner(
+    grid: &Grid,
+    settings: Settings,
+    first: Set,
+    mut second: SetMut,
+    marks: &mut [u8],
+) -> Answer {
+    let answer = next_state(grid, settings, &first, &mut second, marks);
+    if answer != ACCEPTED {
+        copy(&first, &mut second);
+        marks.fill(NOTHING);
+    }
+    answer
+}
+
+/// The step with all its tests.
+pub fn step(sides: [usize; 2], settings: Settings, first: Set, second: SetMut, marks: &mut [u8]) -> Answer {
+    match tested(sides, settings, &first, &second.as_set(), marks) {
+        // The state is good and the lengths are right: both have been tested.
+        Ok(grid) => unsafe { inner(&grid, settings, first, second, marks) },
+        Err(answer) => answer,
+    }
+}
+
+/// The run: from the first set to the second and back, tested once.
+pub fn run<'a>(
+    sides: [usize; 2],
+    settings: Settings,
+    steps: usize,
+    mut first: SetMut<'a>,
+    mut second: SetMut<'a>,
+    marks: &mut [u8],
+) -> Ran {
+    if steps > MOST_STEPS {
+        return Ran { count: 0, answer: Answer::refused(9, 0) };
+    }
+    let grid = match tested(sides, settings, &first.as_set(), &second.as_set(), marks) {
+        Ok(grid) => grid,
+        Err(answer) => return Ran { count: 0, answer },
+    };
+    for count in 0..steps {
+        // An accepted step leaves a good state, and a refused one has made the sets equal.
+        let answer = unsafe { inner(&grid, settings, first.as_set(), lend_again(&mut second), marks) };
+        if answer != ACCEPTED {
+            return Ran { count, answer };
+        }
+        std::mem::swap(&mut first, &mut second);
+    }
+    // Whichever of the two it is by now, the first holds the state reached.
+    copy(&first.as_set(), &mut second);
+    marks.fill(NOTHING);
+    Ran { count: steps, answer: ACCEPTED }
+}

@@ -1,0 +1,42 @@
+// skw take: take an amount from a cell of the surface.
+
+use skwarzyna::spelling::grouped;
+
+use super::Command;
+use crate::arguments::{Arguments, OUTPUT, QUIET};
+use crate::failure::{remark, Failure};
+use crate::records;
+
+pub const COMMAND: Command = Command {
+    name: "take",
+    usage: "CELL AMOUNT [FILE] [-o FILE] [-q]",
+    summary: "take an amount from a cell of the surface",
+    help: "\
+Takes the smaller of an amount and the cell's water from interface cell CELL, nothing
+if it has none, and writes the record of the grid after it. The amount is in the
+unit of the masses, 589,824 to a full cell, 1 to 589,824 at a time. What was taken,
+the cell's water and the balance are told.
+
+    skw take 194 5000 sump.rec | skw run 100 | skw water",
+    choices: &[OUTPUT, QUIET],
+    act,
+};
+
+fn act(mut arguments: Arguments) -> Result<(), Failure> {
+    let (cell, amount) = (arguments.number("CELL")?, arguments.number("AMOUNT")?);
+    let (input, output) = (arguments.input()?, arguments.output(true)?);
+    output.ready()?;
+    let (mut record, _) = records::read(&input)?;
+    let moved = record.grid.take(cell, amount).map_err(|refusal| records::refused(&record, refusal))?;
+    records::write(&record, &output)?;
+    if !arguments.has(&QUIET) {
+        let (left, balance) = (record.grid.state().masses[cell], record.grid.water().balance());
+        remark(&format!(
+            "{} units taken; cell {cell} holds {}; balance {} units",
+            grouped(moved),
+            grouped(left),
+            grouped(balance)
+        ));
+    }
+    Ok(())
+}

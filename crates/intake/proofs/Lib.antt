@@ -1,0 +1,4 @@
+pub mod Readings
+pub mod FlagSpan
+pub mod Unique
+pub mod ReadKept

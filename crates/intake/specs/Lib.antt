@@ -1,0 +1,3 @@
+pub mod Reading
+pub mod Promise
+pub mod Demands

@@ -1,0 +1,4 @@
+pub mod Outcomes
+pub mod Unique
+pub mod Lives
+pub mod Kept
