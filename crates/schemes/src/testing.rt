@@ -16,7 +16,7 @@ ghost use Rattle.grid.specs.Grid.{sidesGood, cellsOf, gridOf};
 ghost use Rattle.grid.specs.State.{lent};
 ghost use Rattle.grid.specs.Good.{badFluid};
 ghost use Rattle.grid.specs.Passes.{flagOf};
-ghost use Rattle.grid.specs.Between.{Sized};
+ghost use Rattle.pumps.specs.Three.{threeLengths};
 ghost use Rattle.schemes.specs.Scheme.{joinedFlags, badMark, wetWall, badOwn, ruled, tested};
 ghost use Rattle.schemes.specs.Between.{Measured, Marked, Looking, emptyAt, Within, opened};
 
@@ -140,7 +140,7 @@ fn first_broken(
     carry: &[i64],
     s: Sides,
 ) -> usize
-    requires { ⌜ Measured s (now map) (now own) × Sized (cellsOf s) (lent (now own) (now parts) (now masses) (now fills) (now carry)) ⌝ }
+    requires { ⌜ Measured s (now map) (now own) × (threeLengths (cellsOf s) (lent (now own) (now parts) (now masses) (now fills) (now carry)) ≡ true) ⌝ }
     ensures { λ r. ⌜ r ≡ badOwn s (now (map .entry)) (lent (now (own .entry)) (now (parts .entry)) (now (masses .entry)) (now (fills .entry)) (now (carry .entry))) ⌝ }
 {
     let broken = checking::first_bad(own, parts, masses, fills, carry[0]);
@@ -163,7 +163,7 @@ fn checked(
     carry: &[i64],
     s: Sides,
 ) -> Answer
-    requires { ⌜ Measured s (now map) (now own) × Sized (cellsOf s) (lent (now own) (now parts) (now masses) (now fills) (now carry)) ⌝ }
+    requires { ⌜ Measured s (now map) (now own) × (threeLengths (cellsOf s) (lent (now own) (now parts) (now masses) (now fills) (now carry)) ≡ true) ⌝ }
     ensures { λ r. ⌜ r ≡ ruled s (now (map .entry)) (lent (now (own .entry)) (now (parts .entry)) (now (masses .entry)) (now (fills .entry)) (now (carry .entry))) ⌝ }
 {
     let n = map.len();
