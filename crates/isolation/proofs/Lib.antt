@@ -1,0 +1,7 @@
+pub mod Rejoined
+pub mod Recorded
+pub mod Done
+pub mod Isolated
+pub mod Exception
+pub mod Balanced
+pub mod Turned
