@@ -2,14 +2,14 @@
 -- of the same map: the parted scheme passes its tests, and joined again it is the state itself. The idea: a step makes no wall and keeps each, an act
 -- changes no flag; all else is what demand 3 already says of the joined grid. Assumes nothing.
 use mathlib.Core.Path.{_≡_, refl, sym, ap, _∙_, subst}
-use mathlib.Core.Bool.{Bool, true, false, _&&_, cond}
+use mathlib.Core.Bool.{Bool, true, false, _&&_, _||_, not, cond}
 use mathlib.Core.List.{List, [], _∷_}
 use Prim.Native.Nat.{ℕ, zero, suc, _*_, _≤_, _<_}
 use native.Mathlib.Omega.{arith}
 use lib.Dec.{eqb}
 use lib.IntN.{ℤ, pos}
 use lib.ListN.{length, getD}
-use borrow.Author.Tests.{eqb-true, eq-eqb, eqb-false}
+use borrow.Author.Tests.{eqb-true, eq-eqb, eqb-false, le-leb}
 use Rattle.whole.specs.Bools.{and-true}
 use Rattle.whole.specs.Fold.{tab}
 use Rattle.whole.specs.Tab.{length-tab, getD-tab, tab-cong, tab-self}
@@ -35,10 +35,10 @@ use Rattle.pumps.specs.Demands.{totalled, Lived, start, acted, stepped}
 use Rattle.pumps.proofs.Base.{base-accepts}
 use Rattle.pumps.proofs.Checked.{good-done, head-state, head-sized, carry-three, has-passed}
 use Rattle.pumps.proofs.Living.{lived-holds}
-use Rattle.schemes.specs.Scheme.{wallAt, ownAt, joinedFlag, ownFlag, joinedFlags, partedFlags, joined, parted, tested}
+use Rattle.schemes.specs.Scheme.{wallAt, ownAt, joinedFlag, ownFlag, joinedFlags, partedFlags, joined, parted, markGood, tested}
 use Rattle.schemes.proofs.Tests.{Scheme, tells, passes, flag, flag-at, own-low, other-own}
 use Rattle.isolation.specs.Deeds.{baseOf}
-use Rattle.isolation.specs.Claims.{Walls, Rejoins, Carried, CarriedByRun}
+use Rattle.isolation.specs.Claims.{Walls, Rejoins, Carried, CarriedByRun, wallsOf, Begun}
 
 -- ---- one flag
 
@@ -147,46 +147,49 @@ module _ (s : Sides) (map : List ℕ) (a : Lent) (h : Scheme s map a) where
   unfolding parted joined
   parts-again = ap (λ (f : List ℕ). lent f (a .parts) (a .masses) (a .fills) (a .carry)) part-flags
 
-  -- ---- a state with the map's walls
-  module _ (x : Lent) (g : threeAnswer s x ≡ Done) (w : (c : ℕ) → c < cellsOf s → Walls map x c) where
-    own-flag : (c : ℕ) → c < cellsOf s → ownAt (parted s x .flags) c ≡ ownFlag (getD (x .flags) c 3)
-    unfolding parted partedFlags
-    own-flag c k = getD-tab (cellsOf s) (λ c. ownFlag (getD (x .flags) c 3)) 0 c k
+-- ---- a state with the map's walls
+module _ (s : Sides) (map : List ℕ) (x : Lent) (g : threeAnswer s x ≡ Done) (w : (c : ℕ) → c < cellsOf s → Walls map x c) where
+  own-flag : (c : ℕ) → c < cellsOf s → ownAt (parted s x .flags) c ≡ ownFlag (getD (x .flags) c 3)
+  unfolding parted partedFlags
+  own-flag c k = getD-tab (cellsOf s) (λ c. ownFlag (getD (x .flags) c 3)) 0 c k
 
-    flags-again : joinedFlags s map (parted s x .flags) ≡ x .flags
-    unfolding joinedFlags
-    flags-again =
-        tab-cong (cellsOf s) (λ c. joinedFlag (wallAt map c) (ownAt (parted s x .flags) c)) (λ c. getD (x .flags) c 3) 0
-        (λ c k. ap (joinedFlag (wallAt map c)) (own-flag c k) ∙ rejoined (wallAt map c) (getD (x .flags) c 3) (w c k .wall-three) (w c k .three-wall))
-        ∙ ap (λ (n : ℕ). tab n (λ c. getD (x .flags) c 3)) (sym (head-sized s x (three-tells s x g) .flags))
-        ∙ sym (tab-self 3 (x .flags))
+  flags-again : joinedFlags s map (parted s x .flags) ≡ x .flags
+  unfolding joinedFlags
+  flags-again =
+      tab-cong (cellsOf s) (λ c. joinedFlag (wallAt map c) (ownAt (parted s x .flags) c)) (λ c. getD (x .flags) c 3) 0
+      (λ c k. ap (joinedFlag (wallAt map c)) (own-flag c k) ∙ rejoined (wallAt map c) (getD (x .flags) c 3) (w c k .wall-three) (w c k .three-wall))
+      ∙ ap (λ (n : ℕ). tab n (λ c. getD (x .flags) c 3)) (sym (head-sized s x (three-tells s x g) .flags))
+      ∙ sym (tab-self 3 (x .flags))
 
-    pub again : joined s map (parted s x) ≡ x
-    unfolding joined parted
-    again = ap (λ (f : List ℕ). lent f (x .parts) (x .masses) (x .fills) (x .carry)) flags-again
+  again : joined s map (parted s x) ≡ x
+  unfolding joined parted
+  again = ap (λ (f : List ℕ). lent f (x .parts) (x .masses) (x .fills) (x .carry)) flags-again
 
-    flag-small : (c : ℕ) → c < cellsOf s → getD (x .flags) c 3 < 4
-    unfolding stateOf gridOf box cellsOf
-    flag-small c k = has-passed s x g .sound-is .flagged c k
+  flag-small : (c : ℕ) → c < cellsOf s → getD (x .flags) c 3 < 4
+  unfolding stateOf gridOf box cellsOf
+  flag-small c k = has-passed s x g .sound-is .flagged c k
 
-    parted-sized : threeLengths (cellsOf s) (parted s x) ≡ true
-    unfolding parted partedFlags
-    parted-sized = three-flags s x (tab (cellsOf s) (λ c. ownFlag (getD (x .flags) c 3))) (three-tells s x g) (length-tab (cellsOf s) (λ c. ownFlag (getD (x .flags) c 3)))
+  parted-sized : threeLengths (cellsOf s) (parted s x) ≡ true
+  unfolding parted partedFlags
+  parted-sized = three-flags s x (tab (cellsOf s) (λ c. ownFlag (getD (x .flags) c 3))) (three-tells s x g) (length-tab (cellsOf s) (λ c. ownFlag (getD (x .flags) c 3)))
 
-    parted-totals : totalsGood (numberIn (parted s x) 1) (numberIn (parted s x) 2) ≡ true
-    unfolding parted
-    parted-totals = and-true (totalGood (numberIn x 1)) (totalGood (numberIn x 2)) (has-passed s x g .poured) (has-passed s x g .taken)
+  parted-totals : totalsGood (numberIn (parted s x) 1) (numberIn (parted s x) 2) ≡ true
+  unfolding parted
+  parted-totals = and-true (totalGood (numberIn x 1)) (totalGood (numberIn x 2)) (has-passed s x g .poured) (has-passed s x g .taken)
 
-    pub parted-scheme : Scheme s map (parted s x)
-    parted-scheme = record {
-      sides = h .sides;
-      sized = parted-sized;
-      map-size = h .map-size;
-      marks = λ c k. other-own s map (a .flags) (parted s x .flags) c (h .marks c k) (subst (λ (f : ℕ). f ≤ 2) (sym (own-flag c k)) (own-small (getD (x .flags) c 3) (flag-small c k)));
-      dry = λ c k e. own-flag c k ∙ ap ownFlag (w c k .wall-three e);
-      grid = subst (λ (y : Lent). goodAnswer d3q19 (gridOf s) (stateOf 18 y) Done ≡ Done) (sym again) (three-good s x g);
-      totals = parted-totals;
-    }
+  own-two : (c : ℕ) → c < cellsOf s → ownAt (parted s x .flags) c ≤ 2
+  own-two c k = subst (λ (f : ℕ). f ≤ 2) (sym (own-flag c k)) (own-small (getD (x .flags) c 3) (flag-small c k))
+
+  parted-scheme : length map ≡ cellsOf s → ((c : ℕ) → c < cellsOf s → markGood s map (parted s x .flags) c ≡ true) → Scheme s map (parted s x)
+  parted-scheme z m = record {
+    sides = has-passed s x g .sides;
+    sized = parted-sized;
+    map-size = z;
+    marks = m;
+    dry = λ c k e. own-flag c k ∙ ap ownFlag (w c k .wall-three e);
+    grid = subst (λ (y : Lent). goodAnswer d3q19 (gridOf s) (stateOf 18 y) Done ≡ Done) (sym again) (three-good s x g);
+    totals = parted-totals;
+  }
 
 -- ---- steps and acts keep the walls
 
@@ -234,8 +237,10 @@ module _ (s : Sides) (map : List ℕ) (a : Lent) (h : Scheme s map a) where
       let w = lived-walls x r in
       record {
         walls = w;
-        checked = passes s map (parted s x) (parted-scheme s map a h x (k .still-good) w);
-        joins-again = again s map a h x (k .still-good) w;
+        checked =
+            passes s map (parted s x)
+            (parted-scheme s map x (k .still-good) w (h .map-size) (λ c q. other-own s map (a .flags) (parted s x .flags) c (h .marks c q) (own-two s map x (k .still-good) w c q)));
+        joins-again = again s map x (k .still-good) w;
         balance-same = k .balance-same;
       }
 
@@ -292,3 +297,46 @@ pub run-carried : CarriedByRun
 run-carried s map a steps g second marks t =
     let h = tells s map a true t .0 in
     rejoins s map a h (totalled (runFirst steps s g (baseOf s map a) second marks) (joined s map a)) (run-lived s (joined s map a) (grid-checked s map a h) steps g second marks)
+
+-- ---- every good grid begins a scheme
+
+module _ (s : Sides) (x : Lent) (g : threeAnswer s x ≡ Done) where
+  wall-byte : (c : ℕ) → c < cellsOf s → wallAt (wallsOf s x) c ≡ cond (eqb (getD (x .flags) c 3) 3) 1 0
+  wall-byte c k = getD-tab (cellsOf s) (λ c. cond (eqb (getD (x .flags) c 3) 3) 1 0) 1 c k
+
+  byte-three : (f : ℕ) → _≡_ {A = ℕ} (cond (eqb f 3) 1 0) 1 → f ≡ 3
+  byte-three f e = go (eqb f 3) refl e
+    where
+      go : (b : Bool) → eqb f 3 ≡ b → _≡_ {A = ℕ} (cond b 1 0) 1 → f ≡ 3
+      go true q e = eqb-true f 3 q
+      go false q e = absurd (omega arith)
+
+  own-walls : (c : ℕ) → c < cellsOf s → Walls (wallsOf s x) x c
+  own-walls c k = record {
+    wall-three = λ e. byte-three (getD (x .flags) c 3) (sym (wall-byte c k) ∙ e);
+    three-wall = λ e. wall-byte c k ∙ ap (λ (b : Bool). cond b 1 0) (eq-eqb (getD (x .flags) c 3) 3 e);
+  }
+
+  outer-three : (c : ℕ) → c < cellsOf s → gridOf s .outer c ≡ true → getD (x .flags) c 3 ≡ 3
+  unfolding stateOf gridOf box cellsOf
+  outer-three c k o = has-passed s x g .sound-is .walled c k o
+
+  own-marks : (c : ℕ) → c < cellsOf s → markGood s (wallsOf s x) (parted s x .flags) c ≡ true
+  unfolding markGood
+  own-marks c k =
+      and-true _ _ (and-true _ _ (le-leb (wallAt (wallsOf s x) c) 1 (subst (λ (m : ℕ). m ≤ 1) (sym (wall-byte c k)) (low (eqb (getD (x .flags) c 3) 3)))) (le-leb (ownAt (parted s x .flags) c) 2 (own-two s (wallsOf s x) x g own-walls c k)))
+      (outer (gridOf s .outer c) refl)
+    where
+      low : (b : Bool) → cond b 1 0 ≤ 1
+      low true = omega arith
+      low false = omega arith
+
+      outer : (o : Bool) → gridOf s .outer c ≡ o → (not o || eqb (wallAt (wallsOf s x) c) 1) ≡ true
+      outer true e = eq-eqb (wallAt (wallsOf s x) c) 1 (own-walls c k .three-wall (outer-three c k e))
+      outer false e = refl
+
+pub begun-holds : Begun
+begun-holds s x g = record {
+  checked = passes s (wallsOf s x) (parted s x) (parted-scheme s (wallsOf s x) x g (own-walls s x g) (length-tab (cellsOf s) (λ c. cond (eqb (getD (x .flags) c 3) 3) 1 0)) (own-marks s x g));
+  joins = again s (wallsOf s x) x g (own-walls s x g);
+}

@@ -1,15 +1,18 @@
 -- What is promised of two schemes on one map over everything that both may do, in the customer's words. Assumes nothing.
 use mathlib.Core.Path.{_≡_}
-use mathlib.Core.Bool.{true}
+use mathlib.Core.Bool.{true, cond}
 use mathlib.Core.List.{List}
 use Prim.Native.Nat.{ℕ, _<_}
+use lib.Dec.{eqb}
 use lib.ListN.{length, getD}
+use Rattle.whole.specs.Fold.{tab}
 use Rattle.lattice.specs.declared.Settings.{Settings}
 use Rattle.grid.specs.declared.Sides.{Sides}
 use Rattle.grid.specs.declared.Answer.the-variants.{Done}
 use Rattle.grid.specs.Grid.{cellsOf}
 use Rattle.grid.specs.State.{Lent}
 use Rattle.grid.specs.Outcome.{runFirst}
+use Rattle.pumps.specs.Three.{threeAnswer}
 use Rattle.pumps.specs.Demands.{balance, totalled, Lived}
 use Rattle.record.specs.declared.Site.{Site}
 use Rattle.record.specs.Layout.{recordOf}
@@ -43,6 +46,17 @@ abbrev pub CarriedByRun : Type 0
 CarriedByRun =
     (s : Sides) (map : List ℕ) (a : Lent) (steps : ℕ) (g : Settings) (second : Lent) (marks : List ℕ) → tested s map a true ≡ Done
     → Rejoins s map a (totalled (runFirst steps s g (baseOf s map a) second marks) (joined s map a))
+
+-- every good grid begins a scheme: parted, on the map of its own walls, it passes the tests and joins to that grid
+abbrev pub wallsOf : Sides → Lent → List ℕ
+wallsOf s x = tab (cellsOf s) (λ c. cond (eqb (getD (x .flags) c 3) 3) 1 0)
+
+pub record Begins (s : Sides) (x : Lent) : Type 0 where
+  pub checked : tested s (wallsOf s x) (parted s x) true ≡ Done
+  pub joins : joined s (wallsOf s x) (parted s x) ≡ x
+
+abbrev pub Begun : Type 0
+Begun = (s : Sides) (x : Lent) → threeAnswer s x ≡ Done → Begins s x
 
 -- ---- (c) isolation
 

@@ -52,6 +52,7 @@ figures-hold = record {
   beside-B = whoever schemeB b-passes;
   B-wall-23 = asked schemeB b-passes true 23 (Refused 18 23) refl;
   B-out-22 = asked schemeB b-passes false 22 (Refused 18 22) refl;
+  B-out-24 = asked schemeB b-passes false 24 (Refused 17 24) refl;
   beside-dry = whoever schemeDry dry-passes;
   dry-wall-23 = asked schemeDry dry-passes true 23 Done refl;
   dry-out-22 = asked schemeDry dry-passes false 22 Done refl;

@@ -61,6 +61,8 @@ pub record Figures : Type 0 where
   pub beside-B : Whoever schemeB
   pub B-wall-23 : wallAnswer sides walls schemeA schemeB true 23 ≡ Refused 18 23
   pub B-out-22 : wallAnswer sides walls schemeA schemeB false 22 ≡ Refused 18 22
+  -- an outer cell beside B's fluid: 17 comes before 18
+  pub B-out-24 : wallAnswer sides walls schemeA schemeB false 24 ≡ Refused 17 24
   pub beside-dry : Whoever schemeDry
   pub dry-wall-23 : wallAnswer sides walls schemeA schemeDry true 23 ≡ Done
   pub dry-out-22 : wallAnswer sides walls schemeA schemeDry false 22 ≡ Done
