@@ -17,7 +17,7 @@ use Rattle.schemes.specs.Outcome.{ifDone}
 use Rattle.walls.proofs.Kept.{then-done}
 use Rattle.isolation.specs.Deeds.{Deed, step, run, pump, baseOf, stepTold, pumpTold, done}
 use Rattle.isolation.specs.Claims.{Rejoins}
-use Rattle.isolation.proofs.Rejoined.{carried-holds, run-carried}
+use Rattle.isolation.proofs.Carried.{carried-holds, run-carried}
 
 module _ (s : Sides) (map : List ℕ) (a : Lent) (t : tested s map a true ≡ Done) where
   -- of the scheme after a deed

@@ -1,4 +1,5 @@
-pub mod Rejoined
+pub mod Parted
+pub mod Carried
 pub mod Recorded
 pub mod Done
 pub mod Isolated

@@ -31,7 +31,7 @@ use Rattle.record.proofs.WrittenAgain.{written-again}
 use Rattle.schemes.specs.Scheme.{joined, parted}
 use Rattle.schemes.proofs.Tests.{tells}
 use Rattle.isolation.specs.Claims.{wallsOf, Begins, Recorded}
-use Rattle.isolation.proofs.Rejoined.{parts-again, begun-holds}
+use Rattle.isolation.proofs.Parted.{parts-again, begun-holds}
 
 pub recorded-holds : Recorded
 recorded-holds s g t map a room b e w fits =
