@@ -1,8 +1,8 @@
 -- `walls::changes::wall_remove`: the outcome's definition, whatever is lent. Assumes nothing.
 use borrow.Author.Needs.{needs}
-use mathlib.Core.Path.{sym, _∙_, subst}
+use mathlib.Core.Path.{sym, _∙_}
 use mathlib.Core.Bool.{true, false}
-use Prim.Native.Nat.{ℕ, _<_}
+use native.Mathlib.Omega.{arith}
 use Rattle.grid.specs.State.{Lent, lent}
 use Rattle.walls.proofs.Kept.{granted}
 use Rattle.schemes.proofs.Tests.{tells}
@@ -34,7 +34,7 @@ enum-told c = search needs
 slice-write-map : tie.Need-slice-write-map
 slice-write-map c = let w = c .before .before .before .before .before .before .before .before .before in
     let g = granted (w .args .s) (w .args .map .now) (asker w) (other w) false (w .args .c) (sym (c .before .before .answered .ensures) ∙ c .enum-told .given .1) in
-    subst (λ (n : ℕ). w .args .c < n) (sym (tells (w .args .s) (w .args .map .now) (asker w) true (g .own) .0 .map-size)) (g .cell)
+    omega (arith, tells (w .args .s) (w .args .map .now) (asker w) true (g .own) .0 .map-size, g .cell)
 
 same-length-2 : tie.Need-same-length-2
 same-length-2 c = search needs
