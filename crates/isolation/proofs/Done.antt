@@ -15,7 +15,7 @@ use Rattle.pumps.specs.Demands.{balance, totalled, start, acted, stepped}
 use Rattle.schemes.specs.Scheme.{joined, parted, tested}
 use Rattle.schemes.specs.Outcome.{ifDone}
 use Rattle.walls.proofs.Kept.{then-done}
-use Rattle.isolation.specs.Deeds.{Deed, step, run, pump, baseOf, stepTold, pumpTold, done}
+use Rattle.isolation.specs.Deeds.{Deed, step, run, pump, look, baseOf, stepTold, pumpTold, done}
 use Rattle.isolation.specs.Claims.{Rejoins}
 use Rattle.isolation.proofs.Carried.{carried-holds, run-carried}
 
@@ -52,10 +52,15 @@ module _ (s : Sides) (map : List ℕ) (a : Lent) (t : tested s map a true ≡ Do
       go Done e = back _ (carried-holds s map a _ t (acted start pour c amount (then-done (tested s map a true) _ e .1)))
       go (Refused n p) e = (t, refl)
 
+  look-keeps : (f : Lent → List ℤ) → Keeps (done s map a (look f))
+  unfolding done
+  look-keeps f = (t, refl)
+
   keeps : (d : Deed) → Keeps (done s map a d)
   keeps (step g second marks) = step-keeps g second marks
   keeps (run steps g second marks) = run-keeps steps g second marks
   keeps (pump pour c amount) = pump-keeps pour c amount
+  keeps (look f) = look-keeps f
 
 pub done-kept : (s : Sides) (map : List ℕ) (a : Lent) (d : Deed) → tested s map a true ≡ Done → tested s map (done s map a d) true ≡ Done
 done-kept s map a d t = keeps s map a t d .0
