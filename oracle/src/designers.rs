@@ -1,106 +1,27 @@
 // Two designers at one tunnel by seed: their schemes over one wall map, what they ask one after another, and what each is then told.
 
-use crate::acts::Act;
+use crate::acts::{self, Act};
 use crate::grid::{Grid, Refusal};
-use crate::index::{Held, HeldMut, HeldStore};
+use crate::index::{self, HeldStore};
 use crate::random::Random;
-use crate::run::Run;
 use crate::scenes::{between, good, settings};
-use crate::schemes::{Change, SOLID};
-use crate::sets::{Set, SetMut, Store};
+use crate::schemes::{self, Change, SOLID};
+use crate::sets::{Set, Store};
+use crate::settings::Settings;
 use crate::state::{State, EMPTY, FLUID, INTERFACE, WALL};
-use crate::{acts, index, schemes, Settings};
 
-/// Who answers: this program, or what is compared with it. Each is lent slices of any length.
-pub trait Calls {
-    fn join(sides: [u32; 3], map: &[u8], scheme: Set, flags: &mut [u8]) -> Result<(), Refusal>;
-
-    fn part(sides: [u32; 3], flags: &[u8], own: &mut [u8]) -> Result<(), Refusal>;
-
-    fn change(
-        change: Change,
-        sides: [u32; 3],
-        map: &mut [u8],
-        asker: Set,
-        other: Set,
-        cell: u64,
-    ) -> Result<(), Refusal>;
-
-    fn step(
-        sides: [u32; 3],
-        settings: &Settings,
-        first: Held,
-        second: HeldMut,
-        marks: &mut [u8],
-    ) -> Result<(), Refusal>;
-
-    fn run(
-        sides: [u32; 3],
-        settings: &Settings,
-        steps: u32,
-        first: HeldMut,
-        second: HeldMut,
-        marks: &mut [u8],
-    ) -> Run;
-
-    fn act(act: Act, sides: [u32; 3], set: SetMut, cell: u64, amount: i64) -> Result<i64, Refusal>;
-}
-
-/// This program.
-pub struct Here;
-
-impl Calls for Here {
-    fn join(sides: [u32; 3], map: &[u8], scheme: Set, flags: &mut [u8]) -> Result<(), Refusal> {
-        schemes::join(sides, map, scheme, flags)
-    }
-
-    fn part(sides: [u32; 3], flags: &[u8], own: &mut [u8]) -> Result<(), Refusal> {
-        schemes::part(sides, flags, own)
-    }
-
-    fn change(
-        change: Change,
-        sides: [u32; 3],
-        map: &mut [u8],
-        asker: Set,
-        other: Set,
-        cell: u64,
-    ) -> Result<(), Refusal> {
-        schemes::change(change, sides, map, asker, other, cell)
-    }
-
-    fn step(
-        sides: [u32; 3],
-        settings: &Settings,
-        first: Held,
-        second: HeldMut,
-        marks: &mut [u8],
-    ) -> Result<(), Refusal> {
-        index::step(sides, settings.p, settings.gravity, first, second, marks)
-    }
-
-    fn run(
-        sides: [u32; 3],
-        settings: &Settings,
-        steps: u32,
-        first: HeldMut,
-        second: HeldMut,
-        marks: &mut [u8],
-    ) -> Run {
-        index::run(sides, settings.p, settings.gravity, steps, first, second, marks)
-    }
-
-    fn act(act: Act, sides: [u32; 3], set: SetMut, cell: u64, amount: i64) -> Result<i64, Refusal> {
-        acts::act(act, sides, set, cell, amount)
-    }
+/// What a designer does to one scheme, through its grid.
+#[derive(Clone, Copy, Debug, PartialEq, Eq)]
+pub enum Deed {
+    Step,
+    Run(u32),
+    Act(Act, u64, i64),
 }
 
 /// What a designer asks.
 #[derive(Clone, Copy, Debug, PartialEq, Eq)]
 pub enum Asked {
-    Step,
-    Run(u32),
-    Act(Act, u64, i64),
+    Own(Deed),
     Wall(Change, u64),
 }
 
@@ -120,6 +41,57 @@ impl Told {
         self.refusal.is_none()
     }
 }
+
+/// Who answers: this program, where what is compared with it says nothing else.
+pub trait Calls {
+    fn join(sides: [u32; 3], map: &[u8], scheme: Set, flags: &mut [u8]) -> Result<(), Refusal> {
+        schemes::join(sides, map, scheme, flags)
+    }
+
+    fn part(sides: [u32; 3], flags: &[u8], own: &mut [u8]) -> Result<(), Refusal> {
+        schemes::part(sides, flags, own)
+    }
+
+    fn change(
+        change: Change,
+        sides: [u32; 3],
+        map: &mut [u8],
+        asker: Set,
+        other: Set,
+        cell: u64,
+    ) -> Result<(), Refusal> {
+        schemes::change(change, sides, map, asker, other, cell)
+    }
+
+    /// A step, a run or an act on a grid and its index.
+    fn deed(deed: Deed, sides: [u32; 3], settings: &Settings, grid: &mut HeldStore) -> Told {
+        let Settings { p, gravity, .. } = *settings;
+        let n = grid.set.flags.len();
+        let (mut second, mut marks) = (HeldStore::of(Store::blank(n)), vec![7; n]);
+        match deed {
+            Deed::Step => {
+                let told = index::step(sides, p, gravity, grid.lend(), second.lend_mut(), &mut marks);
+                if matches!(told, Ok(()) | Err(Refusal { number: 7 | 8, .. })) {
+                    *grid = second;
+                }
+                Told::of(told.map(|()| 1))
+            }
+            Deed::Run(steps) => {
+                let (first, second) = (grid.lend_mut(), second.lend_mut());
+                let ran = index::run(sides, p, gravity, steps, first, second, &mut marks);
+                Told { refusal: ran.refusal, value: ran.count.into() }
+            }
+            Deed::Act(act, cell, amount) => {
+                Told::of(acts::act(act, sides, grid.set.lend_mut(), cell, amount))
+            }
+        }
+    }
+}
+
+/// This program.
+pub struct Here;
+
+impl Calls for Here {}
 
 /// Two schemes over one wall map, each with its index and its settings.
 #[derive(Clone, Debug, PartialEq, Eq)]
@@ -186,14 +158,14 @@ impl Tunnel {
         let own = &self.schemes[who].set.flags;
         let n = own.len();
         match random.below(10) {
-            0 | 1 => Asked::Step,
-            2 => Asked::Run(random.pick(&[0, 1, 2, 5])),
+            0 | 1 => Asked::Own(Deed::Step),
+            2 => Asked::Own(Deed::Run(random.pick(&[0, 1, 2, 5]))),
             3 | 4 => {
                 let surface: Vec<usize> = (0..n).filter(|&c| own[c] == INTERFACE).collect();
                 let anywhere = surface.is_empty() || random.percent(10);
                 let cell = if anywhere { random.below(n + 2) } else { random.pick(&surface) };
                 let act = random.pick(&[Act::Pour, Act::Take]);
-                Asked::Act(act, cell as u64, random.between(-3, 589_827) as i64)
+                Asked::Own(Deed::Act(act, cell as u64, random.between(-3, 589_827) as i64))
             }
             _ => {
                 let change = random.pick(&[Change::Add, Change::Remove]);
@@ -203,7 +175,7 @@ impl Tunnel {
     }
 
     /// A cell for a wall change: mostly one that could be accepted but for the water.
-    fn wished_cell(&self, random: &mut Random, change: Change) -> usize {
+    pub fn wished_cell(&self, random: &mut Random, change: Change) -> usize {
         let (grid, n) = (self.grid(), self.map.len());
         let asked = if change == Change::Add { 0 } else { SOLID };
         let open: Vec<usize> = (0..n).filter(|&c| !grid.outer(c) && self.map[c] == asked).collect();
@@ -219,36 +191,28 @@ impl Tunnel {
 
     /// Asks for one of the two; a scheme is stepped, run and poured into through join and part.
     pub fn ask<C: Calls>(&mut self, who: usize, asked: Asked) -> Told {
-        if let Asked::Wall(change, cell) = asked {
-            let [asker, other] = [who, 1 - who].map(|k| self.schemes[k].set.lend());
-            return Told::of(C::change(change, self.sides, &mut self.map, asker, other, cell).map(|()| 0));
-        }
-        let (mut first, n) = (self.schemes[who].clone(), self.map.len());
-        let joined = C::join(self.sides, &self.map, self.schemes[who].set.lend(), &mut first.set.flags);
-        if let Err(refusal) = joined {
-            return Told { refusal: Some(refusal), value: 0 };
-        }
-        let (mut second, mut marks) = (HeldStore::of(Store::blank(n)), vec![7; n]);
-        let (sides, settings) = (self.sides, &self.settings[who]);
-        let told = match asked {
-            Asked::Step => {
-                let told = C::step(sides, settings, first.lend(), second.lend_mut(), &mut marks);
-                first = second;
-                Told::of(told.map(|()| 1))
+        match asked {
+            Asked::Wall(change, cell) => {
+                let [asker, other] = [who, 1 - who].map(|k| self.schemes[k].set.lend());
+                Told::of(C::change(change, self.sides, &mut self.map, asker, other, cell).map(|()| 0))
             }
-            Asked::Run(steps) => {
-                let ran = C::run(sides, settings, steps, first.lend_mut(), second.lend_mut(), &mut marks);
-                Told { refusal: ran.refusal, value: ran.count.into() }
-            }
-            Asked::Act(act, cell, amount) => Told::of(C::act(act, sides, first.set.lend_mut(), cell, amount)),
-            Asked::Wall(..) => unreachable!("asked above"),
-        };
-        let grid = first.set.flags.clone();
-        if let Err(refusal) = C::part(sides, &grid, &mut first.set.flags) {
-            return Told { refusal: Some(refusal), value: 0 };
+            Asked::Own(deed) => match self.done::<C>(who, deed) {
+                Ok(told) => told,
+                Err(refusal) => Told::of(Err(refusal)),
+            },
         }
-        self.schemes[who] = first;
-        told
+    }
+
+    /// A deed between join and part.
+    fn done<C: Calls>(&mut self, who: usize, deed: Deed) -> Result<Told, Refusal> {
+        let scheme = &mut self.schemes[who];
+        let mut grid = scheme.clone();
+        C::join(self.sides, &self.map, scheme.set.lend(), &mut grid.set.flags)?;
+        let told = C::deed(deed, self.sides, &self.settings[who], &mut grid);
+        C::part(self.sides, &grid.set.flags, &mut scheme.set.flags)?;
+        let flags = std::mem::take(&mut scheme.set.flags);
+        *scheme = HeldStore { set: Store { flags, ..grid.set }, index: grid.index };
+        Ok(told)
     }
 
     /// Whether a scheme is in the way, by coordinates: where a wall is asked for, its water in the cell; where one is taken out, its fluid one away along

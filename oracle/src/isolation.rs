@@ -2,10 +2,11 @@
 
 use std::collections::BTreeMap;
 
-use crate::designers::{Asked, Calls, Here, Told, Tunnel};
+use crate::designers::{Asked, Calls, Deed, Here, Told, Tunnel};
 use crate::grid::Refusal;
 use crate::index::HeldStore;
 use crate::random::Random;
+use crate::scenes::settings;
 use crate::schemes::Change;
 use crate::state::State;
 
@@ -115,11 +116,11 @@ fn judged<C: Calls>(before: &Tunnel, turn: &Turn, tally: &mut Tally) -> Finding 
     let Turn { who, asked, told, .. } = turn;
     let accepted = told.accepted();
     tally.add(match *asked {
-        Asked::Step if accepted => "steps accepted",
-        Asked::Step => "steps refused",
-        Asked::Run(_) => "runs",
-        Asked::Act(..) if accepted => "acts accepted",
-        Asked::Act(..) => "acts refused",
+        Asked::Own(Deed::Step) if accepted => "steps accepted",
+        Asked::Own(Deed::Step) => "steps refused",
+        Asked::Own(Deed::Run(_)) => "runs",
+        Asked::Own(Deed::Act(..)) if accepted => "acts accepted",
+        Asked::Own(Deed::Act(..)) => "acts refused",
         Asked::Wall(change, cell) => {
             let foreseen = foreseen::<C>(before, *who, change, cell);
             ensure(*told == foreseen, || format!("told {told:?}, foreseen {foreseen:?}"))?;
@@ -175,12 +176,12 @@ fn replayed<C: Calls>(seed: u64, turns: &[Turn], watched: usize, tally: &mut Tal
     let random = &mut Random::new(seed ^ 0xbe51_de00 ^ watched as u64);
     let mut tunnel = Tunnel::of(seed);
     tunnel.schemes[1 - watched] = another(random, &tunnel, watched);
-    tunnel.settings[1 - watched] = crate::scenes::settings(random);
+    tunnel.settings[1 - watched] = settings(random);
     for (number, turn) in turns.iter().enumerate() {
         let at = |text: &str| format!("seed {seed}, turn {number} of scheme {watched} replayed: {text}");
         // Whatever the other does of its own.
         let wish = tunnel.wish(random, 1 - watched);
-        if !matches!(wish, Asked::Wall(..)) {
+        if matches!(wish, Asked::Own(_)) {
             tunnel.ask::<C>(1 - watched, wish);
         }
         match turn.asked {
@@ -203,11 +204,11 @@ fn replayed<C: Calls>(seed: u64, turns: &[Turn], watched: usize, tally: &mut Tal
                 let same = told == turn.told || in_the_way(&told) || in_the_way(&turn.told);
                 ensure(same, || at("a refused change differs by more than water in the way"))?;
             }
-            asked if turn.who == watched => {
-                let told = tunnel.ask::<C>(watched, asked);
+            Asked::Own(_) if turn.who == watched => {
+                let told = tunnel.ask::<C>(watched, turn.asked);
                 ensure(told == turn.told, || at("another answer"))?;
             }
-            _ => {}
+            Asked::Own(_) | Asked::Wall(..) => {}
         }
         let same = tunnel.schemes[watched] == turn.after.schemes[watched] && tunnel.map == turn.after.map;
         ensure(same, || at("another state"))?;

@@ -1,11 +1,11 @@
 // The worked figures of two schemes over one wall map, their refusals in order, what a refusal leaves, and the hunt for what one tells of the other.
 
-use oracle::designers::{Asked, Here, Tunnel};
+use oracle::designers::Calls;
 use oracle::grid::{Grid, Refusal};
-use oracle::isolation::{history, hunt, Tally, EVENTS};
+use oracle::isolation::{hunt, hunted, EVENTS};
 use oracle::schemes::{change, Change};
 use oracle::state::{FLUID, INTERFACE};
-use oracle::{check, join, part, HeldStore, Store};
+use oracle::{check, join, part, Set, Store};
 
 const SIDES: [u32; 3] = [5, 3, 3];
 const N: usize = 45;
@@ -231,16 +231,47 @@ fn neither_learns_of_the_other_but_that_it_is_in_the_way() {
     }
 }
 
-/// The hunt sees a designer who is told too much: one whose water is another's.
-#[test]
-fn the_hunt_is_of_other_water() {
-    let (mut seen, mut others) = (0, 0);
-    for seed in 0..40 {
-        let tunnel = Tunnel::of(seed);
-        let dry = HeldStore::of(Store::blank(tunnel.map.len()));
-        others += usize::from(tunnel.schemes[0] != tunnel.schemes[1] && tunnel.schemes[1] != dry);
-        let turns = history::<Here>(seed, &mut Tally::default()).unwrap();
-        seen += turns.iter().filter(|turn| matches!(turn.asked, Asked::Wall(..))).count();
+/// A library that looks at the asker's water alone.
+struct Careless;
+
+/// A library that tells where the other's water is.
+struct Telling;
+
+impl Calls for Careless {
+    fn change(
+        which: Change,
+        sides: [u32; 3],
+        map: &mut [u8],
+        asker: Set,
+        _: Set,
+        cell: u64,
+    ) -> Result<(), Refusal> {
+        change(which, sides, map, asker, Store::blank(asker.flags.len()).lend(), cell)
     }
-    assert!(others > 20 && seen > 200, "{others} {seen}");
+}
+
+impl Calls for Telling {
+    fn change(
+        which: Change,
+        sides: [u32; 3],
+        map: &mut [u8],
+        asker: Set,
+        other: Set,
+        cell: u64,
+    ) -> Result<(), Refusal> {
+        let told = change(which, sides, map, asker, other, cell);
+        let water = other.flags.iter().position(|&flag| flag != 0);
+        match (told, water) {
+            (Err(Refusal { number: 18, .. }), Some(place)) => refusal(18, place),
+            _ => told,
+        }
+    }
+}
+
+#[test]
+fn the_hunt_finds_a_library_that_is_careless_or_tells() {
+    let careless = (0..60).find_map(|seed| hunted::<Careless>(seed).err()).expect("nothing found");
+    assert!(careless.contains("foreseen") || careless.contains("no longer good"), "{careless}");
+    let telling = (0..60).find_map(|seed| hunted::<Telling>(seed).err()).expect("nothing found");
+    assert!(telling.contains("foreseen"), "{telling}");
 }
