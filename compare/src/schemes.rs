@@ -11,7 +11,7 @@ use oracle::schemes::{self, Change};
 use oracle::Refusal;
 
 use crate::report::{Met, Outcome, Total, Wanted, Wish};
-use cases::Case;
+use cases::{Case, LARGE};
 use library::Library;
 
 /// Cases by seed; each is handed to the four functions.
@@ -178,6 +178,13 @@ pub fn compare(wish: &Wish, total: &mut Total) {
         let seed = wish.from + number as u64;
         let case = Case::of(seed);
         PAIRS.map(|pair| called(pair, &case, &format!("scheme seed {seed}"))).into()
+    });
+
+    let title = "the same four in large boxes, up to 262,144 cells";
+    let wanted: &Wanted = &[("join", &["0"]), ("part", &["0"]), ("add", &["17"]), ("remove", &["0"])];
+    total.compare(title, wish, LARGE, wanted, |number| {
+        let case = Case::large(number);
+        PAIRS.map(|pair| called(pair, &case, &format!("large scheme, seed {number}"))).into()
     });
 
     let title = format!(

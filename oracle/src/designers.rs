@@ -138,6 +138,18 @@ impl Tunnel {
         tunnel
     }
 
+    /// A tunnel of these sides: walls strewn through it, and water of two kinds between them.
+    pub fn around(random: &mut Random, sides: [u32; 3]) -> Tunnel {
+        let grid = Grid::new(sides).expect("sides in range");
+        let stones = random.pick(&[1, 10, 30]);
+        let map = (0..grid.n).map(|c| u8::from(grid.outer(c) || random.percent(stones))).collect();
+        let dry = HeldStore::of(Store::blank(grid.n));
+        let settings = [(); 2].map(|_| settings(random));
+        let mut tunnel = Tunnel { sides, map, schemes: [dry.clone(), dry], settings };
+        tunnel.schemes = [(); 2].map(|_| tunnel.other_water(random));
+        tunnel
+    }
+
     pub fn grid(&self) -> Grid {
         Grid::new(self.sides).expect("a tunnel's sides are in range")
     }

@@ -3,7 +3,7 @@
 use oracle::designers::Tunnel;
 use oracle::random::Random;
 use oracle::schemes::{self, Change};
-use oracle::state::{CARRY_LIMIT, MASS_LIMIT, PART_LIMIT, TOTAL_LIMIT};
+use oracle::state::{CARRY_LIMIT, FLUID, MASS_LIMIT, PART_LIMIT, TOTAL_LIMIT};
 use oracle::Store;
 
 use super::library;
@@ -23,6 +23,9 @@ pub struct Case {
     pub cell: usize,
 }
 
+/// How many large cases there are.
+pub const LARGE: usize = 12;
+
 impl Case {
     /// The case of a seed.
     pub fn of(seed: u64) -> Case {
@@ -41,9 +44,25 @@ impl Case {
         case
     }
 
-    /// Two good schemes, one of them dry now and then, or both the same.
+    /// One of the large cases: a good one, or the same with faults.
+    pub fn large(number: usize) -> Case {
+        let random = &mut Random::new(number as u64);
+        let sides = [[64; 3], [128, 16, 128], [57, 63, 73], [128, 128, 16]][number % 4];
+        let tunnel = Tunnel::around(random, sides);
+        let mut case = Case::between(random, tunnel);
+        if number >= LARGE / 2 {
+            case.fault(random);
+        }
+        case
+    }
+
+    /// Two good schemes.
     fn good(random: &mut Random, seed: u64) -> Case {
-        let mut tunnel = Tunnel::of(seed);
+        Case::between(random, Tunnel::of(seed))
+    }
+
+    /// The schemes of a tunnel, one of them dry now and then, or both the same.
+    fn between(random: &mut Random, mut tunnel: Tunnel) -> Case {
         let n = tunnel.map.len();
         match random.below(8) {
             0 => tunnel.schemes[random.below(2)] = tunnel.dry(),
@@ -119,8 +138,16 @@ impl Case {
                 let c = if walls.is_empty() { c } else { random.pick(&walls) };
                 put(&mut set.flags, c, random.pick(&[1, 2, 3]));
             }
-            // Fluid beside empty, or water without parts.
-            14 | 15 => {
+            // Fluid beside empty: a neighbour's water gone.
+            14 => {
+                let fluid = cells_where(&|c| set.flags.get(c) == Some(&FLUID));
+                let c = if fluid.is_empty() { c } else { random.pick(&fluid) };
+                let [nx, ny, _] = self.sides.map(|side| side % 1000);
+                let way = random.pick(&[1, nx, nx * ny, nx + 1, nx * ny + 1, nx * ny + nx]);
+                put(&mut set.flags, if random.percent(50) { c.saturating_sub(way) } else { c + way }, 0);
+            }
+            // The same, or water without parts.
+            15 => {
                 let open = cells_where(&|c| self.map[c] == 0);
                 let c = if open.is_empty() { c } else { random.pick(&open) };
                 put(&mut set.flags, c, random.below(4) as u8);
