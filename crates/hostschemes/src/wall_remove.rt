@@ -32,7 +32,19 @@ pub extern "C" fn skw_wall_remove(
 {
     let s = Sides { nx, ny, nz };
     let a = changes::wall_remove(
-        map, flags, parts, masses, fills, carry, flags2, parts2, masses2, fills2, carry2, s, cell,
+        map,
+        flags,
+        parts,
+        masses,
+        fills,
+        carry,
+        flags2,
+        parts2,
+        masses2,
+        fills2,
+        carry2,
+        s,
+        cell,
     );
     *place = place_of(a);
     number_of(a)
