@@ -146,6 +146,10 @@ enum {
     SKW_NOT_INTERFACE = 15,
     /* an amount outside 1 to 589,824, or one with which the mass would pass 2,359,296, or poured or taken 10^15; place 0 */
     SKW_BAD_AMOUNT = 16,
+    /* a wall change at an outer cell, or where the cell is already as asked (tested after 13); place: the cell */
+    SKW_BAD_CHANGE = 17,
+    /* a wall change with water in the way, the asker's or the other's (tested after 17); place: the cell */
+    SKW_IN_THE_WAY = 18,
     /* the list has room for fewer pools than there are; place: their number */
     SKW_BAD_POOLS = 21,
     /* a profile's list has not 1 to 2,000 points; place 0 */
@@ -429,6 +433,70 @@ uint8_t skw_pools(const uint8_t *flags, size_t flags_len,
                   uint32_t *work, size_t work_len,
                   size_t nx, size_t ny, size_t nz,
                   size_t *pools, size_t *place);
+
+/*
+ * SCHEMES: two designers try their water in one tunnel. They share a WALL MAP, N bytes, 1 for wall and 0 for not, and each has a SCHEME,
+ * a set whose flags are its own: SKW_EMPTY, SKW_INTERFACE or SKW_FLUID, and SKW_EMPTY where the map has a wall. The grid of a scheme has
+ * SKW_WALL where the map is 1 and the scheme's own flag elsewhere, and all else of the set as it stands.
+ *
+ * The tests of a scheme: 1; 2, the map too; 4 at the lowest cell whose map byte is above 1, whose own flag is above 2, or that is outer
+ * and not wall in the map; 5 of its grid; 6 of its grid, where an own flag other than 0 at a wall is a fault too.
+ *
+ * SCHEME JOIN: the flags of a scheme's grid, N bytes, so that it can be stepped, run, poured into and read as any set can.
+ * The tests of the scheme; 2 of the grid too. Beside a refusal the grid is as it was.
+ */
+uint8_t skw_scheme_join(const uint8_t *map, size_t map_len,
+                        const uint8_t *flags, size_t flags_len,
+                        const int32_t *parts, size_t parts_len,
+                        const int32_t *masses, size_t masses_len,
+                        const uint32_t *fills, size_t fills_len,
+                        const int64_t *carry, size_t carry_len,
+                        uint8_t *grid, size_t grid_len,
+                        size_t nx, size_t ny, size_t nz,
+                        size_t *place);
+
+/*
+ * SCHEME PART: a scheme's own flags back from the flags of its grid: SKW_EMPTY for every SKW_WALL, all others as they are.
+ * Tests 1, 2, 4. Beside a refusal the flags are as they were.
+ */
+uint8_t skw_scheme_part(const uint8_t *grid, size_t grid_len,
+                        uint8_t *flags, size_t flags_len,
+                        size_t nx, size_t ny, size_t nz,
+                        size_t *place);
+
+/*
+ * WALL ADD: a wall is asked for in an inner cell of the map. WALL REMOVE: an inner wall of the map is to be taken out. The first set is
+ * the scheme that asks, the second (flags2 ..) the other one; both are on this map. Water is in the way of a wall if the cell is not
+ * empty in either scheme, and of taking one out if one of the cell's 18 neighbours is fluid in either.
+ * Tests: those of the asker's scheme, those of the other's, 13, 17, 18. Accepted, the map's byte of the cell becomes 1, or 0, and nothing
+ * else is written: the cell is then wall, or empty, in both. Beside a refusal the map is as it was.
+ */
+uint8_t skw_wall_add(uint8_t *map, size_t map_len,
+                     const uint8_t *flags, size_t flags_len,
+                     const int32_t *parts, size_t parts_len,
+                     const int32_t *masses, size_t masses_len,
+                     const uint32_t *fills, size_t fills_len,
+                     const int64_t *carry, size_t carry_len,
+                     const uint8_t *flags2, size_t flags2_len,
+                     const int32_t *parts2, size_t parts2_len,
+                     const int32_t *masses2, size_t masses2_len,
+                     const uint32_t *fills2, size_t fills2_len,
+                     const int64_t *carry2, size_t carry2_len,
+                     size_t nx, size_t ny, size_t nz,
+                     size_t cell, size_t *place);
+uint8_t skw_wall_remove(uint8_t *map, size_t map_len,
+                        const uint8_t *flags, size_t flags_len,
+                        const int32_t *parts, size_t parts_len,
+                        const int32_t *masses, size_t masses_len,
+                        const uint32_t *fills, size_t fills_len,
+                        const int64_t *carry, size_t carry_len,
+                        const uint8_t *flags2, size_t flags2_len,
+                        const int32_t *parts2, size_t parts2_len,
+                        const int32_t *masses2, size_t masses2_len,
+                        const uint32_t *fills2, size_t fills2_len,
+                        const int64_t *carry2, size_t carry2_len,
+                        size_t nx, size_t ny, size_t nz,
+                        size_t cell, size_t *place);
 
 #ifdef __cplusplus
 }

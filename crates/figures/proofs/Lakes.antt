@@ -34,7 +34,7 @@ is-done Done t = refl
 is-done (Refused n p) t = absurd t
 
 -- a figure before others
-more : (f : Figure) (fs : List Figure) → T (sameZ (f .worked) (f .said)) → T (hold fs) → T (hold (f ∷ fs))
+pub more : (f : Figure) (fs : List Figure) → T (sameZ (f .worked) (f .said)) → T (hold fs) → T (hold (f ∷ fs))
 more f fs s t = go (sameZ (f .worked) (f .said)) s
   where
     go : (b : Bool) → T b → T (b && hold fs)

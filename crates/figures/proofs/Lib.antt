@@ -1,4 +1,5 @@
 pub mod Lakes
+pub mod Designers
 pub mod Stars
 pub mod RuledOut
 pub mod Sweeps

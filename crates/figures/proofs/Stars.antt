@@ -20,13 +20,15 @@ use Rattle.tunnel.specs.Place.{open-place}
 use Rattle.tunnel.specs.Depth.{open-depth}
 use Rattle.profile.specs.Profile.{open-profile}
 use Rattle.profile.specs.Outcome.{open-answer}
+use Rattle.figures.specs.Designers.{designerFigures}
 use Rattle.figures.specs.Lakes.{poolFigures}
 use Rattle.figures.specs.Table.{figures, hold}
+use Rattle.figures.proofs.Designers.{designers-hold}
 use Rattle.figures.proofs.Lakes.{lakes-hold, hold-both}
 
 computed : T (hold figures)
 unfolding open-fold open-lattice open-cell open-body open-grid open-state open-step open-good open-outcome grid.open-demands open-three open-acts open-demands open-index index.open-outcome open-place open-depth open-profile open-answer
 computed = tt
 
-pub stars : T (hold (figures ++ poolFigures))
-stars = hold-both figures poolFigures computed lakes-hold
+pub stars : T (hold (figures ++ (poolFigures ++ designerFigures)))
+stars = hold-both figures (poolFigures ++ designerFigures) computed (hold-both poolFigures designerFigures lakes-hold designers-hold)

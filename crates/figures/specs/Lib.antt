@@ -3,3 +3,4 @@ pub mod Gutter
 pub mod Surface
 pub mod Table
 pub mod Lakes
+pub mod Designers

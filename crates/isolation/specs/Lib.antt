@@ -1,0 +1,4 @@
+pub mod Deeds
+pub mod History
+pub mod Courses
+pub mod Claims

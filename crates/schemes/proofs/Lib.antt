@@ -1,0 +1,4 @@
+pub mod Tests
+pub mod Passing
+pub mod Answers
+pub mod Unique

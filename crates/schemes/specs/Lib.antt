@@ -1,0 +1,4 @@
+pub mod Scheme
+pub mod Outcome
+pub mod Promise
+pub mod Between

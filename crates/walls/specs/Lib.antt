@@ -1,0 +1,3 @@
+pub mod Outcome
+pub mod Promise
+pub mod Figures
