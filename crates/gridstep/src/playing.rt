@@ -33,12 +33,13 @@ fn go(
         return;
     }
     tell(b"before", flags, masses, carry);
+    let alone = [carry[0]];
     let stepped = stepping::step(
         flags,
         parts,
         masses,
         fills,
-        &carry[..1],
+        &alone,
         flags2,
         parts2,
         masses2,

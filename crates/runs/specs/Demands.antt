@@ -1,5 +1,5 @@
--- What is promised of the calls over their outcome: pour, take, step and run, in any order, keep the water to the unit; and what a run leaves loads. Assumes
--- nothing.
+-- What is promised of the calls over their outcome: pour, take, step and run, in any order, keep the water to the unit; and what an act or a run leaves loads.
+-- Assumes nothing.
 use mathlib.Core.Path.{_≡_}
 use mathlib.Core.Bool.{Bool}
 use mathlib.Core.List.{List}
@@ -11,7 +11,7 @@ use Rattle.grid.specs.declared.Answer.the-variants.{Done}
 use Rattle.grid.specs.State.{Lent}
 use Rattle.pumps.specs.Acts.{actAnswer, actSet}
 use Rattle.pumps.specs.Demands.{Lived, Holds}
-use Rattle.index.specs.Held.{Held, Loads}
+use Rattle.index.specs.Held.{Held, held, Loads}
 use Rattle.calls.specs.Outcome.{stepAnswer, stepSecond}
 use Rattle.runs.specs.Outcome.{runEntry, runFirst, runSecond}
 
@@ -32,6 +32,10 @@ pub record Balanced (s : Sides) (a b : Lent) : Type 0 where
   pub holds : Holds s a b lived
 
 -- ---- the indexes
+
+-- an act changes no flag: after an accepted one the set loads with the index that it had
+abbrev pub ActKeeps : Bool → Sides → ℕ → ℤ → Held → Type 0
+ActKeeps pour s c amount a = Loads s a → actAnswer pour s c amount (a .set) ≡ Done → Loads s (held (actSet pour c amount (a .set)) (a .index))
 
 -- a run that begins: however many steps it made, both sets then load with their indexes
 pub record RunKeeps (steps : ℕ) (s : Sides) (g : Settings) (a b : Held) (marks : List ℕ) : Type 0 where

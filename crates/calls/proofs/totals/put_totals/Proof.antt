@@ -5,6 +5,7 @@ use mathlib.Core.List.{[], _∷_}
 use lib.IntN.{ℤ, pos}
 use lib.ListN.{getD}
 use mir.Syntax.{w64}
+use mir.Val.{toZ, ofZ}
 use mir.Facts.{toZ-ofZ}
 use Rattle.calls.proofs.ThreePut.{all-put}
 use Rattle.calls.proofs.totals.put_totals.Statement.{statement}
@@ -31,8 +32,9 @@ same-length c = search needs
 returns : tie.Need-returns
 returns c =
     let w = c .before .before in
-    rw (toZ-ofZ (w .fits .carry), toZ-ofZ (sfits-of {w = w64} (c .before .totals .given)), toZ-ofZ (sfits-of {w = w64} (c .totals2 .given)))
-    (all-put (w .args .totals .now) (w .args .carry) (getD (w .args .from .now) 1 (pos 0)) (getD (w .args .from .now) 2 (pos 0)) (w .pre .1))
+    let poured : toZ w64 (ofZ w64 (getD (w .args .from .now) 1 (pos 0))) ≡ getD (w .args .from .now) 1 (pos 0) = toZ-ofZ (sfits-of {w = w64} (c .before .totals .given)) in
+    let taken : toZ w64 (ofZ w64 (getD (w .args .from .now) 2 (pos 0))) ≡ getD (w .args .from .now) 2 (pos 0) = toZ-ofZ (sfits-of {w = w64} (c .totals2 .given)) in
+    all-put (w .args .totals .now) _ _ _ (w .pre .1) ∙ (λ i. toZ-ofZ (w .fits .carry) i ∷ poured i ∷ taken i ∷ [])
 
 pub put-totals-spec : {M : Type 1} → statement M
 put-totals-spec =
