@@ -1,8 +1,8 @@
 // The library's functions themselves, on raw slices that no record can hold: wrong lengths, any flags, parts, masses, fills and settings.
 // After each call its answers and every lent slice, refused or not, are compared with the independent program's.
 
-mod calls;
-mod cases;
+pub mod calls;
+pub mod cases;
 mod reference;
 
 use std::fmt::{Display, Formatter};

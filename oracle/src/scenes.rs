@@ -219,12 +219,17 @@ fn flags(random: &mut Random, grid: &Grid, layout: Layout) -> Vec<u8> {
             *flag = WALL;
         }
     }
+    close(grid, &mut flags);
+    flags
+}
+
+/// Closes the layer around the fluid.
+fn close(grid: &Grid, flags: &mut [u8]) {
     for c in 0..grid.n {
         if flags[c] == FLUID && grid.neighbours(c).any(|neighbour| flags[neighbour] == EMPTY) {
             flags[c] = INTERFACE;
         }
     }
-    flags
 }
 
 fn mixed(random: &mut Random) -> Scene {
@@ -232,38 +237,81 @@ fn mixed(random: &mut Random) -> Scene {
     let grid = Grid::new(sides).expect("sides in range");
     let mut settings = settings(random);
     let mut layout = random.pick(&LAYOUTS);
-    let speed = random.pick(&[10, 30, 100]);
-    let temper = match random.below(100) {
-        0..35 => Temper::Still,
-        35..70 => Temper::Lively([(); 3].map(|_| random.between(-speed, speed))),
-        70..80 => Temper::Wild,
-        _ => Temper::Extreme,
-    };
+    let temper = temper(random);
     if matches!(temper, Temper::Extreme) && random.percent(70) {
         // Only walls throw extreme parts back so that test 7 lets them pass; p near 2048 then
         // nearly turns their signs, which is where a part leaves its range.
         layout = Layout::Pockets;
         settings.p = settings.p.max(random.pick(&[1, 2000, 2030, 2037]));
     }
-    let mood = random.pick(&[Mood::Part, Mood::Part, Mood::Brink, Mood::Brink, Mood::Limit]);
-    // Strangers among the cells, so that one scene mixes tempers and moods.
-    let strangers = random.pick(&[0, 0, 5, 30]);
-    let cells = flags(random, &grid, layout).into_iter().map(|flag| {
-        if flag != FLUID && flag != INTERFACE {
-            return Cell::blank(flag);
-        }
-        let (mut temper, mut mood) = (temper, mood);
-        if random.percent(strangers) {
-            temper = random.pick(&[Temper::Still, Temper::Wild, Temper::Extreme]);
-            mood = random.pick(&[Mood::Part, Mood::Brink, Mood::Limit]);
-        }
-        let parts = water(random, temper);
-        let rho = density(&parts);
-        let mass = if flag == FLUID { rho } else { mass(random, rho, mood) };
-        Cell { flag, parts, mass, fill: 0 }
-    });
-    let cells = cells.collect();
+    let kind = Kind::of(random, temper);
+    let flags = flags(random, &grid, layout);
+    let cells = kind.cells(random, flags);
     Scene { sides, settings, origin: [0; 3], state: State::new(cells, carry(random)), numbers: 1 }
+}
+
+fn temper(random: &mut Random) -> Temper {
+    let speed = random.pick(&[10, 30, 100]);
+    match random.below(100) {
+        0..35 => Temper::Still,
+        35..70 => Temper::Lively([(); 3].map(|_| random.between(-speed, speed))),
+        70..80 => Temper::Wild,
+        _ => Temper::Extreme,
+    }
+}
+
+/// How all of a scene's water is chosen.
+struct Kind {
+    temper: Temper,
+    mood: Mood,
+    /// In a hundred: strangers among the cells, so that one scene mixes tempers and moods.
+    strangers: usize,
+}
+
+impl Kind {
+    fn of(random: &mut Random, temper: Temper) -> Kind {
+        let mood = random.pick(&[Mood::Part, Mood::Part, Mood::Brink, Mood::Brink, Mood::Limit]);
+        Kind { temper, mood, strangers: random.pick(&[0, 0, 5, 30]) }
+    }
+
+    fn cells(&self, random: &mut Random, flags: Vec<u8>) -> Vec<Cell> {
+        let cell = |flag: u8| {
+            if flag != FLUID && flag != INTERFACE {
+                return Cell::blank(flag);
+            }
+            let (mut temper, mut mood) = (self.temper, self.mood);
+            if random.percent(self.strangers) {
+                temper = random.pick(&[Temper::Still, Temper::Wild, Temper::Extreme]);
+                mood = random.pick(&[Mood::Part, Mood::Brink, Mood::Limit]);
+            }
+            let parts = water(random, temper);
+            let rho = density(&parts);
+            let mass = if flag == FLUID { rho } else { mass(random, rho, mood) };
+            Cell { flag, parts, mass, fill: 0 }
+        };
+        flags.into_iter().map(cell).collect()
+    }
+}
+
+/// Water between given walls, those of the outer layer among them.
+pub fn between(random: &mut Random, grid: &Grid, walls: &[bool]) -> State {
+    let layout = random.pick(&LAYOUTS);
+    let temper = temper(random);
+    let kind = Kind::of(random, temper);
+    let mut flags = flags(random, grid, layout);
+    for (flag, &wall) in flags.iter_mut().zip(walls) {
+        *flag = match *flag {
+            _ if wall => WALL,
+            WALL => EMPTY,
+            other => other,
+        };
+    }
+    close(grid, &mut flags);
+    let cells = kind.cells(random, flags);
+    let mut state = State::new(cells, carry(random));
+    (state.poured, state.taken) = (total(random), total(random));
+    state.work_out_fills();
+    state
 }
 
 /// Parts with exactly this density and momentum, close to their equilibrium.

@@ -1083,6 +1083,185 @@ static void test_pools(void)
     }
 }
 
+/* Two designers' tunnel as document 01's figures have it: the row's box with a wall in its middle, and what a wall change is lent. */
+#define STONE 22
+
+struct tunnel {
+    uint8_t map[ROW + 1];
+    struct set asker, other;
+    size_t map_len;
+    struct lengths la, lo;
+    struct sides s;
+};
+
+/* Water at rest in one cell, its own flags without walls. */
+static void scheme(struct set *a, size_t cell, uint8_t flag)
+{
+    memset(a, 0, sizeof *a);
+    a->flags[cell] = flag;
+    rest(a, cell);
+    a->masses[cell] = flag == SKW_FLUID ? SKW_ONE : SKW_ONE / 2;
+    a->fills[cell] = flag == SKW_FLUID ? SKW_FULL : SKW_FULL / 2;
+    mark(a, ROW);
+}
+
+/* An interface cell at 21 for the asker, for the other a fluid one at 23 or no water. */
+static void tunnel(struct tunnel *t, int dry)
+{
+    memset(t, 0, sizeof *t);
+    memset(t->map, 1, ROW);
+    t->map[21] = t->map[23] = 0, t->map[ROW] = 77;
+    scheme(&t->asker, 21, SKW_INTERFACE);
+    scheme(&t->other, 23, SKW_FLUID);
+    if (dry) {
+        memset(&t->other, 0, sizeof t->other);
+    }
+    t->map_len = ROW, t->la = t->lo = lengths_of(ROW), t->s = FIVE;
+}
+
+static long join(const struct tunnel *t, uint8_t *grid, size_t grid_len)
+{
+    size_t place = unset();
+    const struct set *a = &t->asker;
+    const uint8_t number = skw_scheme_join(t->map, t->map_len, a->flags, t->la.flags, a->parts, t->la.parts, a->masses, t->la.masses, a->fills,
+                                           t->la.fills, a->carry, t->la.carry, grid, grid_len, t->s.nx, t->s.ny, t->s.nz, &place);
+    return REFUSED(number, place);
+}
+
+static long part(const uint8_t *grid, size_t grid_len, uint8_t *own, size_t own_len, struct sides s)
+{
+    size_t place = unset();
+    const uint8_t number = skw_scheme_part(grid, grid_len, own, own_len, s.nx, s.ny, s.nz, &place);
+    return REFUSED(number, place);
+}
+
+/* One of the two wall changes; their arguments are the same. */
+typedef uint8_t wall_change(uint8_t *, size_t, const uint8_t *, size_t, const int32_t *, size_t, const int32_t *, size_t, const uint32_t *, size_t,
+                            const int64_t *, size_t, const uint8_t *, size_t, const int32_t *, size_t, const int32_t *, size_t, const uint32_t *,
+                            size_t, const int64_t *, size_t, size_t, size_t, size_t, size_t, size_t *);
+
+static long change(wall_change *call, struct tunnel *t, size_t cell)
+{
+    size_t place = unset();
+    const struct set *a = &t->asker, *o = &t->other;
+    const uint8_t number =
+        call(t->map, t->map_len, a->flags, t->la.flags, a->parts, t->la.parts, a->masses, t->la.masses, a->fills, t->la.fills, a->carry,
+             t->la.carry, o->flags, t->lo.flags, o->parts, t->lo.parts, o->masses, t->lo.masses, o->fills, t->lo.fills, o->carry, t->lo.carry,
+             t->s.nx, t->s.ny, t->s.nz, cell, &place);
+    return REFUSED(number, place);
+}
+
+/* That it is refused so, and has written nothing. */
+static int refused_change(wall_change *call, struct tunnel *t, size_t cell, long answer)
+{
+    static struct tunnel before;
+    before = *t;
+    return change(call, t, cell) == answer && memcmp(t, &before, sizeof before) == 0;
+}
+
+/* That it is accepted, and has written this cell's byte of the map and nothing else. */
+static int accepted_change(wall_change *call, struct tunnel *t, size_t cell, uint8_t byte)
+{
+    static struct tunnel after;
+    after = *t;
+    after.map[cell] = byte;
+    return change(call, t, cell) == ACCEPTED && memcmp(t, &after, sizeof after) == 0;
+}
+
+static void test_schemes(void)
+{
+    static struct tunnel t;
+    static struct set a, b;
+    uint8_t grid[ROW + 1], own[ROW + 1], marks[ROW];
+    int way;
+    size_t c;
+
+    /* a scheme is joined, stepped and parted, and is then a scheme of the same map */
+    tunnel(&t, 0), memset(grid, 77, sizeof grid), memset(own, 77, sizeof own);
+    EXPECT(join(&t, grid, ROW) == ACCEPTED && grid[ROW] == 77);
+    for (c = 0; c < ROW; c += 1) {
+        EXPECT(t.map[c] == 1 ? grid[c] == SKW_WALL : grid[c] == t.asker.flags[c]);
+    }
+    EXPECT(part(grid, ROW, own, ROW, FIVE) == ACCEPTED && memcmp(own, t.asker.flags, ROW) == 0 && own[ROW] == 77);
+    a = t.asker, memcpy(a.flags, grid, ROW);
+    EXPECT(check(&a, lengths_of(ROW), FIVE) == ACCEPTED);
+    EXPECT(step(&a, lengths_of(ROW), &b, lengths_of(ROW), marks, FIVE, FALLING) == ACCEPTED);
+    b.carry[1] = a.carry[1], b.carry[2] = a.carry[2];
+    t.asker = b;
+    EXPECT(part(b.flags, ROW, t.asker.flags, ROW, FIVE) == ACCEPTED);
+    EXPECT(join(&t, grid, ROW) == ACCEPTED && memcmp(grid, b.flags, ROW) == 0);
+
+    /* part's refusals, in order */
+    EXPECT(part(grid, ROW, own, ROW + 1, FIVE) == REFUSED(SKW_BAD_LENGTH, 0) && part(grid, ROW - 1, own, ROW, FIVE) == REFUSED(SKW_BAD_LENGTH, 0));
+    EXPECT(part(grid, ROW - 1, own, ROW, FLAT) == REFUSED(SKW_BAD_SIDES, 0));
+    memset(own, 77, sizeof own), grid[STONE] = 4;
+    EXPECT(part(grid, ROW, own, ROW, FIVE) == REFUSED(SKW_BAD_FLAG, STONE));
+    grid[3] = SKW_EMPTY;
+    EXPECT(part(grid, ROW, own, ROW, FIVE) == REFUSED(SKW_BAD_FLAG, 3) && all(own, ROW, 77));
+
+    /* own flags at a wall, and what a refused join leaves */
+    memset(grid, 77, sizeof grid);
+    tunnel(&t, 0), t.asker.flags[0] = SKW_WALL;
+    EXPECT(join(&t, grid, ROW) == REFUSED(SKW_BAD_FLAG, 0));
+    t.asker.flags[0] = SKW_INTERFACE;
+    EXPECT(join(&t, grid, ROW) == REFUSED(SKW_BAD_STATE, 0) && all(grid, ROW, 77));
+    tunnel(&t, 0);
+    EXPECT(join(&t, grid, ROW + 1) == REFUSED(SKW_BAD_LENGTH, 0) && all(grid, ROW, 77));
+
+    /* document 01's figures, beside the other's water and beside none */
+    for (way = 0; way < 2; way += 1) {
+        tunnel(&t, way);
+        EXPECT(refused_change(skw_wall_add, &t, 21, REFUSED(SKW_IN_THE_WAY, 21)));
+        EXPECT(refused_change(skw_wall_add, &t, STONE, REFUSED(SKW_BAD_CHANGE, STONE)));
+        EXPECT(refused_change(skw_wall_remove, &t, 0, REFUSED(SKW_BAD_CHANGE, 0)));
+        EXPECT(refused_change(skw_wall_add, &t, 0, REFUSED(SKW_BAD_CHANGE, 0)));
+        EXPECT(refused_change(skw_wall_remove, &t, 23, REFUSED(SKW_BAD_CHANGE, 23)));
+        EXPECT(refused_change(skw_wall_add, &t, ROW, REFUSED(SKW_OUTSIDE, 0)) && refused_change(skw_wall_remove, &t, unset(), REFUSED(SKW_OUTSIDE, 0)));
+    }
+    EXPECT(accepted_change(skw_wall_add, &t, 23, 1));
+    tunnel(&t, 1);
+    EXPECT(accepted_change(skw_wall_remove, &t, STONE, 0));
+    tunnel(&t, 0);
+    EXPECT(refused_change(skw_wall_add, &t, 23, REFUSED(SKW_IN_THE_WAY, 23)));
+    EXPECT(refused_change(skw_wall_remove, &t, STONE, REFUSED(SKW_IN_THE_WAY, STONE)));
+
+    /* each fault is added to those before it, and is found before them: the other's, then the asker's */
+    t.other.carry[1] = -1;
+    EXPECT(refused_change(skw_wall_add, &t, ROW, REFUSED(SKW_BAD_STATE, ROW)));
+    t.other.flags[STONE] = SKW_INTERFACE;
+    EXPECT(refused_change(skw_wall_add, &t, ROW, REFUSED(SKW_BAD_STATE, STONE)));
+    t.map[STONE] = 0, t.other.flags[STONE] = SKW_EMPTY;
+    EXPECT(refused_change(skw_wall_add, &t, ROW, REFUSED(SKW_BAD_LAYER, 23)));
+    t.other.flags[4] = SKW_WALL;
+    EXPECT(refused_change(skw_wall_add, &t, ROW, REFUSED(SKW_BAD_FLAG, 4)));
+    t.lo.carry = 1;
+    EXPECT(refused_change(skw_wall_add, &t, ROW, REFUSED(SKW_BAD_LENGTH, 0)));
+    t.asker.carry[2] = SKW_TOTAL_MOST + 1;
+    EXPECT(refused_change(skw_wall_remove, &t, ROW, REFUSED(SKW_BAD_STATE, ROW)));
+    t.asker.flags[STONE] = SKW_FLUID;
+    EXPECT(refused_change(skw_wall_remove, &t, ROW, REFUSED(SKW_BAD_LAYER, STONE)));
+    t.map[40] = 2;
+    EXPECT(refused_change(skw_wall_remove, &t, ROW, REFUSED(SKW_BAD_FLAG, 40)));
+    t.map[2] = 0;
+    EXPECT(refused_change(skw_wall_remove, &t, ROW, REFUSED(SKW_BAD_FLAG, 2)));
+    t.map_len = ROW + 1;
+    EXPECT(refused_change(skw_wall_remove, &t, ROW, REFUSED(SKW_BAD_LENGTH, 0)));
+    t.s = FLAT;
+    EXPECT(refused_change(skw_wall_remove, &t, ROW, REFUSED(SKW_BAD_SIDES, 0)));
+
+    for (way = 0; way < 22; way += 1) {
+        size_t *const each[11] = {&t.map_len,   &t.la.flags,  &t.la.parts, &t.la.masses, &t.la.fills, &t.la.carry,
+                                  &t.lo.flags, &t.lo.parts, &t.lo.masses, &t.lo.fills, &t.lo.carry};
+        tunnel(&t, 1);
+        *each[way / 2] = way % 2 ? *each[way / 2] + 1 : *each[way / 2] - 1;
+        EXPECT(refused_change(skw_wall_add, &t, 23, REFUSED(SKW_BAD_LENGTH, 0)));
+        EXPECT(refused_change(skw_wall_remove, &t, STONE, REFUSED(SKW_BAD_LENGTH, 0)));
+        if (way < 12) {
+            EXPECT(join(&t, grid, ROW) == REFUSED(SKW_BAD_LENGTH, 0) && all(grid, ROW, 77));
+        }
+    }
+}
+
 /* A file of at most so many bytes; its length, or one more than fits. */
 static size_t contents(const char *name, void *bytes, size_t room)
 {
@@ -1127,6 +1306,7 @@ int main(int count, char **words)
     test_depth();
     test_profile();
     test_pools();
+    test_schemes();
     printf("header (%s): %d expectations, %d failed\n", LANGUAGE, tried, failed);
     return failed != 0;
 }

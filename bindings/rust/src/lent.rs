@@ -556,3 +556,142 @@ pub fn profile(
     answered(number, place)?;
     Ok((wet == 1).then_some(deepest))
 }
+
+/// The flags of a scheme's grid: wall where the map is 1, the scheme's own flag elsewhere. A scheme is a state whose flags are its own,
+/// without walls, beside a map with a byte per cell, 1 for wall and 0 for not.
+///
+/// Refusals 1, 2, 4, 5 and 6 write nothing; 4 is for a byte of the map above 1, an own flag above 2, or an outer cell that is not wall in
+/// the map, and 6 for an own flag other than 0 at a wall too.
+pub fn scheme_join(sides: Sides, map: &[u8], scheme: State, grid: &mut [u8]) -> Result<(), Refusal> {
+    let mut place = 0;
+    let number = unsafe {
+        raw::skw_scheme_join(
+            map.as_ptr(),
+            map.len(),
+            scheme.flags.as_ptr(),
+            scheme.flags.len(),
+            scheme.parts.as_ptr(),
+            scheme.parts.len(),
+            scheme.masses.as_ptr(),
+            scheme.masses.len(),
+            scheme.fills.as_ptr(),
+            scheme.fills.len(),
+            scheme.carry.as_ptr(),
+            scheme.carry.len(),
+            grid.as_mut_ptr(),
+            grid.len(),
+            sides.nx,
+            sides.ny,
+            sides.nz,
+            &mut place,
+        )
+    };
+    answered(number, place)
+}
+
+/// A scheme's own flags back from those of its grid: empty for every wall. Refusals 1, 2 and 4 write nothing.
+pub fn scheme_part(sides: Sides, grid: &[u8], flags: &mut [u8]) -> Result<(), Refusal> {
+    let mut place = 0;
+    let number = unsafe {
+        raw::skw_scheme_part(
+            grid.as_ptr(),
+            grid.len(),
+            flags.as_mut_ptr(),
+            flags.len(),
+            sides.nx,
+            sides.ny,
+            sides.nz,
+            &mut place,
+        )
+    };
+    answered(number, place)
+}
+
+/// Asks for a wall in an inner cell: accepted, the map's byte becomes 1, exactly if the cell is empty in both schemes.
+///
+/// Refusals of the asker's scheme, then of the other's, as [`scheme_join`] gives them, then 13, 17 and 18; none writes.
+pub fn wall_add(
+    sides: Sides,
+    map: &mut [u8],
+    asker: State,
+    other: State,
+    cell: usize,
+) -> Result<(), Refusal> {
+    let mut place = 0;
+    let number = unsafe {
+        raw::skw_wall_add(
+            map.as_mut_ptr(),
+            map.len(),
+            asker.flags.as_ptr(),
+            asker.flags.len(),
+            asker.parts.as_ptr(),
+            asker.parts.len(),
+            asker.masses.as_ptr(),
+            asker.masses.len(),
+            asker.fills.as_ptr(),
+            asker.fills.len(),
+            asker.carry.as_ptr(),
+            asker.carry.len(),
+            other.flags.as_ptr(),
+            other.flags.len(),
+            other.parts.as_ptr(),
+            other.parts.len(),
+            other.masses.as_ptr(),
+            other.masses.len(),
+            other.fills.as_ptr(),
+            other.fills.len(),
+            other.carry.as_ptr(),
+            other.carry.len(),
+            sides.nx,
+            sides.ny,
+            sides.nz,
+            cell,
+            &mut place,
+        )
+    };
+    answered(number, place)
+}
+
+/// Asks for an inner wall to be taken out: accepted, the map's byte becomes 0, exactly if no neighbour of the cell is fluid in either
+/// scheme. Refusals as [`wall_add`] gives them.
+pub fn wall_remove(
+    sides: Sides,
+    map: &mut [u8],
+    asker: State,
+    other: State,
+    cell: usize,
+) -> Result<(), Refusal> {
+    let mut place = 0;
+    let number = unsafe {
+        raw::skw_wall_remove(
+            map.as_mut_ptr(),
+            map.len(),
+            asker.flags.as_ptr(),
+            asker.flags.len(),
+            asker.parts.as_ptr(),
+            asker.parts.len(),
+            asker.masses.as_ptr(),
+            asker.masses.len(),
+            asker.fills.as_ptr(),
+            asker.fills.len(),
+            asker.carry.as_ptr(),
+            asker.carry.len(),
+            other.flags.as_ptr(),
+            other.flags.len(),
+            other.parts.as_ptr(),
+            other.parts.len(),
+            other.masses.as_ptr(),
+            other.masses.len(),
+            other.fills.as_ptr(),
+            other.fills.len(),
+            other.carry.as_ptr(),
+            other.carry.len(),
+            sides.nx,
+            sides.ny,
+            sides.nz,
+            cell,
+            &mut place,
+        )
+    };
+    answered(number, place)
+}

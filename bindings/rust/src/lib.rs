@@ -25,7 +25,8 @@
 //! # }
 //! ```
 //!
-//! [`Grid`] is what most hosts need; [`lent`] has the same calls over slices of one's own; [`drawing`] draws a grid.
+//! [`Grid`] is what most hosts need; [`Scan`] has two schemes between the same walls; [`lent`] has the same calls over slices of one's
+//! own; [`drawing`] draws a grid.
 
 pub mod drawing;
 mod grid;
@@ -38,6 +39,7 @@ mod pools;
 pub mod raw;
 mod readings;
 mod refusal;
+mod scan;
 mod settings;
 mod sides;
 pub mod spelling;
@@ -48,6 +50,7 @@ pub use index::{words_of, Held, HeldMut, Index, IndexMut, Next, Surface};
 pub use pools::{Pool, Pools};
 pub use readings::{CellPoint, Depth, Line, Profile, Station};
 pub use refusal::{Place, Refusal, Stopped};
+pub use scan::{Designer, Scan, Scheme};
 pub use settings::{Point, Settings, Site};
 pub use sides::Sides;
 pub use state::{Counts, State, StateMut, Water, EMPTY, FLUID, FULL, INTERFACE, ONE, PARTS, WALL};

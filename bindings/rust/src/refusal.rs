@@ -6,7 +6,7 @@ use std::fmt::{Display, Formatter, Result as Written};
 /// Why a call was refused. Nothing is written then, but as each call says for 7, 8 and 21.
 #[derive(Clone, Copy, Debug, PartialEq, Eq, Hash)]
 pub struct Refusal {
-    /// 1 to 16 or 21 to 23; [`SIDES`](Refusal::SIDES) and so on.
+    /// 1 to 18 or 21 to 23; [`SIDES`](Refusal::SIDES) and so on.
     pub number: u8,
     /// A cell, a byte, a section, a number of bytes, a point of a list, a number of pools, or 0, by the number.
     pub place: usize,
@@ -65,6 +65,10 @@ impl Refusal {
     pub const NOT_INTERFACE: u8 = 15;
     /// An amount outside 1 to 589,824, or one with which the mass would pass 2,359,296, or poured or taken 10^15.
     pub const AMOUNT: u8 = 16;
+    /// A wall change at an outer cell, or the cell is already as asked. Place: the cell.
+    pub const CHANGE: u8 = 17;
+    /// A wall change with water in the way, the asker's or the other's. Place: the cell.
+    pub const IN_THE_WAY: u8 = 18;
     /// The list has room for fewer pools than there are. Place: their number.
     pub const POOLS: u8 = 21;
     /// A profile's list has not 1 to 2,000 points.
@@ -95,6 +99,8 @@ impl Refusal {
             Refusal::INDEX => "a word is not the one that the flags make, or the stored count is wrong",
             Refusal::NOT_INTERFACE => "the cell is not interface",
             Refusal::AMOUNT => "amount outside 1..589,824, or a mass or total would pass its limit",
+            Refusal::CHANGE => "outer cell, or the cell is already as asked",
+            Refusal::IN_THE_WAY => "water is in the way",
             Refusal::POOLS => "the list has room for fewer pools than there are",
             Refusal::LIST => "the list has not 1 to 2,000 points",
             Refusal::CHAINAGE => "a chainage is not above the one before",
@@ -105,9 +111,12 @@ impl Refusal {
     /// The place as what it is.
     pub fn at(&self) -> Place {
         match self.number {
-            Refusal::FLAG | Refusal::LAYER | Refusal::FLOW | Refusal::NOT_INTERFACE => {
-                Place::Cell(self.place)
-            }
+            Refusal::FLAG
+            | Refusal::LAYER
+            | Refusal::FLOW
+            | Refusal::NOT_INTERFACE
+            | Refusal::CHANGE
+            | Refusal::IN_THE_WAY => Place::Cell(self.place),
             Refusal::STATE | Refusal::NEXT => Place::CellOrCarry(self.place),
             Refusal::END => Place::Byte(self.place),
             Refusal::COUNT => Place::Section(self.place),

@@ -29,6 +29,8 @@ fn refusals_are_told() {
         (13, 0, "refusal 13: column, cell or point outside"),
         (14, 0, "refusal 14: a word is not the one that the flags make, or the stored count is wrong"),
         (3, 4, "refusal 3: a setting, origin or point coordinate out of range, at point 4"),
+        (17, 22, "refusal 17: outer cell, or the cell is already as asked, at cell 22"),
+        (18, 23, "refusal 18: water is in the way, at cell 23"),
         (21, 2, "refusal 21: the list has room for fewer pools than there are, which are 2"),
         (22, 0, "refusal 22: the list has not 1 to 2,000 points"),
         (23, 3, "refusal 23: a chainage is not above the one before, at point 3"),

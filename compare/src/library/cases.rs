@@ -8,7 +8,7 @@ use oracle::random::Random;
 use oracle::record::Reading;
 use oracle::scenes::good;
 use oracle::state::{CARRY_LIMIT, FLUID, INTERFACE, MASS_LIMIT, PART_LIMIT, TOTAL_LIMIT, WALL};
-use oracle::{IndexStore, Store};
+use oracle::{HeldStore, IndexStore, Settings, Store};
 
 use super::Reply;
 use crate::lengths::{changed, CHANGES};
@@ -158,6 +158,19 @@ impl Case {
             amount: 1,
             start: 0,
             column: [0; 2],
+        }
+    }
+
+    /// A grid and its index, to be stepped, run, poured into and taken from.
+    pub fn of_grid(sides: [usize; 3], settings: &Settings, grid: HeldStore) -> Case {
+        let n = grid.set.flags.len();
+        Case {
+            sides,
+            p: settings.p.into(),
+            gravity: settings.gravity.map(i64::from),
+            first: grid.set,
+            first_index: grid.index,
+            ..Case::of_record(vec![], n)
         }
     }
 
