@@ -1,5 +1,5 @@
--- The depth map's writer for a host: number and place of the answer, the rest as it stands; and no second outcome fits. Assumes nothing.
-use mathlib.Core.Path.{_≡_, sym, ap, _∙_, subst}
+-- From the writer's own promise to the exported call's: number and place of the answer, the rest as it stands. Assumes nothing.
+use mathlib.Core.Path.{_≡_, ap, _∙_, subst}
 use mathlib.Core.List.{List}
 use Prim.Native.Nat.{ℕ}
 use lib.IntN.{ℤ}
@@ -28,8 +28,3 @@ depths-told {s} {t} {u} {a} {room} {w} {number} {place} {bytes} {after} e h n p 
       bytes-are = b ∙ ap (λ (x : Written). x .bytes) (h .answer-is);
       room-is = h .room-is;
     })
-
-pub depths-unique : (s : Sides) (t : Corner) (a : Lent) (room : List ℕ) {n m p q i j : ℕ} {k l : List ℕ}
-    → DepthsTold s t a room n p i k → DepthsTold s t a room m q j l → (n ≡ m) × (p ≡ q) × (i ≡ j) × (k ≡ l)
-depths-unique s t a room x y =
-    (x .number-is ∙ sym (y .number-is), x .place-is ∙ sym (y .place-is), x .bytes-are ∙ sym (y .bytes-are), x .room-is ∙ sym (y .room-is))

@@ -3,4 +3,3 @@ pub mod Words
 pub mod HeaderBack
 pub mod RowsBack
 pub mod Returned
-pub mod Figures

@@ -14,7 +14,8 @@ use Rattle.tunnel.specs.Depth.{open-depth}
 use Rattle.spelling.specs.Spelling.{open-spelling}
 use Rattle.depths.specs.Map.{open-map}
 use Rattle.depths.specs.Outcome as depths
-use Rattle.readback.specs.Table.{maps, hold}
+use Rattle.heightfigures.specs.Texts.{hold}
+use Rattle.heightfigures.specs.Maps.{maps}
 
 pub maps-hold : T (hold maps)
 unfolding open-fold open-lattice open-cell open-body open-grid open-state open-step open-good open-outcome open-three open-depth open-spelling open-map depths.open-outcome
