@@ -3,3 +3,4 @@ pub mod Words
 pub mod HeaderBack
 pub mod RowsBack
 pub mod Returned
+pub mod Longest

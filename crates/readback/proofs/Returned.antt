@@ -65,14 +65,12 @@ depth-small s edge flags fills m x y h k =
     let p : n * edge ≤ n * 1000 = mul-le-mul-left n (m .short) in
     depth-cases (all (s .nz) (isWall s flags x y)) (n * edge / 65536) (omega (arith, good-sides s (m .good) .z .high))
 
+pub within : (z : ℤ) → coordinateGood z ≡ true → natAbs z ≤ 10000000000
+within (pos n) e = leb-true n 10000000000 (and-right (leZ (negsuc 9999999999) (pos n)) (leZ (pos n) (pos 10000000000)) e)
+within (negsuc n) e = omega (arith, leb-true n 9999999999 (and-left (leZ (negsuc 9999999999) (negsuc n)) (leZ (negsuc n) (pos 10000000000)) e))
+
 near : (z : ℤ) → coordinateGood z ≡ true → natAbs z < 1000000000000000
-near z e =
-    let m : natAbs z ≤ 10000000000 = within z (and-left (leZ (negsuc 9999999999) z) (leZ z (pos 10000000000)) e) (and-right (leZ (negsuc 9999999999) z) (leZ z (pos 10000000000)) e) in
-    omega arith
-  where
-    within : (y : ℤ) → leZ (negsuc 9999999999) y ≡ true → leZ y (pos 10000000000) ≡ true → natAbs y ≤ 10000000000
-    within (pos n) u v = leb-true n 10000000000 v
-    within (negsuc n) u v = omega (arith, leb-true n 9999999999 u)
+near z e = omega (arith, within z e)
 
 module _ (s : Sides) (t : Corner) (a : Lent) (room : List ℕ) (done : mapAnswer s t a room ≡ Done) where
   fits : Fit s t a

@@ -2,7 +2,7 @@
 use mathlib.Core.Path.{_≡_}
 use mathlib.Core.Bool.{true}
 use mathlib.Core.List.{List}
-use Prim.Native.Nat.{ℕ, _<_}
+use Prim.Native.Nat.{ℕ, _≤_, _<_}
 use lib.IntN.{ℤ, pos, natAbs, _*ℤ_}
 use lib.ListN.{take}
 use Rattle.lattice.specs.declared.Settings.{Settings}
@@ -52,3 +52,7 @@ Accepted =
     (s : Sides) (t : Corner) (a : Lent) (room : List ℕ) → mapAnswer s t a room ≡ Done
     → (oz : ℤ) (g : Settings) (l : Lengths) → siteGood g (siteWith t oz) ≡ true → setFits (cellsOf s) l ≡ true
     → readHead (textIn s t a room) (s .nz) oz g l ≡ record { answer = Done; sides = s; settings = g; site = siteWith t oz }
+
+-- the longest depth map of any grid has 98,406 bytes: no text that the writer writes is longer
+abbrev pub Longest : Type 0
+Longest = (s : Sides) (t : Corner) (a : Lent) (room : List ℕ) → mapAnswer s t a room ≡ Done → mapWritten s t a room .bytes ≤ 98406
