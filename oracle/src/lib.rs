@@ -2,11 +2,13 @@
 
 pub mod acts;
 pub mod damage;
+pub mod depths;
 pub mod drawing;
 pub mod flume;
 pub mod grid;
 pub mod hunt;
 pub mod index;
+pub mod invert;
 pub mod lattice;
 pub mod ponds;
 pub mod pools;
