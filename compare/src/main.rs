@@ -1,5 +1,6 @@
 // The comparison: the proved programs and the proved library beside the independent program, by seed. Status 1 if anything differs.
 
+mod heights;
 mod lengths;
 mod library;
 mod pools;
@@ -18,7 +19,7 @@ use programs::{gridread, gridrun, gridstep, Starter};
 use report::{Total, Wish};
 
 const USAGE: &str = "compare [--from SEED] [--first] [PART...], from the top of the repository
-  PART      gridstep, gridrun, gridread, library, profile or pools; all if not said
+  PART      gridstep, gridrun, gridread, library, profile, pools or heights; all if not said
   --from    the first seed, 0 if not said
   --first   stop at the first difference";
 
@@ -29,13 +30,14 @@ enum Part {
     Library(&'static str, fn(&Wish, &mut Total)),
 }
 
-const PARTS: [Part; 6] = [
+const PARTS: [Part; 7] = [
     Part::Program("gridstep", gridstep::compare),
     Part::Program("gridrun", gridrun::compare),
     Part::Program("gridread", gridread::compare),
     Part::Library("library", library::compare),
     Part::Library("profile", profile::compare),
     Part::Library("pools", pools::compare),
+    Part::Library("heights", heights::compare),
 ];
 
 impl Part {

@@ -29,6 +29,7 @@
 
 pub mod drawing;
 mod grid;
+mod heights;
 mod index;
 mod laying;
 pub mod lent;
