@@ -34,7 +34,7 @@ use Rattle.index.specs.Index.{Index, index, wordsOf, interface, wordOf, surface
 use Rattle.index.specs.Outcome.{trueAnswer}
 use Rattle.heights.specs.Text.{fromLine}
 use Rattle.invert.specs.Invert.{valueAt, solidAt, invertFlag, invertFlags}
-use Rattle.invert.specs.Outcome.{countOf, readHead, lengthsOf, dry, dryIndex, setBy, indexBy}
+use Rattle.invert.specs.Outcome.{countOf, setFits, readHead, lengthsOf, dry, dryIndex, setBy, indexBy}
 use Rattle.invert.specs.Demands.{loading, Loads, Loadable}
 use Rattle.invert.proofs.Tested.{Taken, head-taken}
 use Rattle.invert.proofs.Filled.{set-made, index-made}
@@ -172,6 +172,11 @@ module _ (s : Sides) (g : sidesGood s ≡ true) (edge : ℕ) (t : List ℕ) wher
         loads = simp (g, and-true (threeLengths (cellsOf s) A) (indexSized (cellsOf s) (dryIndex (cellsOf s))) lengths sized) (three (orRefuse (indexTrue (cellsOf s) (invertFlags s edge t) (dryIndex (cellsOf s))) 14 0 Done) ∙ simp true-index);
         without-water = λ c. by-still (λ f. liquid f ≡ false) (still s edge t c) refl refl;
       }
+
+-- test 2 of the reader is that of the check and of the index
+pub same-lengths : (n : ℕ) (a : Lent) (x : Index) → setFits n (lengthsOf a x) ≡ (threeLengths n a && indexSized n x)
+unfolding setFits threeLengths indexSized
+same-lengths n a x = refl
 
 -- ---- the demand
 pub loadable : Loadable
