@@ -1,0 +1,2 @@
+// The C interface of height grids, over numbers and slices alone.
+pub mod invert_read;

@@ -1,0 +1,3 @@
+pub mod Invert
+pub mod Walls
+pub mod Outcome
