@@ -110,6 +110,8 @@ enum { SKW_LINE_SOLID = 1, SKW_LINE_DRY = 2, SKW_LINE_DEEP = 3, SKW_LINE_OUTSIDE
     ((size_t)108 + (size_t)(cells) + (size_t)4 * (size_t)(interfaces) + (size_t)76 * (size_t)(liquids))
 /* Room in bytes that the record of any grid with so many cells fits into. */
 #define SKW_RECORD_BYTES_MOST(cells) SKW_RECORD_BYTES(cells, cells, cells)
+/* Room in bytes that the depth map of any grid fits into. */
+#define SKW_DEPTHS_BYTES_MOST 98406
 
 /*
  * Refusals: document 01's numbers, in the words of its table, and the place beside each. Where not said otherwise the tests come in
@@ -139,7 +141,7 @@ enum {
     SKW_BAD_END = 10,
     /* a section's count is wrong; place: the section, 1 to 7 */
     SKW_BAD_COUNT = 11,
-    /* room for the record is too small (tested last); place: the bytes needed */
+    /* room for the record or the depth map is too small (tested last); place: the bytes needed */
     SKW_BAD_ROOM = 12,
     /* column, cell or point outside the grid, or a start above N; place 0 */
     SKW_OUTSIDE = 13,
@@ -374,6 +376,24 @@ uint8_t skw_invert_read(const uint8_t *text, size_t text_len,
                         size_t *nx, size_t *ny,
                         int64_t *edge, int64_t *ox, int64_t *oy,
                         size_t *place);
+
+/*
+ * DEPTHS WRITE: the depth map of a set as an ASCII height grid, from the front of the room; *bytes is its length, for no grid more
+ * than SKW_DEPTHS_BYTES_MOST. Six header lines: ncols, nrows, xllcorner, yllcorner, cellsize, NODATA_value -9999; the corner (ox, oy)
+ * and the edge in metres with three decimals. Then ny rows of nx values, from the north (y = ny - 1) to the south. A value is the
+ * column's depth in whole mm, floor(sum of its fills * edge/65,536), or -9999 if every cell of it is wall; dry and less than a
+ * millimetre are both 0. LF behind every line, one space between values. Room past the text stays as it was; beside a refusal all of
+ * it does, and *bytes is 0. Tests 1 to 6 (3: edge, ox and oy), then 12, whose place is the bytes needed.
+ */
+uint8_t skw_depths_write(size_t nx, size_t ny, size_t nz,
+                         int64_t edge, int64_t ox, int64_t oy,
+                         const uint8_t *flags, size_t flags_len,
+                         const int32_t *parts, size_t parts_len,
+                         const int32_t *masses, size_t masses_len,
+                         const uint32_t *fills, size_t fills_len,
+                         const int64_t *carry, size_t carry_len,
+                         uint8_t *room, size_t room_len,
+                         size_t *bytes, size_t *place);
 
 /*
  * PLACE: the number of the cell that holds survey point (x, y, z), in mm: per axis floor((point - origin)/edge).

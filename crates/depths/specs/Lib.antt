@@ -1,3 +1,3 @@
-pub mod Spelling
 pub mod Map
-pub mod Table
+pub mod Outcome
+pub mod Asks

@@ -1,1 +1,2 @@
 pub mod Invert
+pub mod Written

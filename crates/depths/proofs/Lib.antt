@@ -1,4 +1,0 @@
-pub mod Spelled
-pub mod Written
-pub mod Putting
-pub mod Figures
