@@ -15,8 +15,8 @@ use maps::Map;
 use texts::{Damage, Text};
 
 /// Texts and maps by seed.
-const TEXTS: u64 = 60_000;
-const MAPS: u64 = 15_000;
+const TEXTS: u64 = 100_000;
+const MAPS: u64 = 30_000;
 const LARGE: usize = 12;
 /// More lengths than the small map's text has.
 const ROOMS: usize = 400;
