@@ -341,6 +341,24 @@ uint8_t skw_write(size_t nx, size_t ny, size_t nz,
                   size_t *bytes, size_t *place);
 
 /*
+ * DEPTHS WRITE: the depth map of a set as an ASCII height grid, from the front of the room; *bytes is its length, for no grid more
+ * than SKW_DEPTHS_BYTES_MOST. Six header lines: ncols, nrows, xllcorner, yllcorner, cellsize, NODATA_value -9999; the corner (ox, oy)
+ * and the edge in metres with three decimals. Then ny rows of nx values, from the north (y = ny - 1) to the south. A value is the
+ * column's depth in whole mm, floor(sum of its fills * edge/65,536), or -9999 if every cell of it is wall; dry and less than a
+ * millimetre are both 0. LF behind every line, one space between values. Room past the text stays as it was; beside a refusal all of
+ * it does, and *bytes is 0. Tests 1 to 6 (3: edge, ox and oy), then 12, whose place is the bytes needed.
+ */
+uint8_t skw_depths_write(size_t nx, size_t ny, size_t nz,
+                         int64_t edge, int64_t ox, int64_t oy,
+                         const uint8_t *flags, size_t flags_len,
+                         const int32_t *parts, size_t parts_len,
+                         const int32_t *masses, size_t masses_len,
+                         const uint32_t *fills, size_t fills_len,
+                         const int64_t *carry, size_t carry_len,
+                         uint8_t *room, size_t room_len,
+                         size_t *bytes, size_t *place);
+
+/*
  * INVERT READ: a height grid (.asc), text_len bytes of it, into a set and its index: walls below the heights, and no water. The text has
  * six header lines of two words each, keywords in either case, then nrows lines of ncols whole numbers:
  *
@@ -376,24 +394,6 @@ uint8_t skw_invert_read(const uint8_t *text, size_t text_len,
                         size_t *nx, size_t *ny,
                         int64_t *edge, int64_t *ox, int64_t *oy,
                         size_t *place);
-
-/*
- * DEPTHS WRITE: the depth map of a set as an ASCII height grid, from the front of the room; *bytes is its length, for no grid more
- * than SKW_DEPTHS_BYTES_MOST. Six header lines: ncols, nrows, xllcorner, yllcorner, cellsize, NODATA_value -9999; the corner (ox, oy)
- * and the edge in metres with three decimals. Then ny rows of nx values, from the north (y = ny - 1) to the south. A value is the
- * column's depth in whole mm, floor(sum of its fills * edge/65,536), or -9999 if every cell of it is wall; dry and less than a
- * millimetre are both 0. LF behind every line, one space between values. Room past the text stays as it was; beside a refusal all of
- * it does, and *bytes is 0. Tests 1 to 6 (3: edge, ox and oy), then 12, whose place is the bytes needed.
- */
-uint8_t skw_depths_write(size_t nx, size_t ny, size_t nz,
-                         int64_t edge, int64_t ox, int64_t oy,
-                         const uint8_t *flags, size_t flags_len,
-                         const int32_t *parts, size_t parts_len,
-                         const int32_t *masses, size_t masses_len,
-                         const uint32_t *fills, size_t fills_len,
-                         const int64_t *carry, size_t carry_len,
-                         uint8_t *room, size_t room_len,
-                         size_t *bytes, size_t *place);
 
 /*
  * PLACE: the number of the cell that holds survey point (x, y, z), in mm: per axis floor((point - origin)/edge).

@@ -2,7 +2,7 @@
 use mathlib.Core.Path.{_≡_}
 use mathlib.Core.Bool.{true}
 use mathlib.Core.List.{List}
-use Prim.Native.Nat.{ℕ, _≤_}
+use Prim.Native.Nat.{ℕ, _≤_, _<_}
 use lib.ListN.{length, getD}
 use Rattle.grid.specs.declared.Sides.{Sides}
 use Rattle.grid.specs.Grid.{sidesGood, cellsOf}
@@ -13,4 +13,4 @@ pub record Measured (s : Sides) (edge : ℕ) (flags fills : List ℕ) : Type 0 w
   pub short : edge ≤ 1000
   pub flags-all : length flags ≡ cellsOf s
   pub fills-all : length fills ≡ cellsOf s
-  pub full : (c : ℕ) → getD fills c 0 ≤ 65536
+  pub full : (c : ℕ) → c < cellsOf s → getD fills c 0 ≤ 65536

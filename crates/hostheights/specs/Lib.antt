@@ -1,2 +1,2 @@
+pub mod Depths
 pub mod Invert
-pub mod Written

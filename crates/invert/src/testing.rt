@@ -17,6 +17,7 @@ use record::Head;
 use record::Site;
 use record::given::good_site;
 use record::section::passed;
+use whole::magnitude;
 ghost use mathlib.Core.Path.{_≡_};
 ghost use Prim.Native.Nat.{_+_, _≤_};
 ghost use lib.ListN.{length};
@@ -42,7 +43,7 @@ pub fn count_of(v: i64) -> usize
     if v < 0 {
         return 0;
     }
-    v as usize
+    magnitude(v) as usize
 }
 
 fn sides_of(f: Frame, nz: usize) -> Sides

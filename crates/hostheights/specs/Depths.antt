@@ -12,7 +12,7 @@ use Rattle.depths.specs.Outcome.{mapWritten, mapRoom}
 abbrev pub cornerOf : ℤ → ℤ → ℤ → Corner
 cornerOf edge x y = record { edge = edge; x = x; y = y }
 
-pub record WriteTold (s : Sides) (t : Corner) (a : Lent) (room : List ℕ) (number place bytes : ℕ) (after : List ℕ) : Type 0 where
+pub record DepthsTold (s : Sides) (t : Corner) (a : Lent) (room : List ℕ) (number place bytes : ℕ) (after : List ℕ) : Type 0 where
   pub number-is : number ≡ numberOf (mapWritten s t a room .answer)
   pub place-is : place ≡ placeOf (mapWritten s t a room .answer)
   pub bytes-are : bytes ≡ mapWritten s t a room .bytes

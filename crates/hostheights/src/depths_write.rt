@@ -6,7 +6,7 @@ use host::answers::number_of;
 use host::answers::place_of;
 ghost use Rattle.grid.specs.State.{lent};
 ghost use Rattle.host.specs.Given.{sidesOf};
-ghost use Rattle.hostheights.specs.Written.{cornerOf, WriteTold};
+ghost use Rattle.hostheights.specs.Depths.{cornerOf, DepthsTold};
 
 // The depth map of a grid, from the front of the room.
 #[no_mangle]
@@ -26,7 +26,7 @@ pub extern "C" fn skw_depths_write(
     bytes: &mut usize,
     place: &mut usize,
 ) -> u8
-    ensures { λ r. ⌜ WriteTold (sidesOf nx ny nz) (cornerOf edge ox oy) (lent (now (flags .entry)) (now (parts .entry)) (now (masses .entry)) (now (fills .entry)) (now (carry .entry))) (now (room .entry)) r (now (place .exit)) (now (bytes .exit)) (now (room .exit)) ⌝ }
+    ensures { λ r. ⌜ DepthsTold (sidesOf nx ny nz) (cornerOf edge ox oy) (lent (now (flags .entry)) (now (parts .entry)) (now (masses .entry)) (now (fills .entry)) (now (carry .entry))) (now (room .entry)) r (now (place .exit)) (now (bytes .exit)) (now (room .exit)) ⌝ }
 {
     let s = Sides { nx, ny, nz };
     let t = Corner { edge, x: ox, y: oy };
