@@ -1194,8 +1194,7 @@ static void test_invert(void)
     /* nothing behind the slices is written */
     EXPECT(t.flags[TRENCH] == 7 && t.fills[TRENCH] == 0x07070707 && t.carry[3] != 0 && t.words[2] != 0 && t.count[1] != 0);
     c = unset();
-    EXPECT(skw_load(t.flags, TRENCH, t.parts, SKW_PARTS * TRENCH, t.masses, TRENCH, t.fills, TRENCH, t.carry, 1, t.words, 2, t.count, 1, 5, 4, 4,
-                    &c) == SKW_ACCEPTED &&
+    EXPECT(skw_check(t.flags, TRENCH, t.parts, SKW_PARTS * TRENCH, t.masses, TRENCH, t.fills, TRENCH, t.carry, 3, 5, 4, 4, &c) == SKW_ACCEPTED &&
            c == 0);
 
     EXPECT(refused_with("ncols 5", "ncols five", REFUSED(SKW_BAD_HEADER, 1)));
