@@ -135,7 +135,7 @@ fn advanced(record: &[u8], steps: u64) -> Vec<u8> {
 }
 
 /// Every command with what it must have, on the record of standard input.
-const CALLS: [&[&str]; 11] = [
+const CALLS: [&[&str]; 12] = [
     &["check"],
     &["water"],
     &["step"],
@@ -147,6 +147,7 @@ const CALLS: [&[&str]; 11] = [
     &["surface"],
     &["pools"],
     &["draw"],
+    &["depths"],
 ];
 
 #[test]

@@ -149,7 +149,7 @@ fn what_cannot_be_read_is_told_by_its_line() {
     for command in ["invert", "depths"] {
         let help = skw(&folder.0, &["help", command]);
         assert!(text(&help.stdout).contains("-9999"));
-        assert!(text(&help.stdout).lines().all(|line| line.chars().count() <= 110));
+        assert!(text(&help.stdout).lines().all(|line| line.len() <= 82));
     }
 }
 

@@ -24,7 +24,7 @@ const SOURCE: Choice = Choice {
     name: "source",
     letter: Some('s'),
     value: Some("X,Y"),
-    help: "where to pour: that column's lowest open cell is made surface, without water",
+    help: "make that column's lowest open cell surface",
 };
 const NEAREST: Choice = Choice {
     name: "nearest",
