@@ -10,10 +10,10 @@ pub const COMMAND: Command = Command {
     usage: "[FILE] [-o FILE]",
     summary: "the depth map as an ASCII grid, in millimetres",
     help: "\
-Writes the depth of every column as an ASCII grid, which GDAL, QGIS and ArcGIS
+Writes the depth of every column as an ASCII grid, which GDAL, QGIS and the like
 read: six header lines, then a row a line from north to south. Depths are whole
-millimetres, rounded down, 0 where it is dry, and -9999 where a column is all wall,
-as it is all around. Corner and cell size are in metres.
+millimetres, rounded down, 0 where it is dry; -9999 is a column that is all wall,
+as all around. Corner and cell size are in metres.
 
     skw depths sump.rec -o sump.asc
     gdalinfo -stats sump.asc",

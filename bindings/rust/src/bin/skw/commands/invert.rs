@@ -51,9 +51,9 @@ whole millimetres above HEIGHT, -9999 a column that is all wall; corner and cell
 size are in metres, of whole millimetres. Line ends may be LF or CRLF, letters
 large or small. A line that cannot be read is told by its number.
 
-Water is poured into the surface, and a dry grid has none: -s makes a place for it.
-Other programs may write a corner as 512339.950000000012, which is no whole number
-of millimetres and refused; --nearest rounds it first.
+Water is poured into the surface, and a dry grid has none: -s makes a place for
+it, a cell without water. Other programs may write corners as 512339.950000000012,
+which is no whole number of millimetres and refused; --nearest rounds it first.
 
     skw invert 16 118000 gutter.asc -o gutter.rec
     skw invert 16 118000 gutter.asc -s 3,4 -o gutter.rec",
