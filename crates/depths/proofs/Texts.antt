@@ -62,12 +62,14 @@ module _ (s : Sides) (t : Corner) where
   pub header-long : length (headerText s t []) ≡ 65 + (length (spellOf (s .nx)) + length (spellOf (s .ny))) + (length (metresOf (t .x)) + length (metresOf (t .y))) + length (metresOf (t .edge))
   unfolding headerText
   header-long =
-      omega (arith,
-      line-long ncols (spellOf (s .nx)) (fromRows []),
-      line-long nrows (spellOf (s .ny)) (fromWest []),
-      line-long xllcorner (metresOf (t .x)) (fromSouth []),
-      line-long yllcorner (metresOf (t .y)) (fromEdge []),
-      line-long cellsize (metresOf (t .edge)) (last []))
+      omega (
+        arith,
+        line-long ncols (spellOf (s .nx)) (fromRows []),
+        line-long nrows (spellOf (s .ny)) (fromWest []),
+        line-long xllcorner (metresOf (t .x)) (fromSouth []),
+        line-long yllcorner (metresOf (t .y)) (fromEdge []),
+        line-long cellsize (metresOf (t .edge)) (last []),
+      )
 
 -- ---- the rows
 -- a value, what stands behind it, and the rest of the row

@@ -25,12 +25,12 @@ index-kept : (h : Head) (x : Index) → accepted (h .answer) ≡ false → x ≡
 unfolding indexBy
 index-kept h x e = simp e
 
-set-made : (h : Head) (text : List ℕ) (a : Lent) → accepted (h .answer) ≡ true
+pub set-made : (h : Head) (text : List ℕ) (a : Lent) → accepted (h .answer) ≡ true
     → dry (cellsOf (h .sides)) (invertFlags (h .sides) (countOf (h .site .edge)) (fromLine 6 text)) ≡ setBy h text a
 unfolding setBy
 set-made h text a e = simp e
 
-index-made : (h : Head) (x : Index) → accepted (h .answer) ≡ true → dryIndex (cellsOf (h .sides)) ≡ indexBy h x
+pub index-made : (h : Head) (x : Index) → accepted (h .answer) ≡ true → dryIndex (cellsOf (h .sides)) ≡ indexBy h x
 unfolding indexBy
 index-made h x e = simp e
 

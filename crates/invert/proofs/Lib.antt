@@ -5,3 +5,5 @@ pub mod Cleared
 pub mod Opened
 pub mod Tested
 pub mod Filled
+pub mod Loaded
+pub mod Unique

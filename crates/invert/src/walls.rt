@@ -1,11 +1,11 @@
 // The second pass: heights to walls. The lowest layer of the flags, wall in any case, first holds each column's number of walls.
+use grid::Sides;
 use heights::header::is_no_data;
 use heights::header::units;
 use heights::number::Number;
 use heights::number::number_of;
 use heights::text::next_line;
 use heights::text::next_word;
-use grid::Sides;
 ghost use mathlib.Core.Path.{_≡_};
 ghost use mathlib.Core.Bool.{true};
 ghost use Prim.Native.Nat.{_+_, _-_, _*_, _≤_};

@@ -89,10 +89,10 @@ pub fn put_metres(room: &mut [u8], at: usize, z: i64) -> usize
     ensures { λ r. ⌜ Put (now (room .entry)) at (metresOf z) (now (room .exit)) r ⌝ }
 {
     let m = magnitude(z);
-    let p = put_sign(room, at, z);
-    let q = put_number(room, p, m / 1000);
-    let t = put_byte(room, q, 46);
-    put_digits(room, t, 3, m % 1000)
+    let whole = put_sign(room, at, z);
+    let point = put_number(room, whole, m / 1000);
+    let decimals = put_byte(room, point, 46);
+    put_digits(room, decimals, 3, m % 1000)
 }
 
 fn sign_length(z: i64) -> usize

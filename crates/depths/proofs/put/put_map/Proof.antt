@@ -42,9 +42,10 @@ put-rows-requires c κs =
     let m = c .before in
     let h = m .before .before .before .before in
     let w = h .before .before .before .before .before in
-    let a = w .args in
-    (subst (λ (e : ℕ). Measured (a .s) e (now (a .flags)) (now (a .fills))) (sym (edge-is m)) (w .pre .0),
-    omega (arith, w .pre .1, map-long (a .s) (a .t) (now (a .flags)) (now (a .fills)), h .put-header .ensures .end, put-long (h .put-header .ensures), ap (λ (e : ℕ). length (rows w e)) (edge-is m)))
+    let a = w .args in (
+      subst (λ (e : ℕ). Measured (a .s) e (now (a .flags)) (now (a .fills))) (sym (edge-is m)) (w .pre .0),
+      omega (arith, w .pre .1, map-long (a .s) (a .t) (now (a .flags)) (now (a .fills)), h .put-header .ensures .end, put-long (h .put-header .ensures), ap (λ (e : ℕ). length (rows w e)) (edge-is m)),
+    )
 
 same-length : tie.Need-same-length
 same-length c = search needs

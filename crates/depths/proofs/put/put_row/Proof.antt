@@ -73,9 +73,10 @@ loop-again c =
     let d = v .before .before in
     let l = d .before .before in
     let w = l .before .before .before .before in
-    let n = w .args .s .nx - (l .loop .x + 1) in
-    (omega (arith, d .before .loop-test .taken),
-    under-more (l .loop .inv .1) (row-step (row w) (l .loop .x) (w .args .s .nx) (d .before .loop-test .taken)) (put-as (v .put-value .ensures) (ap (λ (z : ℤ). piece z n) (value-is d))))
+    let n = w .args .s .nx - (l .loop .x + 1) in (
+      omega (arith, d .before .loop-test .taken),
+      under-more (l .loop .inv .1) (row-step (row w) (l .loop .x) (w .args .s .nx) (d .before .loop-test .taken)) (put-as (v .put-value .ensures) (ap (λ (z : ℤ). piece z n) (value-is d))),
+    )
 
 same-length : tie.Need-same-length Inv-loop μ-loop
 same-length c = under-long (c .before .loop .inv .1)

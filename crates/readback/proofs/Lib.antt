@@ -1,0 +1,5 @@
+pub mod Spelled
+pub mod Words
+pub mod HeaderBack
+pub mod RowsBack
+pub mod Returned
