@@ -9,6 +9,7 @@ use lib.Dec.{leb}
 use lib.IntN.{ℤ, pos}
 use lib.ListN.{length, getD, take, replicate}
 use borrow.Author.Tests.{le-leb, lt-leb}
+use Rattle.whole.specs.Bools.{cond-no}
 use Rattle.lattice.specs.declared.Settings.{Settings}
 use Rattle.grid.specs.declared.Sides.{Sides}
 use Rattle.grid.specs.declared.Answer.{Answer}
@@ -65,9 +66,9 @@ module _ (s : Sides) (g : Settings) (a b : Held) (marks : List ℕ) (steps : ℕ
   not-admitted e = record {
     count-is = ap (λ (t : Answer). cond (accepted t) (ran s g marks steps (headOf (a .set)) .count) 0) e;
     answer-is = ap (λ (t : Answer). cond (accepted t) (ran s g marks steps (headOf (a .set)) .stop) t) e;
-    first-is = ap (λ (t : Answer). cond (accepted t) reached a) e;
-    second-is = ap (λ (t : Answer). cond (accepted t) reached b) e;
-    marks-are = ap (λ (t : Answer). cond (accepted t) (replicate (cellsOf s) 0) marks) e;
+    first-is = sym (cond-no _ _ (ap accepted (sym e)));
+    second-is = sym (cond-no _ _ (ap accepted (sym e)));
+    marks-are = sym (cond-no _ _ (ap accepted (sym e)));
   }
 
   pub admitted-went : (count : ℕ) (answer : Answer) (one two : Lent) (after : List ℕ) {carry carry2 : List ℤ} {x y : Index} → Done ≡ runEntry steps s g a b marks
