@@ -126,14 +126,14 @@ fn the_calls_over_lent_slices() {
     lent::scheme_part(SIDES, first.state().flags, &mut own).unwrap();
     assert_eq!((own[21], own[22], own[0]), (INTERFACE, 0, 0));
     assert_eq!(lent::scheme_part(SIDES, first.state().flags, &mut own[1..]), refused(2, 0));
-    assert_eq!(lent::scheme_part(SIDES, &vec![0; CELLS], &mut own), refused(4, 0));
+    assert_eq!(lent::scheme_part(SIDES, &[0; CELLS], &mut own), refused(4, 0));
     let mine = State { flags: &own, ..first.state() };
     let mut flags = vec![9; CELLS];
     lent::scheme_join(SIDES, scan.map(), mine, &mut flags).unwrap();
     assert_eq!(flags, first.state().flags);
     assert_eq!(lent::scheme_join(SIDES, scan.map(), mine, &mut flags[1..]), refused(2, 0));
     assert_eq!(lent::scheme_join(SIDES, &scan.map()[1..], mine, &mut flags), refused(2, 0));
-    assert_eq!(lent::scheme_join(SIDES, &vec![2; CELLS], mine, &mut flags), refused(4, 0));
+    assert_eq!(lent::scheme_join(SIDES, &[2; CELLS], mine, &mut flags), refused(4, 0));
 
     // Both flags with their walls are refused with 4, the asker's first; the other's lengths after all of the asker's.
     let mut map = scan.map().to_vec();
