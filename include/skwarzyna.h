@@ -13,7 +13,7 @@
  * The water of a set is the sum of its masses and its carry. No accepted step changes it by one unit; over steps, pours and takes in any
  * order the water, and what was taken, less what was poured, never changes.
  *
- * AN INDEX of its surface stands beside a set that is loaded, stepped, run or read, so that a host finds interface cells without
+ * AN INDEX of its surface stands beside a set that is loaded, stepped, run or read (of a record or a height grid), so that a host finds interface cells without
  * walking the grid:
  *
  *     words     W      SKW_WORDS(N) words of 64 bits: cell c is bit c % 64 of words[c / 64], set if the cell is interface; bits past N 0
@@ -107,6 +107,8 @@ enum { SKW_LINE_SOLID = 1, SKW_LINE_DRY = 2, SKW_LINE_DEEP = 3, SKW_LINE_OUTSIDE
     ((size_t)108 + (size_t)(cells) + (size_t)4 * (size_t)(interfaces) + (size_t)76 * (size_t)(liquids))
 /* Room in bytes that the record of any grid with so many cells fits into. */
 #define SKW_RECORD_BYTES_MOST(cells) SKW_RECORD_BYTES(cells, cells, cells)
+/* Room in bytes that the depth map of any grid fits into. */
+#define SKW_DEPTHS_BYTES_MOST 98406
 
 /*
  * Refusals: document 01's numbers, in the words of its table, and the place beside each. Where not said otherwise the tests come in
@@ -136,7 +138,7 @@ enum {
     SKW_BAD_END = 10,
     /* a section's count is wrong; place: the section, 1 to 7 */
     SKW_BAD_COUNT = 11,
-    /* room for the record is too small (tested last); place: the bytes needed */
+    /* room for the record or the depth map is too small (tested last); place: the bytes needed */
     SKW_BAD_ROOM = 12,
     /* column, cell or point outside the grid, or a start above N; place 0 */
     SKW_OUTSIDE = 13,
@@ -150,6 +152,10 @@ enum {
     SKW_BAD_CHANGE = 17,
     /* a wall change with water in the way, the asker's or the other's (tested after 17); place: the cell */
     SKW_IN_THE_WAY = 18,
+    /* a header line of a height grid is unreadable (tested first); place: its line, 1 to 6 */
+    SKW_BAD_HEADER = 19,
+    /* a row of a height grid is unreadable, or something follows the rows (tested after 3); place: its line */
+    SKW_BAD_ROW = 20,
     /* the list has room for fewer pools than there are; place: their number */
     SKW_BAD_POOLS = 21,
     /* a profile's list has not 1 to 2,000 points; place 0 */
@@ -334,6 +340,61 @@ uint8_t skw_write(size_t nx, size_t ny, size_t nz,
                   const int64_t *carry, size_t carry_len,
                   uint8_t *room, size_t room_len,
                   size_t *bytes, size_t *place);
+
+/*
+ * DEPTHS WRITE: the depth map of a set as an ASCII height grid, from the front of the room; *bytes is its length, for no grid more
+ * than SKW_DEPTHS_BYTES_MOST. Six header lines: ncols, nrows, xllcorner, yllcorner, cellsize, NODATA_value -9999; the corner (ox, oy)
+ * and the edge in metres with three decimals. Then ny rows of nx values, from the north (y = ny - 1) to the south. A value is the
+ * column's depth in whole mm, floor(sum of its fills * edge/65,536), or -9999 if every cell of it is wall; dry and less than a
+ * millimetre are both 0. LF behind every line, one space between values. Room past the text stays as it was; beside a refusal all of
+ * it does, and *bytes is 0. Tests 1 to 6 (3: edge, ox and oy), then 12, whose place is the bytes needed.
+ */
+uint8_t skw_depths_write(size_t nx, size_t ny, size_t nz,
+                         int64_t edge, int64_t ox, int64_t oy,
+                         const uint8_t *flags, size_t flags_len,
+                         const int32_t *parts, size_t parts_len,
+                         const int32_t *masses, size_t masses_len,
+                         const uint32_t *fills, size_t fills_len,
+                         const int64_t *carry, size_t carry_len,
+                         uint8_t *room, size_t room_len,
+                         size_t *bytes, size_t *place);
+
+/*
+ * INVERT READ: a height grid (.asc), text_len bytes of it, into a set and its index: walls below the heights, and no water. The text has
+ * six header lines of two words each, keywords in either case, then nrows lines of ncols whole numbers:
+ *
+ *     ncols         whole number     nx
+ *     nrows         whole number     ny
+ *     xllcorner     metres           ox, the corner's easting; at most three decimals other than 0
+ *     yllcorner     metres           oy, its northing, likewise
+ *     cellsize      metres           edge, likewise
+ *     NODATA_value  -9999            no other
+ *
+ * Line 7 is the northmost row, y = nrows - 1; its words are x from 0. A value is a height in whole mm above oz; -9999 means wall all the
+ * way up. Cell (x, y, z) becomes SKW_WALL if it is outer, if the value is -9999, or if its centre lies below the height:
+ * (2*z + 1)*edge < 2*value; else SKW_EMPTY. Border values are read and have no effect. Parts, masses, fills, the three totals and the index become 0,
+ * so that skw_load accepts set and index. A number is a minus or none, 1 to 12 digits, and a point with digits or none, those after the
+ * third all 0; it has no plus and no exponent. Blanks, tabs and CR part words; blank lines behind the rows do no harm.
+ *
+ * The host gives nz, oz and the settings; *nx, *ny, *edge, *ox, *oy are what the header says. How much to lend: the sides stand in lines 1
+ * and 2.
+ *
+ * Tests 19; then 1 for (ncols, nrows, nz), a negative one being out of range; 2; 3 for the settings, edge and origin; then 20. Beside a
+ * refusal the slices are as they were, and the numbers 0.
+ */
+uint8_t skw_invert_read(const uint8_t *text, size_t text_len,
+                        size_t nz, int64_t oz,
+                        int64_t p, int64_t gx, int64_t gy, int64_t gz,
+                        uint8_t *flags, size_t flags_len,
+                        int32_t *parts, size_t parts_len,
+                        int32_t *masses, size_t masses_len,
+                        uint32_t *fills, size_t fills_len,
+                        int64_t *carry, size_t carry_len,
+                        uint64_t *words, size_t words_len,
+                        uint64_t *count, size_t count_len,
+                        size_t *nx, size_t *ny,
+                        int64_t *edge, int64_t *ox, int64_t *oy,
+                        size_t *place);
 
 /*
  * PLACE: the number of the cell that holds survey point (x, y, z), in mm: per axis floor((point - origin)/edge).

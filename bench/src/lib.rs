@@ -4,6 +4,7 @@ pub mod engine;
 pub mod float;
 pub mod flume;
 pub mod growth;
+pub mod heights;
 pub mod identical;
 pub mod lattice;
 pub mod measure;

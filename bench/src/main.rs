@@ -7,6 +7,7 @@ use oracle::Store;
 use bench::engine::{Engine, ACCEPTED};
 use bench::float::{self, FloatStore};
 use bench::growth;
+use bench::heights;
 use bench::identical::{hunt, same_run, same_step, Case, Inputs, ORACLE};
 use bench::measure::{measure, Effort, WARM_UP};
 use bench::native;
@@ -16,9 +17,10 @@ use bench::report::{self, Totals};
 use bench::scenes::{self, Scene};
 use bench::sweep;
 
-const USAGE: &str = "bench [--quick] [--pools] [--sides A,B,..]
+const USAGE: &str = "bench [--quick] [--pools] [--heights] [--sides A,B,..]
   --quick   little of everything, to see that it works: its times say nothing
   --pools   the pools alone, at the largest side
+  --heights the height grids alone
   --sides   of the cubes, 8 to 64; 32,48,64 if not said";
 
 struct Wish {
@@ -32,6 +34,7 @@ struct Wish {
     /// Sides at which the surface is swept.
     sweep_sides: Vec<usize>,
     pools_alone: bool,
+    heights_alone: bool,
 }
 
 fn wish(mut words: impl Iterator<Item = String>) -> Result<Wish, String> {
@@ -43,6 +46,7 @@ fn wish(mut words: impl Iterator<Item = String>) -> Result<Wish, String> {
         growth_sides: vec![24, 32, 40, 48, 56, 64],
         sweep_sides: vec![32, 64],
         pools_alone: false,
+        heights_alone: false,
     };
     while let Some(word) = words.next() {
         match word.as_str() {
@@ -53,6 +57,7 @@ fn wish(mut words: impl Iterator<Item = String>) -> Result<Wish, String> {
                 wish.sweep_sides = vec![32];
             }
             "--pools" => wish.pools_alone = true,
+            "--heights" => wish.heights_alone = true,
             "--sides" => {
                 let given = words.next().unwrap_or_default();
                 let side = |text: &str| text.parse().ok().filter(|side| (8..=64).contains(side));
@@ -132,11 +137,23 @@ fn measure_pools(wish: &Wish) {
     }
 }
 
+/// The height grids, where the library is linked.
+fn measure_heights(wish: &Wish) {
+    if let Some(calls) = native::heights() {
+        report::heights(&heights::measure(calls, wish.effort));
+    }
+}
+
 fn bench(wish: &Wish) -> Result<(), String> {
     let proved = native::proved();
     report::machine(proved);
-    if wish.pools_alone {
-        measure_pools(wish);
+    if wish.pools_alone || wish.heights_alone {
+        if wish.pools_alone {
+            measure_pools(wish);
+        }
+        if wish.heights_alone {
+            measure_heights(wish);
+        }
         return Ok(());
     }
     let engines: Vec<Engine> = proved.into_iter().chain([PLAIN]).collect();
@@ -168,6 +185,7 @@ fn bench(wish: &Wish) -> Result<(), String> {
     let over_share = growth::over_share(&engines, largest, wish.effort);
     report::growth(&engines, &over_cells, &over_share);
     measure_pools(wish);
+    measure_heights(wish);
 
     match totals.iter().find(|row| row.lost != 0) {
         Some(row) => Err(format!("{}, side {}: {} units lost", row.scene, row.side, row.lost)),

@@ -1,6 +1,6 @@
 // The proved library's step and run, called as a host calls them: through the Rust wrapper of bindings/rust, over lent slices.
 
-use oracle::Set;
+use oracle::{HeldMut, Set};
 
 use crate::engine::Engine;
 
@@ -15,6 +15,24 @@ pub fn pools() -> Option<Pools> {
 
 #[cfg(not(feature = "library"))]
 pub fn pools() -> Option<Pools> {
+    None
+}
+
+/// Height grids: an invert read into a set, with so many cells in height; a depth map written; and the check alone.
+#[derive(Clone, Copy)]
+pub struct Heights {
+    pub read: fn(&[u8], usize, HeldMut) -> Option<()>,
+    pub write: fn([usize; 3], i64, [i64; 2], Set, &mut [u8]) -> Option<usize>,
+    pub check: fn([usize; 3], Set) -> Option<()>,
+}
+
+#[cfg(feature = "library")]
+pub fn heights() -> Option<Heights> {
+    Some(Heights { read: linked::invert_read, write: linked::depths_write, check: linked::check })
+}
+
+#[cfg(not(feature = "library"))]
+pub fn heights() -> Option<Heights> {
     None
 }
 
@@ -45,7 +63,7 @@ pub fn sweep() -> Option<Sweep> {
 #[cfg(feature = "library")]
 mod linked {
     use oracle::{Held, HeldMut, Set};
-    use skwarzyna::{lent, Index, IndexMut, Refusal, State, StateMut};
+    use skwarzyna::{lent, Index, IndexMut, Point, Refusal, Site, State, StateMut};
 
     use crate::engine::{Answer, Ran, Settings, ACCEPTED};
 
@@ -114,6 +132,26 @@ mod linked {
                 None => return read,
             }
         }
+    }
+
+    pub fn invert_read(text: &[u8], nz: usize, into: HeldMut) -> Option<()> {
+        let falling = skwarzyna::Settings { p: 1600, gx: 0, gy: 0, gz: -105 };
+        lent::invert_read(text, nz, 118_000, falling, held_mut(into)).ok().map(|_| ())
+    }
+
+    pub fn depths_write(
+        size: [usize; 3],
+        edge: i64,
+        [x, y]: [i64; 2],
+        set: Set,
+        room: &mut [u8],
+    ) -> Option<usize> {
+        let site = Site { edge, origin: Point::new(x, y, 0) };
+        lent::depths_write(sides(size), site, state(set), room).ok()
+    }
+
+    pub fn check(size: [usize; 3], set: Set) -> Option<()> {
+        lent::check(sides(size), state(set)).ok()
     }
 
     pub fn pools(

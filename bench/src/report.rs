@@ -5,6 +5,7 @@ use std::process::Command;
 
 use crate::engine::Engine;
 use crate::growth::{line, linear, power, Point};
+use crate::heights::Timed;
 use crate::measure::{Measured, Time};
 use crate::plain::PLAIN;
 use crate::pools::Asked;
@@ -284,4 +285,21 @@ pub fn pools(tanks: &[Asked], shapes: &[Asked]) {
         points.iter().map(apart).fold(0.0, f64::max) * 100.0
     );
     println!();
+}
+
+/// Height grids: each call, and what a byte of its text costs.
+pub fn heights(rows: &[Timed]) {
+    println!("height grids: 128 x 128 columns, 16 cells high; load {}", load());
+    let row = |timed: &Timed| {
+        let a_byte = timed.bytes.map(|bytes| timed.call.best * 1e9 / bytes as f64);
+        vec![
+            timed.name.to_string(),
+            timed.bytes.map_or("".into(), |bytes| bytes.to_string()),
+            format!("{:.2}", timed.call.best * 1e3),
+            format!("{:.2}", timed.call.median * 1e3),
+            a_byte.map_or("".into(), |cost| format!("{cost:.1}")),
+        ]
+    };
+    let rows: Vec<_> = rows.iter().map(row).collect();
+    table(&["call", "bytes", "ms", "median", "ns a byte"], &rows);
 }

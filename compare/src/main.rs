@@ -1,5 +1,6 @@
 // The comparison: the proved programs and the proved library beside the independent program, by seed. Status 1 if anything differs.
 
+mod heights;
 mod lengths;
 mod library;
 mod pools;
@@ -19,7 +20,7 @@ use programs::{gridread, gridrun, gridstep, Starter};
 use report::{Total, Wish};
 
 const USAGE: &str = "compare [--from SEED] [--first] [PART...], from the top of the repository
-  PART      gridstep, gridrun, gridread, library, profile, pools or schemes; all if not said
+  PART      gridstep, gridrun, gridread, library, profile, pools, schemes or heights; all if not said
   --from    the first seed, 0 if not said
   --first   stop at the first difference";
 
@@ -38,6 +39,7 @@ const PARTS: [Part; 7] = [
     Part::Library("profile", profile::compare),
     Part::Library("pools", pools::compare),
     Part::Library("schemes", schemes::compare),
+    Part::Library("heights", heights::compare),
 ];
 
 impl Part {

@@ -1,7 +1,7 @@
 // The pools on sets by seed: good and damaged, pools, films, drops, lone cells and cells strewn, with room that is enough, too small or unequal. After
 // each call the answer and the four lent slices, refused or not, are compared with the independent program's.
 
-mod lakes;
+pub mod lakes;
 
 use oracle::pools::{pools, Room};
 

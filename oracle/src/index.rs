@@ -108,7 +108,8 @@ impl IndexStore {
 }
 
 impl Held<'_> {
-    fn fits(&self, n: usize) -> bool {
+    /// Test 2 for a grid of n cells.
+    pub fn fits(&self, n: usize) -> bool {
         self.set.fits(n) && self.index.fits(n)
     }
 }

@@ -2,12 +2,14 @@
 
 pub mod acts;
 pub mod damage;
+pub mod depths;
 pub mod designers;
 pub mod drawing;
 pub mod flume;
 pub mod grid;
 pub mod hunt;
 pub mod index;
+pub mod invert;
 pub mod isolation;
 pub mod lattice;
 pub mod ponds;

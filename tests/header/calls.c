@@ -1262,6 +1262,234 @@ static void test_schemes(void)
     }
 }
 
+/* The figures of the height grids: a box of 5 by 4 by 4 cells of 50 mm, its invert, and its depth map with water in four columns. */
+#define TRENCH 80
+#define HEADER_LINES "ncols 5\nnrows 4\nxllcorner -0.050\nyllcorner 5200000.000\ncellsize 0.050\nNODATA_value -9999\n"
+static const char INVERT[] = HEADER_LINES "0 0 0 0 0\n0 75 76 125 0\n0 126 -9999 -40 0\n0 0 0 0 0\n";
+/* The same box with one column that is all wall. */
+static const char PILLAR[] = HEADER_LINES "0 0 0 0 0\n0 -9999 0 0 0\n0 0 0 0 0\n0 0 0 0 0";
+static const char DEPTHS[] = HEADER_LINES
+    "-9999 -9999 -9999 -9999 -9999\n-9999 -9999 37 0 -9999\n-9999 25 50 0 -9999\n-9999 -9999 -9999 -9999 -9999\n";
+#define DEPTHS_BYTES (sizeof DEPTHS - 1)
+#define NORTHING ((int64_t)5200000 * 1000)
+
+struct trench {
+    uint8_t flags[TRENCH + 1];
+    int32_t parts[SKW_PARTS * TRENCH + 1];
+    int32_t masses[TRENCH + 1];
+    uint32_t fills[TRENCH + 1];
+    int64_t carry[4];
+    uint64_t words[3];
+    uint64_t count[2];
+    uint8_t room[DEPTHS_BYTES + 8];
+    size_t nx, nz;
+    int64_t edge, ox, oy, oz;
+    struct settings g;
+    /* Under which lengths these are lent. */
+    size_t flags_len, parts_len, masses_len, fills_len, carry_len, words_len, count_len, room_len;
+};
+
+/* All that is to be written holds something else before. */
+static void trench(struct trench *t)
+{
+    memset(t, 7, sizeof *t);
+    t->nx = 5, t->nz = 4, t->edge = 50, t->ox = -50, t->oy = NORTHING, t->oz = 118000, t->g = FALLING;
+    t->flags_len = t->masses_len = t->fills_len = TRENCH, t->parts_len = SKW_PARTS * TRENCH;
+    t->carry_len = 3, t->words_len = SKW_WORDS(TRENCH), t->count_len = 1, t->room_len = sizeof t->room;
+}
+
+/* What skw_invert_read answers beside number and place. */
+struct header {
+    size_t nx, ny;
+    int64_t edge, ox, oy;
+};
+
+static long invert(struct trench *t, const char *text, size_t length, struct header *h)
+{
+    size_t place = unset();
+    uint8_t number;
+    memset(h, 7, sizeof *h);
+    number = skw_invert_read((const uint8_t *)text, length, t->nz, t->oz, t->g.p, t->g.gx, t->g.gy, t->g.gz, t->flags, t->flags_len, t->parts,
+                             t->parts_len, t->masses, t->masses_len, t->fills, t->fills_len, t->carry, t->carry_len, t->words, t->words_len,
+                             t->count, t->count_len, &h->nx, &h->ny, &h->edge, &h->ox, &h->oy, &place);
+    return REFUSED(number, place);
+}
+
+/* That a text is refused so, has answered 0 else, and written nothing. */
+static int refused_text(struct trench *t, const char *text, size_t length, long answer)
+{
+    static struct trench before;
+    struct header h;
+    before = *t;
+    return invert(t, text, length, &h) == answer && h.nx == 0 && h.ny == 0 && h.edge == 0 && h.ox == 0 && h.oy == 0 &&
+           memcmp(t, &before, sizeof before) == 0;
+}
+
+static int refused_invert(struct trench *t, long answer)
+{
+    return refused_text(t, INVERT, sizeof INVERT - 1, answer);
+}
+
+/* That the figure's invert with one text made another is refused so. */
+static int refused_with(const char *old, const char *other, long answer)
+{
+    static struct trench t;
+    char text[sizeof INVERT + 40];
+    const char *const at = strstr(INVERT, old);
+    const size_t before = (size_t)(at - INVERT);
+    strcpy(text, INVERT);
+    strcpy(text + before, other);
+    strcat(text, at + strlen(old));
+    trench(&t);
+    return refused_text(&t, text, strlen(text), answer);
+}
+
+static void test_invert(void)
+{
+    static struct trench t;
+    struct header h;
+    size_t c, open = 0;
+    int way, zeros = 1;
+
+    trench(&t);
+    EXPECT(invert(&t, INVERT, sizeof INVERT - 1, &h) == ACCEPTED);
+    EXPECT(h.nx == 5 && h.ny == 4 && h.edge == 50 && h.ox == -50 && h.oy == NORTHING);
+    for (c = 0; c < TRENCH; c += 1) {
+        const int empty = c == 28 || c == 31 || c == 48 || c == 51 || c == 52 || c == 53;
+        open += t.flags[c] == (empty ? SKW_EMPTY : SKW_WALL);
+        zeros = zeros && t.masses[c] == 0 && t.fills[c] == 0;
+    }
+    for (c = 0; c < SKW_PARTS * TRENCH; c += 1) {
+        zeros = zeros && t.parts[c] == 0;
+    }
+    EXPECT(open == TRENCH && zeros && t.carry[0] == 0 && t.carry[1] == 0 && t.carry[2] == 0);
+    EXPECT(t.words[0] == 0 && t.words[1] == 0 && t.count[0] == 0);
+    /* nothing behind the slices is written */
+    EXPECT(t.flags[TRENCH] == 7 && t.fills[TRENCH] == 0x07070707 && t.carry[3] != 0 && t.words[2] != 0 && t.count[1] != 0);
+    c = unset();
+    EXPECT(skw_check(t.flags, TRENCH, t.parts, SKW_PARTS * TRENCH, t.masses, TRENCH, t.fills, TRENCH, t.carry, 3, 5, 4, 4, &c) == SKW_ACCEPTED &&
+           c == 0);
+
+    EXPECT(refused_with("ncols 5", "ncols five", REFUSED(SKW_BAD_HEADER, 1)));
+    EXPECT(refused_with("ncols 5", "ncols 5 5", REFUSED(SKW_BAD_HEADER, 1)));
+    EXPECT(refused_with("ncols 5", "ncols 2", REFUSED(SKW_BAD_SIDES, 0)));
+    EXPECT(refused_with("ncols 5", "ncols -5", REFUSED(SKW_BAD_SIDES, 0)));
+    EXPECT(refused_with("xllcorner", "xllcenter", REFUSED(SKW_BAD_HEADER, 3)));
+    EXPECT(refused_with("-0.050", "-0.0505", REFUSED(SKW_BAD_HEADER, 3)));
+    EXPECT(refused_with("cellsize 0.050", "cellsize 1.001", REFUSED(SKW_BAD_SETTING, 0)));
+    EXPECT(refused_with("cellsize 0.050\n", "", REFUSED(SKW_BAD_HEADER, 5)));
+    EXPECT(refused_with("value -9999", "value -1", REFUSED(SKW_BAD_HEADER, 6)));
+    EXPECT(refused_with("0 75 76 125 0", "75 76 125 0", REFUSED(SKW_BAD_ROW, 8)));
+    EXPECT(refused_with("76", "76.5", REFUSED(SKW_BAD_ROW, 8)));
+    EXPECT(refused_with("0 75 76 125 0", "", REFUSED(SKW_BAD_ROW, 8)));
+    EXPECT(refused_with("0 75 76 125 0\n", "", REFUSED(SKW_BAD_ROW, 10)));
+    EXPECT(refused_with("-40 0\n0 0 0 0 0\n", "-40 0\n0 0 0 0 0\nx\n", REFUSED(SKW_BAD_ROW, 11)));
+
+    /* each fault is added to those before it, and is found before them */
+    trench(&t);
+    EXPECT(refused_text(&t, INVERT, sizeof INVERT - 3, REFUSED(SKW_BAD_ROW, 10)));
+    t.oz = SKW_COORDINATE_MOST + 1;
+    EXPECT(refused_text(&t, INVERT, sizeof INVERT - 3, REFUSED(SKW_BAD_SETTING, 0)));
+    t.count_len = 2;
+    EXPECT(refused_text(&t, INVERT, sizeof INVERT - 3, REFUSED(SKW_BAD_LENGTH, 0)));
+    t.nz = 2;
+    EXPECT(refused_text(&t, INVERT, sizeof INVERT - 3, REFUSED(SKW_BAD_SIDES, 0)));
+    EXPECT(refused_text(&t, INVERT, 0, REFUSED(SKW_BAD_HEADER, 1)));
+    EXPECT(refused_text(&t, INVERT, 9, REFUSED(SKW_BAD_HEADER, 2)));
+
+    trench(&t), t.g.p = SKW_P_MOST + 1;
+    EXPECT(refused_invert(&t, REFUSED(SKW_BAD_SETTING, 0)));
+    trench(&t), t.g.gz = INT64_MIN;
+    EXPECT(refused_invert(&t, REFUSED(SKW_BAD_SETTING, 0)));
+    for (way = 0; way < 14; way += 1) {
+        size_t *const each[7] = {&t.flags_len, &t.parts_len, &t.masses_len, &t.fills_len, &t.carry_len, &t.words_len, &t.count_len};
+        trench(&t);
+        *each[way / 2] = way % 2 ? *each[way / 2] + 1 : *each[way / 2] - 1;
+        EXPECT(refused_invert(&t, REFUSED(SKW_BAD_LENGTH, 0)));
+    }
+}
+
+/* Water at rest. */
+static void pooled(struct trench *t, size_t cell, int32_t mass, uint32_t fill)
+{
+    int k;
+    t->flags[cell] = SKW_INTERFACE, t->masses[cell] = mass, t->fills[cell] = fill;
+    for (k = 0; k < SKW_PARTS; k += 1) {
+        t->parts[SKW_PARTS * cell + (size_t)k] = SKW_ONE / 36 * (k == 0 ? 12 : k <= 6 ? 2 : 1);
+    }
+}
+
+/* The grid of the figure's depth map. */
+static void filled_trench(struct trench *t)
+{
+    struct header h;
+    trench(t);
+    EXPECT(invert(t, PILLAR, sizeof PILLAR - 1, &h) == ACCEPTED);
+    pooled(t, 26, SKW_ONE / 2, SKW_FULL / 2), pooled(t, 27, SKW_ONE, SKW_FULL), pooled(t, 28, 1, 0), pooled(t, 32, 442368, 49152);
+}
+
+static long depths(struct trench *t, size_t *bytes)
+{
+    size_t place = unset();
+    uint8_t number;
+    *bytes = unset();
+    number = skw_depths_write(t->nx, 4, t->nz, t->edge, t->ox, t->oy, t->flags, t->flags_len, t->parts, t->parts_len, t->masses, t->masses_len,
+                              t->fills, t->fills_len, t->carry, t->carry_len, t->room, t->room_len, bytes, &place);
+    return REFUSED(number, place);
+}
+
+static int refused_depths(struct trench *t, long answer)
+{
+    static struct trench before;
+    size_t bytes;
+    before = *t;
+    return depths(t, &bytes) == answer && bytes == 0 && memcmp(t, &before, sizeof before) == 0;
+}
+
+static void test_depths(void)
+{
+    static struct trench t;
+    size_t bytes;
+    int way;
+
+    filled_trench(&t);
+    EXPECT(DEPTHS_BYTES == 192 && SKW_DEPTHS_BYTES_MOST == 98406);
+    EXPECT(depths(&t, &bytes) == ACCEPTED && bytes == DEPTHS_BYTES && memcmp(t.room, DEPTHS, DEPTHS_BYTES) == 0 && t.room[DEPTHS_BYTES] == 7);
+    filled_trench(&t), t.room_len = DEPTHS_BYTES;
+    EXPECT(depths(&t, &bytes) == ACCEPTED && memcmp(t.room, DEPTHS, DEPTHS_BYTES) == 0);
+
+    /* each fault is added to those before it, and is found before them */
+    filled_trench(&t), t.room_len = DEPTHS_BYTES - 1;
+    EXPECT(refused_depths(&t, REFUSED(SKW_BAD_ROOM, DEPTHS_BYTES)));
+    t.room_len = 0;
+    EXPECT(refused_depths(&t, REFUSED(SKW_BAD_ROOM, DEPTHS_BYTES)));
+    t.carry[2] = -1;
+    EXPECT(refused_depths(&t, REFUSED(SKW_BAD_STATE, TRENCH)));
+    t.fills[32] += 1;
+    EXPECT(refused_depths(&t, REFUSED(SKW_BAD_STATE, 32)));
+    t.flags[28] = SKW_FLUID;
+    EXPECT(refused_depths(&t, REFUSED(SKW_BAD_LAYER, 28)));
+    t.flags[79] = SKW_EMPTY;
+    EXPECT(refused_depths(&t, REFUSED(SKW_BAD_FLAG, 79)));
+    t.oy = -SKW_COORDINATE_MOST - 1;
+    EXPECT(refused_depths(&t, REFUSED(SKW_BAD_SETTING, 0)));
+    t.masses_len = TRENCH - 1;
+    EXPECT(refused_depths(&t, REFUSED(SKW_BAD_LENGTH, 0)));
+    t.nx = SKW_SIDE_MOST + 1;
+    EXPECT(refused_depths(&t, REFUSED(SKW_BAD_SIDES, 0)));
+
+    filled_trench(&t), t.edge = SKW_EDGE_MOST + 1;
+    EXPECT(refused_depths(&t, REFUSED(SKW_BAD_SETTING, 0)));
+    filled_trench(&t), t.ox = INT64_MAX;
+    EXPECT(refused_depths(&t, REFUSED(SKW_BAD_SETTING, 0)));
+    for (way = 0; way < 10; way += 1) {
+        size_t *const each[5] = {&t.flags_len, &t.parts_len, &t.masses_len, &t.fills_len, &t.carry_len};
+        filled_trench(&t);
+        *each[way / 2] = way % 2 ? *each[way / 2] + 1 : *each[way / 2] - 1;
+        EXPECT(refused_depths(&t, REFUSED(SKW_BAD_LENGTH, 0)));
+    }
+}
+
 /* A file of at most so many bytes; its length, or one more than fits. */
 static size_t contents(const char *name, void *bytes, size_t room)
 {
@@ -1307,6 +1535,8 @@ int main(int count, char **words)
     test_profile();
     test_pools();
     test_schemes();
+    test_invert();
+    test_depths();
     printf("header (%s): %d expectations, %d failed\n", LANGUAGE, tried, failed);
     return failed != 0;
 }

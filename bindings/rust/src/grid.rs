@@ -72,7 +72,7 @@ impl Grid {
         Ok(Record { grid, settings: head.settings, site: head.site })
     }
 
-    fn holding(sides: Sides, first: Buffers) -> Grid {
+    pub(crate) fn holding(sides: Sides, first: Buffers) -> Grid {
         let cells = first.flags.len();
         Grid { sides, first, second: Buffers::new(cells), marks: vec![0; cells], touched: false }
     }

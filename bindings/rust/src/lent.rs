@@ -695,3 +695,90 @@ pub fn wall_remove(
     };
     answered(number, place)
 }
+
+/// Writes the depth map of a state from the front of the room, and answers its length; room past it stays as it was.
+///
+/// A text as surveyors hand each other: six header lines, then a row a line from north to south, in whole millimetres, -9999 for a
+/// column that is all wall. Of the site, the origin's height is not looked at. Refusals 1 to 6 and 12, whose place is the bytes
+/// needed, write nothing.
+pub fn depths_write(sides: Sides, site: Site, state: State, room: &mut [u8]) -> Result<usize, Refusal> {
+    let (mut bytes, mut place) = (0, 0);
+    let number = unsafe {
+        raw::skw_depths_write(
+            sides.nx,
+            sides.ny,
+            sides.nz,
+            site.edge,
+            site.origin.x,
+            site.origin.y,
+            state.flags.as_ptr(),
+            state.flags.len(),
+            state.parts.as_ptr(),
+            state.parts.len(),
+            state.masses.as_ptr(),
+            state.masses.len(),
+            state.fills.as_ptr(),
+            state.fills.len(),
+            state.carry.as_ptr(),
+            state.carry.len(),
+            room.as_mut_ptr(),
+            room.len(),
+            &mut bytes,
+            &mut place,
+        )
+    };
+    answered(number, place)?;
+    Ok(bytes)
+}
+
+/// Reads an invert, a height grid's text, into a set and its index, and answers the sides and the site; the number of cells in height,
+/// the origin's height and the settings are the host's to give.
+///
+/// A cell is wall if it is outer, if its column's height is -9999, or if its centre lies below that height; else it is empty.
+/// Refusals 19 of a header line, 1, 2, 3, then 20 of a row write nothing; the place of 19 and 20 is the line, from 1.
+pub fn invert_read(
+    text: &[u8],
+    nz: usize,
+    height: i64,
+    settings: Settings,
+    into: HeldMut,
+) -> Result<(Sides, Site), Refusal> {
+    let HeldMut { state, index } = into;
+    let mut sides = Sides::new(0, 0, nz);
+    let mut site = Site { edge: 0, origin: Point::new(0, 0, height) };
+    let mut place = 0;
+    let number = unsafe {
+        raw::skw_invert_read(
+            text.as_ptr(),
+            text.len(),
+            nz,
+            height,
+            settings.p,
+            settings.gx,
+            settings.gy,
+            settings.gz,
+            state.flags.as_mut_ptr(),
+            state.flags.len(),
+            state.parts.as_mut_ptr(),
+            state.parts.len(),
+            state.masses.as_mut_ptr(),
+            state.masses.len(),
+            state.fills.as_mut_ptr(),
+            state.fills.len(),
+            state.carry.as_mut_ptr(),
+            state.carry.len(),
+            index.words.as_mut_ptr(),
+            index.words.len(),
+            index.count.as_mut_ptr(),
+            index.count.len(),
+            &mut sides.nx,
+            &mut sides.ny,
+            &mut site.edge,
+            &mut site.origin.x,
+            &mut site.origin.y,
+            &mut place,
+        )
+    };
+    answered(number, place)?;
+    Ok((sides, site))
+}

@@ -30,6 +30,7 @@
 
 pub mod drawing;
 mod grid;
+mod heights;
 mod index;
 mod laying;
 pub mod lent;

@@ -6,9 +6,9 @@ use std::fmt::{Display, Formatter, Result as Written};
 /// Why a call was refused. Nothing is written then, but as each call says for 7, 8 and 21.
 #[derive(Clone, Copy, Debug, PartialEq, Eq, Hash)]
 pub struct Refusal {
-    /// 1 to 18 or 21 to 23; [`SIDES`](Refusal::SIDES) and so on.
+    /// 1 to 23; [`SIDES`](Refusal::SIDES) and so on.
     pub number: u8,
-    /// A cell, a byte, a section, a number of bytes, a point of a list, a number of pools, or 0, by the number.
+    /// A cell, a byte, a section, a number of bytes, a line, a point of a list, a number of pools, or 0, by the number.
     pub place: usize,
 }
 
@@ -24,8 +24,10 @@ pub enum Place {
     Byte(usize),
     /// A section of the record, 1 to 7.
     Section(usize),
-    /// The bytes that the record needs.
+    /// The bytes that the record or the depth map needs.
     Room(usize),
+    /// A line of a height grid's text, from 1.
+    Line(usize),
     /// A point of a profile's list, from 0.
     Point(usize),
     /// The pools that there are.
@@ -55,7 +57,7 @@ impl Refusal {
     pub const END: u8 = 10;
     /// A section's count is wrong. Place: the section, 1 to 7.
     pub const COUNT: u8 = 11;
-    /// Room for the record is too small. Place: the bytes needed.
+    /// Room for the record or the depth map is too small. Place: the bytes needed.
     pub const ROOM: u8 = 12;
     /// Column, cell or point outside, or a start above the number of cells.
     pub const OUTSIDE: u8 = 13;
@@ -69,6 +71,10 @@ impl Refusal {
     pub const CHANGE: u8 = 17;
     /// A wall change with water in the way, the asker's or the other's. Place: the cell.
     pub const IN_THE_WAY: u8 = 18;
+    /// A header line of a height grid is unreadable. Place: its line, 1 to 6.
+    pub const HEADER: u8 = 19;
+    /// A row of a height grid is unreadable, or something follows the rows. Place: its line.
+    pub const ROW: u8 = 20;
     /// The list has room for fewer pools than there are. Place: their number.
     pub const POOLS: u8 = 21;
     /// A profile's list has not 1 to 2,000 points.
@@ -94,13 +100,15 @@ impl Refusal {
             Refusal::STEPS => "steps above 1,000",
             Refusal::END => "record ends early or has bytes left over",
             Refusal::COUNT => "a section's count is wrong",
-            Refusal::ROOM => "room for the record too small",
+            Refusal::ROOM => "room for the record or the depth map too small",
             Refusal::OUTSIDE => "column, cell or point outside",
             Refusal::INDEX => "a word is not the one that the flags make, or the stored count is wrong",
             Refusal::NOT_INTERFACE => "the cell is not interface",
             Refusal::AMOUNT => "amount outside 1..589,824, or a mass or total would pass its limit",
             Refusal::CHANGE => "outer cell, or the cell is already as asked",
             Refusal::IN_THE_WAY => "water is in the way",
+            Refusal::HEADER => "a header line of a height grid is unreadable",
+            Refusal::ROW => "a row is unreadable, or something follows the rows",
             Refusal::POOLS => "the list has room for fewer pools than there are",
             Refusal::LIST => "the list has not 1 to 2,000 points",
             Refusal::CHAINAGE => "a chainage is not above the one before",
@@ -121,6 +129,7 @@ impl Refusal {
             Refusal::END => Place::Byte(self.place),
             Refusal::COUNT => Place::Section(self.place),
             Refusal::ROOM => Place::Room(self.place),
+            Refusal::HEADER | Refusal::ROW => Place::Line(self.place),
             Refusal::CHAINAGE => Place::Point(self.place),
             Refusal::POOLS => Place::Pools(self.place),
             // 0 may be the edge or the origin as well.
@@ -145,6 +154,7 @@ impl Display for Refusal {
             Place::Byte(byte) => write!(text, ", at byte {byte}"),
             Place::Section(section) => write!(text, ", in section {section}"),
             Place::Room(bytes) => write!(text, ", {bytes} bytes needed"),
+            Place::Line(line) => write!(text, ", at line {line}"),
             Place::Point(point) => write!(text, ", at point {point}"),
             Place::Pools(pools) => write!(text, ", which are {pools}"),
         }

@@ -1,5 +1,6 @@
 // A grid of one's own: every call on good and on bad input, held to document 01's figures.
 
+use oracle::record::written_back;
 use skwarzyna::{
     words_of, CellPoint, Counts, Depth, Grid, Point, Refusal, Settings, Sides, Site, Stopped, Water, EMPTY,
     FLUID, FULL, INTERFACE, ONE, PARTS, WALL,
@@ -178,7 +179,7 @@ fn records_read_and_write() {
     let record = Grid::read(CASE_T).unwrap();
     assert_eq!(record.grid, case_t());
     assert_eq!((record.settings, record.site), (FALLING, CORNER));
-    assert_eq!(record.grid.write(FALLING, CORNER).unwrap(), CASE_T);
+    assert_eq!(record.grid.write(FALLING, CORNER).unwrap(), written_back(CASE_T));
 
     // A grid with all kinds of cells, and with numbers that fill their fields.
     let mut grid = Grid::new(Sides::new(6, 5, 4)).unwrap();
@@ -227,8 +228,8 @@ fn damaged_records_are_refused() {
     let mut row = Grid::new(Sides::new(5, 3, 3)).unwrap();
     row.set_fluid(21, ONE).unwrap();
     let mut bytes = row.write(FALLING, CORNER).unwrap();
-    assert_eq!(bytes[84 + 21..84 + 24], [FLUID, INTERFACE, EMPTY]);
-    bytes.swap(84 + 22, 84 + 23);
+    assert_eq!(bytes[100 + 21..100 + 24], [FLUID, INTERFACE, EMPTY]);
+    bytes.swap(100 + 22, 100 + 23);
     assert_eq!(Grid::read(&bytes).unwrap_err(), refusal(5, 21));
 }
 

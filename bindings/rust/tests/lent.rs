@@ -391,7 +391,7 @@ fn records_are_read_into_lent_slices() {
     let mut row = Grid::new(Sides::new(5, 3, 3)).unwrap();
     row.set_fluid(21, ONE).unwrap();
     let mut record = row.write(FALLING, CORNER).unwrap();
-    record.swap(84 + 22, 84 + 23);
+    record.swap(100 + 22, 100 + 23);
     let mut set = Set::soiled(45);
     assert_eq!(read_into(&record, &mut set), Err(refusal(5, 21)));
     assert_eq!(set, Set::soiled(45));

@@ -1,5 +1,6 @@
 // The library through this wrapper beside the independent program, on its random scenes and damaged records.
 
+use oracle::record::written_back;
 use oracle::scenes::{good, settings};
 use oracle::{damage, random, text, Store};
 use skwarzyna::{Depth, Grid, Point, Refusal, Settings, Sides, Site, Stopped};
@@ -114,7 +115,7 @@ fn records_are_the_same() {
                     let [x, y, z] = reading.origin;
                     let site = Site { edge: reading.settings.edge.into(), origin: Point { x, y, z } };
                     assert_eq!(ours.site, site);
-                    assert_eq!(ours.grid.write(ours.settings, ours.site), Ok(bytes));
+                    assert_eq!(ours.grid.write(ours.settings, ours.site), Ok(written_back(&bytes)));
                 }
                 (ours, theirs) => {
                     refused += 1;

@@ -135,7 +135,7 @@ fn advanced(record: &[u8], steps: u64) -> Vec<u8> {
 }
 
 /// Every command with what it must have, on the record of standard input.
-const CALLS: [&[&str]; 11] = [
+const CALLS: [&[&str]; 12] = [
     &["check"],
     &["water"],
     &["step"],
@@ -147,6 +147,7 @@ const CALLS: [&[&str]; 11] = [
     &["surface"],
     &["pools"],
     &["draw"],
+    &["depths"],
 ];
 
 #[test]
@@ -209,7 +210,7 @@ fn good_records_are_answered() {
     assert_eq!(ran.out, advanced(CASE_T, 2500));
     assert!(ran.err.starts_with("2,500 of 2,500 steps made in "), "{}", ran.err);
     assert!(ran.err.ends_with("; total 294,912 units before, 294,912 after\n"), "{}", ran.err);
-    assert_eq!(out(&["run", "0"]).out, CASE_T);
+    assert_eq!(out(&["run", "0"]).out, written_back(CASE_T));
     assert!(out(&["draw"]).out.starts_with(b"\x89PNG"));
 
     let mut dry = Grid::new(Sides::new(3, 3, 3)).unwrap();
@@ -321,8 +322,8 @@ fn a_refusal_is_told_with_its_place() {
     row.set_fluid(21, ONE).unwrap();
     let Record { settings, site, .. } = Grid::read(CASE_T).unwrap();
     let mut bytes = row.write(settings, site).unwrap();
-    assert_eq!(bytes[84 + 22], INTERFACE);
-    bytes.swap(84 + 22, 84 + 23);
+    assert_eq!(bytes[100 + 22], INTERFACE);
+    bytes.swap(100 + 22, 100 + 23);
     says(told(&bytes), "refusal 5: fluid beside empty, at cell 21 (x 1, y 1, z 1)");
 
     // Where the record is good and what is asked of it is not.
@@ -395,7 +396,7 @@ fn a_file_is_whole_or_as_it_was() {
     let dangling = folder.path("dangling");
     symlink("made", &dangling).unwrap();
     assert_eq!(fed(&["write", "-o", &dangling], CASE_T).status, Some(0));
-    assert_eq!(fs::read(folder.path("made")).unwrap(), CASE_T);
+    assert_eq!(fs::read(folder.path("made")).unwrap(), written_back(CASE_T));
 
     // It is not written over but replaced: by another name the old one can still be read.
     let old = folder.path("old");

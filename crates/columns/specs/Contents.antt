@@ -1,4 +1,4 @@
--- What the sum of a column tells its caller. No promise of a public function cites this file. Assumes nothing.
+-- What the sum of a column tells its caller, of this layer or above. No promise of a call cites this file. Assumes nothing.
 use mathlib.Core.Path.{_≡_}
 use mathlib.Core.List.{List}
 use Prim.Native.Nat.{ℕ, _<_}

@@ -1,3 +1,3 @@
 // Layer 3, the depth of a column. Knows the promises of tunnel.
 pub mod column;
-mod sum;
+pub mod sum;

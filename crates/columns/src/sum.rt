@@ -14,9 +14,9 @@ ghost use Rattle.columns.specs.Contents.{ContentsAre};
 ghost use Rattle.tunnel.specs.Depth.{fillBad, readingOf, DepthIs};
 
 // What a column holds: whether every cell is wall, and the fills of the others added up.
-pub(crate) struct Contents {
-    pub(crate) solid: bool,
-    pub(crate) sum: u32,
+pub struct Contents {
+    pub solid: bool,
+    pub sum: u32,
 }
 
 // A cell's part of the sum: a wall has none.
@@ -30,7 +30,7 @@ fn open_fill(flag: u8, fill: u32) -> u32
 }
 
 // Every cell of the column, from height 0 up.
-pub(crate) fn summed(s: Sides, flags: &[u8], fills: &[u32], x: usize, y: usize) -> Contents
+pub fn summed(s: Sides, flags: &[u8], fills: &[u32], x: usize, y: usize) -> Contents
     requires { ⌜ InColumn s (length (now flags)) x y ⌝ }
     requires { ⌜ InColumn s (length (now fills)) x y ⌝ }
     requires { ⌜ s .nz ≤ first (s .nz) (fillBad s (now fills) x y) ⌝ }

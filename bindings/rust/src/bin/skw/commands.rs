@@ -2,7 +2,9 @@
 
 mod check;
 mod depth;
+mod depths;
 mod draw;
+mod invert;
 mod place;
 mod point;
 mod pools;
@@ -47,4 +49,6 @@ pub const COMMANDS: &[Command] = &[
     surface::COMMAND,
     pools::COMMAND,
     draw::COMMAND,
+    depths::COMMAND,
+    invert::COMMAND,
 ];

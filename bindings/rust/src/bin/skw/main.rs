@@ -8,6 +8,7 @@ mod failure;
 mod files;
 mod help;
 mod interrupt;
+mod inverts;
 mod progress;
 mod records;
 mod told;

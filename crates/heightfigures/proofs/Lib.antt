@@ -1,0 +1,2 @@
+pub mod Stars
+pub mod Maps

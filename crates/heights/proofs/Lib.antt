@@ -1,0 +1,7 @@
+pub mod Runs
+pub mod Digits
+pub mod Signs
+pub mod Words
+pub mod Headers
+pub mod Rowing
+pub mod Stores

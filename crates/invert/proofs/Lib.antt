@@ -1,0 +1,9 @@
+pub mod Heights
+pub mod Spread
+pub mod Inverts
+pub mod Cleared
+pub mod Opened
+pub mod Tested
+pub mod Filled
+pub mod Loaded
+pub mod Unique
