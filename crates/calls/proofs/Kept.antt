@@ -14,7 +14,7 @@ use Rattle.grid.specs.declared.Answer.{Answer}
 use Rattle.grid.specs.declared.Answer.the-variants.{Done, Refused}
 use Rattle.grid.specs.Grid.{cellsOf, sidesGood, gridOf}
 use Rattle.grid.specs.State.{Lent, stateOf}
-use Rattle.grid.specs.Outcome.{accepted, orRefuse, goodAnswer, lengthsGood, moveAnswer, sceneOf, nextOf, byAnswer, ran}
+use Rattle.grid.specs.Outcome.{accepted, orRefuse, goodAnswer, lengthsGood, moveAnswer, sceneOf, nextOf, byAnswer, ranBy, ran}
 use Rattle.grid.specs.Outcome as base
 use Rattle.grid.specs.Between.{Sized, Ready}
 use Rattle.grid.proofs.Accepted.{accepted-done}
@@ -108,8 +108,8 @@ module _ (s : Sides) (g : Settings) (marks : List ℕ) (room : length marks ≡ 
   ran-ready (suc k) a r = go (accepted (base.stepAnswer s g a a marks)) refl (λ q. ran-ready k (nextOf s g a) q)
     where
       go : (t : Bool) → accepted (base.stepAnswer s g a a marks) ≡ t → (Ready s g (nextOf s g a) → Ready s g (ran s g marks k (nextOf s g a) .reached)) → Ready s g (ran s g marks (suc k) a .reached)
-      go true e f = rw (e, ran) (f (next-ready s g a r (sym (ready-answer s g a marks room r) ∙ accepted-done _ e)))
-      go false e f = rw (e, ran) r
+      go true e f = rw (e, ranBy) (f (next-ready s g a r (sym (ready-answer s g a marks room r) ∙ accepted-done _ e)))
+      go false e f = rw (e, ranBy) r
 
 module _ (steps : ℕ) (s : Sides) (g : Settings) (a b : Held) (marks : List ℕ) where
   pub run-keeps : RunKeeps steps s g a b marks
