@@ -1,0 +1,4 @@
+pub mod Flume
+pub mod Outcome
+pub mod Promise
+pub mod Spread
