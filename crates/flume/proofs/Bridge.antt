@@ -3,13 +3,14 @@
 use mathlib.Core.Path.{_≡_, refl, sym, ap, ap₂, _∙_, subst}
 use mathlib.Core.Bool.{Bool, true, false, _&&_, not, cond, false≢true}
 use mathlib.Core.List.{List, [], _∷_}
-use Prim.Native.Nat.{ℕ, zero, suc, _+_, _*_, _/_, _%_, _≤_, _<_}
+use Prim.Native.Nat.{ℕ, zero, suc, _+_, _-_, _*_, _/_, _%_, _≤_, _<_}
 use native.Mathlib.Nat.{mod-lt, le-of-suc-le-suc}
 use native.Mathlib.Omega.{arith}
 use lib.Dec.{eqb, leb}
 use lib.IntN.{ℤ, pos}
 use borrow.Author.Tests.{leb-true, leb-false, eqb-true}
 use Rattle.whole.specs.Fold.{all, tab, first, anyDir}
+use Rattle.whole.specs.Parts.{up, down}
 use Rattle.whole.specs.Search.{Dir, first-cong, first-none}
 use Rattle.whole.specs.Tab.{tab-cong}
 use Rattle.lattice.specs.Lattice.{V3, dot, density, momentum, d3q19, d2q9}
@@ -18,7 +19,7 @@ use Rattle.lattice.specs.Body.{bodyGood, eqZ}
 use Rattle.lattice.proofs.Paired.{Paired, paired19, paired9}
 use Rattle.grid.specs.declared.Answer.{Answer}
 use Rattle.grid.specs.declared.Answer.the-variants.{Done, Refused}
-use Rattle.grid.specs.Grid.{Grid}
+use Rattle.grid.specs.Grid.{Grid, cellAt, toward}
 use Rattle.grid.specs.State.{Lent, State, Scene, byFlag, liquid, lentOf}
 use Rattle.grid.specs.Step.{newDensity, newMomentum, tooFast, newFlag, newPart, newMass, newFill, newCarry, fillFor, next}
 use Rattle.grid.specs.Good.{flagGood, badFlag, openFluid, badFluid, dryGood, interfaceGood, fluidGood, fillGood, cellGood, badRule}
@@ -26,7 +27,7 @@ use Rattle.grid.specs.Outcome.{orRefuse, ifNone, goodAnswer, moveAnswer}
 use Rattle.grid.proofs.Laid.{Laid}
 use Rattle.flume.specs.Spread.{wide, narrow, idle, spread, spreadLattice, spreadGrid, spreadState, plainScene, spreadScene, Idle, Spreads, SpreadOf}
 use Rattle.flume.proofs.Places.{by-eight, by-idle, at-places, spread-at, spread-none, any-same, tests-same}
-use Rattle.flume.proofs.Flowing.{opp-at, opp-dir, opp-none, density-same, momentum-same, old-spreads, too-fast-same}
+use Rattle.flume.proofs.Flowing.{e-at, opp-at, opp-dir, opp-none, density-same, momentum-same, old-spreads, too-fast-same}
 use Rattle.flume.proofs.Turning.{Steady}
 use Rattle.flume.proofs.Giving.{next-spreads}
 
@@ -66,6 +67,13 @@ spread-laid G l = record { cell = λ c i h o. cell c h o i; back = λ c i h o. b
         ap₂ (λ (m j : ℕ). spread m (G .near m) j) (spread-at c (G .near c) k (d .most)) (opp-at k d)
         ∙ spread-at (G .near c k) (G .near (G .near c k)) (d2q9 .opp k) (opp-dir k d .most) ∙ l .back c k h o d)
         (λ i n. ap (λ (m : ℕ). spread m (G .near m) (d3q19 .opp i)) (spread-none c (G .near c) i n) ∙ spread-none c (G .near c) (d3q19 .opp i) (opp-none i n))
+
+-- one step from c in the flume is one step in the box of one layer, at the direction's place
+pub toward-at : (nx c k : ℕ) → Dir 8 k → toward d3q19 nx 1 c (wide k) ≡ toward d2q9 nx 1 c k
+unfolding toward
+toward-at nx c k d j =
+    let e = e-at k d j in
+    c + cellAt nx 1 (up (e .x)) (up (e .y)) (up (e .z)) - cellAt nx 1 (down (e .x)) (down (e .y)) (down (e .z))
 
 -- ---- test 6's rules of a state and of what it is spread
 module _ (s t : State) (z : SpreadOf s t) where
@@ -160,7 +168,7 @@ module _ (S : Scene) where
           fair (liquid (S .old .flag c)) (dense (newDensity P c)) (slow (newDensity P c) (dot (newMomentum P c) (newMomentum P c))) l
           (first-none (S .grid .cells) (tooFast P) e c k)
 
-  fast-same : first (S .grid .cells) (tooFast T) ≡ first (S .grid .cells) (tooFast P)
+  pub fast-same : first (S .grid .cells) (tooFast T) ≡ first (S .grid .cells) (tooFast P)
   fast-same = first-cong (S .grid .cells) 0 (tooFast T) (tooFast P) (λ a k. too-fast-same S (0 + a))
 
   pub move-answer-same : Outside → moveAnswer T ≡ moveAnswer P

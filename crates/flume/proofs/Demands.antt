@@ -27,7 +27,7 @@ use Rattle.grid.proofs.Laid.{Laid}
 use Rattle.grid.proofs.Box.{flume9-laid}
 use Rattle.grid.proofs.Conserved.{Holds, conserved-on}
 use Rattle.grid.proofs.Arrived.{Arrived, arrived-on}
-use Rattle.grid.proofs.Counted.{Counted, counted-holds}
+use Rattle.grid.proofs.Counted.{Counted, counted-on}
 use Rattle.grid.proofs.Accurate.{Accurate, accurate-on}
 use Rattle.flume.specs.declared.FlumeSides.{FlumeSides}
 use Rattle.flume.specs.declared.FlumeSettings.{FlumeSettings}
@@ -62,7 +62,7 @@ flume-arrived steps s g a b marks e = arrived-on d2q9 (flumeGrid s) (flumeSidesG
 pub flume-counted : (steps : ℕ) (s : FlumeSides) (g : FlumeSettings) (a b : Lent) (marks : List ℕ) → flumeRunEntry steps s g a b marks ≡ Done
     → Counted (flumeGround s) (levelSettings g) marks steps a (flumeRunCount steps s g a b marks) (flumeRunAnswer steps s g a b marks) (flumeRunFirst steps s g a b marks)
 unfolding flumeRunEntry flumeRunCount flumeRunAnswer flumeRunFirst
-flume-counted steps s g a b marks e = counted-holds (flumeGround s) steps (levelSettings g) a b marks e
+flume-counted steps s g a b marks e = counted-on (flumeGround s) steps (levelSettings g) a b marks e
 
 -- ---- demand 2
 

@@ -4,3 +4,6 @@ pub mod Turning
 pub mod Giving
 pub mod Bridge
 pub mod Demands
+pub mod Sets
+pub mod Stars
+pub mod RuledOut

@@ -1,4 +1,5 @@
 // The flume: document 02's second lattice, a section in two dimensions, x along and z up. Knows the promises of lattice and grid.
+pub mod extent;
 
 // The sides of a flume, in cells.
 pub struct FlumeSides {

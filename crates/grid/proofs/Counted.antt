@@ -8,11 +8,12 @@ use native.Mathlib.Nat.{le-of-suc-le-suc}
 use native.Mathlib.Omega.{arith}
 use Rattle.whole.specs.Bools.{cond-yes}
 use Rattle.lattice.specs.declared.Settings.{Settings}
+use Rattle.grid.specs.declared.Sides.{Sides}
 use Rattle.grid.specs.declared.Answer.{Answer}
 use Rattle.grid.specs.declared.Answer.the-variants.{Done}
 use Rattle.grid.specs.State.{Lent}
-use Rattle.grid.specs.Outcome.{accepted, ranBy}
-use Rattle.grid.specs.Ground.{Ground, stepOn, nextOn, ranOn, runEntryOn, runCountOn, runAnswerOn, runFirstOn}
+use Rattle.grid.specs.Outcome.{accepted, lengthsGood, sceneOf, entryAnswer, stepAnswer, nextOf, ranBy, ran, runEntry, runCount, runAnswer, runFirst}
+use Rattle.grid.specs.Ground.{Ground, boxGround, stepOn, nextOn, ranOn, runEntryOn, runCountOn, runAnswerOn, runFirstOn}
 use Rattle.grid.proofs.Accepted.{done-accepted}
 
 module _ (G : Ground) (g : Settings) (marks : List ℕ) where
@@ -39,6 +40,12 @@ abbrev pub Claim : Type 0
 Claim =
     (G : Ground) (steps : ℕ) (g : Settings) (a b : Lent) (marks : List ℕ) → runEntryOn G steps g a b marks ≡ Done
     → Counted G g marks steps a (runCountOn G steps g a b marks) (runAnswerOn G steps g a b marks) (runFirstOn G steps g a b marks)
+
+-- of document 01's grid
+abbrev pub BoxClaim : Type 0
+BoxClaim =
+    (steps : ℕ) (s : Sides) (g : Settings) (a b : Lent) (marks : List ℕ) → runEntry steps s g a b marks ≡ Done
+    → Counted (boxGround s) g marks steps a (runCount steps s g a b marks) (runAnswer steps s g a b marks) (runFirst steps s g a b marks)
 
 module _ (G : Ground) (g : Settings) (marks : List ℕ) where
   first-made : (k : ℕ) (a : Lent) → accepted (stepOn G g a a marks) ≡ true → Leading G g marks k (nextOn G g a) → Leading G g marks (suc k) a
@@ -98,8 +105,12 @@ module _ (G : Ground) (g : Settings) (marks : List ℕ) where
   }
   made (suc steps) a = more steps a (accepted (stepOn G g a a marks)) refl (made steps (nextOn G g a))
 
-pub counted-holds : Claim
-counted-holds G steps g a b marks e =
+pub counted-on : Claim
+counted-on G steps g a b marks e =
     let t = done-accepted (runEntryOn G steps g a b marks) e in
     let r = ranOn G g marks steps a in
     rw (cond-yes (r .count) 0 t, cond-yes (r .stop) (runEntryOn G steps g a b marks) t, cond-yes (r .reached) a t) (made G g marks steps a)
+
+pub counted-holds : BoxClaim
+unfolding lengthsGood sceneOf entryAnswer stepAnswer nextOf ran runEntry runCount runAnswer runFirst
+counted-holds steps s g a b marks e = counted-on (boxGround s) steps g a b marks e
