@@ -2,8 +2,8 @@
 -- carry, and at each direction's place its part. So laws of the nineteen places serve the flume. Assumes nothing.
 use mathlib.Core.Path.{_≡_, refl, sym, ap, ap₂, _∙_, subst}
 use mathlib.Core.Bool.{Bool, true, false, _&&_, not, cond, false≢true}
-use mathlib.Core.List.{List, [], _∷_}
-use Prim.Native.Nat.{ℕ, zero, suc, _+_, _-_, _*_, _/_, _%_, _≤_, _<_}
+use mathlib.Core.List.{[], _∷_}
+use Prim.Native.Nat.{ℕ, suc, _+_, _-_, _*_, _/_, _%_, _≤_, _<_}
 use native.Mathlib.Nat.{mod-lt, le-of-suc-le-suc}
 use native.Mathlib.Omega.{arith}
 use lib.Dec.{eqb, leb}
@@ -13,20 +13,20 @@ use Rattle.whole.specs.Fold.{all, tab, first, anyDir}
 use Rattle.whole.specs.Parts.{up, down}
 use Rattle.whole.specs.Search.{Dir, first-cong, first-none}
 use Rattle.whole.specs.Tab.{tab-cong}
-use Rattle.lattice.specs.Lattice.{V3, dot, density, momentum, d3q19, d2q9}
+use Rattle.lattice.specs.Lattice.{dot, d3q19, d2q9}
 use Rattle.lattice.specs.Cell.{partGood, dense, slow, massGood, carryGood}
 use Rattle.lattice.specs.Body.{bodyGood, eqZ}
 use Rattle.lattice.proofs.Paired.{Paired, paired19, paired9}
 use Rattle.grid.specs.declared.Answer.{Answer}
-use Rattle.grid.specs.declared.Answer.the-variants.{Done, Refused}
+use Rattle.grid.specs.declared.Answer.the-variants.{Done}
 use Rattle.grid.specs.Grid.{Grid, cellAt, toward}
-use Rattle.grid.specs.State.{Lent, State, Scene, byFlag, liquid, lentOf}
+use Rattle.grid.specs.State.{State, Scene, byFlag, liquid, lentOf}
 use Rattle.grid.specs.Step.{newDensity, newMomentum, tooFast, newFlag, newPart, newMass, newFill, newCarry, fillFor, next}
 use Rattle.grid.specs.Good.{flagGood, badFlag, openFluid, badFluid, dryGood, interfaceGood, fluidGood, fillGood, cellGood, badRule}
 use Rattle.grid.specs.Outcome.{orRefuse, ifNone, goodAnswer, moveAnswer}
 use Rattle.grid.proofs.Laid.{Laid}
-use Rattle.flume.specs.Spread.{wide, narrow, idle, spread, spreadLattice, spreadGrid, spreadState, plainScene, spreadScene, Idle, Spreads, SpreadOf}
-use Rattle.flume.proofs.Places.{by-eight, by-idle, at-places, spread-at, spread-none, any-same, tests-same}
+use Rattle.flume.specs.Spread.{wide, narrow, idle, spread, spreadLattice, spreadGrid, spreadState, plainScene, spreadScene, SpreadOf}
+use Rattle.flume.proofs.Places.{at-places, spread-at, spread-none, any-same, tests-same}
 use Rattle.flume.proofs.Flowing.{e-at, opp-at, opp-dir, opp-none, density-same, momentum-same, old-spreads, too-fast-same}
 use Rattle.flume.proofs.Turning.{Steady}
 use Rattle.flume.proofs.Giving.{next-spreads}

@@ -2,16 +2,15 @@
 -- changed between them if wished, and after a run. Demand 2: after an accepted step, in a cell that stays liquid, each moving part lies less than one unit
 -- from the exact BGK value, the rest part less than eight. And no second outcome fits what the calls promise. Assumes nothing.
 use mathlib.Core.Path.{_≡_, refl, sym, ap, ap₂, _∙_, subst}
-use mathlib.Core.List.{List, [], _∷_}
-use Prim.Native.Nat.{ℕ, zero, suc, _<_}
+use mathlib.Core.List.{List}
+use Prim.Native.Nat.{ℕ, suc, _<_}
 use native.Mathlib.Omega.{arith}
 use lib.IntN.{ℤ, pos, _+ℤ_, _*ℤ_, *ℤ-zero}
 use lib.Signed.{quotZ}
-use Rattle.whole.specs.Fold.{dirs}
 use Rattle.whole.specs.Quot.{zero-quot}
 use Rattle.whole.specs.Search.{Dir, as-dir}
 use Rattle.whole.specs.Sums.{sum-zero}
-use Rattle.lattice.specs.Lattice.{V3, momentum, d2q9, open-lattice}
+use Rattle.lattice.specs.Lattice.{momentum, d2q9, open-lattice}
 use Rattle.lattice.specs.Cell.{pull}
 use Rattle.lattice.proofs.Paired.{paired9}
 use Rattle.lattice.proofs.Balanced.{Balanced, balanced9}
@@ -20,7 +19,7 @@ use Rattle.grid.specs.declared.Answer.the-variants.{Done}
 use Rattle.grid.specs.Grid.{flume}
 use Rattle.grid.specs.State.{Lent, Scene}
 use Rattle.grid.specs.Step.{streamed, newDensity, newMomentum}
-use Rattle.grid.specs.Ground.{ground, sceneOn}
+use Rattle.grid.specs.Ground.{sceneOn}
 use Rattle.grid.specs.Demands as demands
 use Rattle.grid.specs.Demands.{Reached}
 use Rattle.grid.proofs.Laid.{Laid}

@@ -2,7 +2,7 @@
 -- weight, and so nothing streams, is exchanged or relaxes there. Assumes nothing.
 use mathlib.Core.Path.{_≡_, refl, sym, ap, ap₂, _∙_}
 use mathlib.Core.Bool.{Bool, true, false, _&&_, not, cond}
-use mathlib.Core.List.{List, [], _∷_}
+use mathlib.Core.List.{[], _∷_}
 use Prim.Native.Nat.{ℕ, zero, suc, _+_, _*_, _≤_}
 use native.Mathlib.Omega.{arith}
 use lib.Dec.{eqb}
@@ -12,10 +12,10 @@ use Rattle.whole.specs.Fold.{dirs}
 use Rattle.whole.specs.Quot.{zero-quot}
 use Rattle.whole.specs.Ring.{ring-by, quotes}
 use Rattle.whole.specs.Search.{Dir}
-use Rattle.lattice.specs.Lattice.{V3, dot, Lattice, density, momentum, d3q19, d2q9, open-lattice}
+use Rattle.lattice.specs.Lattice.{V3, dot, density, momentum, d3q19, d2q9, open-lattice}
 use Rattle.lattice.specs.Cell.{dense, slow, gas, exchange, pull, quad, relaxed, isPositive}
 use Rattle.lattice.proofs.Paired.{paired9}
-use Rattle.grid.specs.State.{State, Scene, byFlag, liquid}
+use Rattle.grid.specs.State.{Scene, byFlag, liquid}
 use Rattle.grid.specs.Step.{seen, normal, oldDensity, oldMomentum, leansTo, rebuilt, rebuild, arrives, streamed, difference, traded, tradedMass, newDensity, newMomentum, tooFast, collidedDir, collided}
 use Rattle.flume.specs.Spread.{wide, narrow, idle, spread, spreadLattice, plainScene, spreadScene, Idle, Spreads}
 use Rattle.flume.proofs.Places.{by-eight, by-idle, is-idle, spread-at, spread-none, dirs-same, sum-same, spreads}

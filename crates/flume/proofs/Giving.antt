@@ -1,19 +1,19 @@
 -- Stages 6 and 7 give the same among the nineteen places as on the flume's own lattice, where no cell is too fast: a cell that gives is no target of its
 -- own, and a cell that receives gives nothing, so that an idle direction, which leads to the cell itself, carries no gift. Assumes nothing.
-use mathlib.Core.Path.{_≡_, refl, sym, ap, ap₂, _∙_, subst}
+use mathlib.Core.Path.{_≡_, refl, sym, ap, ap₂, _∙_}
 use mathlib.Core.Bool.{Bool, true, false, _&&_, _||_, not, cond, false≢true}
-use Prim.Native.Nat.{ℕ, zero, suc, _≤_, _<_}
+use Prim.Native.Nat.{ℕ, zero, suc}
 use lib.Dec.{eqb}
 use lib.IntN.{ℤ, pos, negℤ, _+ℤ_, _-ℤ_}
 use Rattle.whole.specs.Bools.{never, cond-no}
-use Rattle.whole.specs.Fold.{sum, dirs}
+use Rattle.whole.specs.Fold.{dirs}
 use Rattle.whole.specs.Search.{Dir}
 use Rattle.whole.specs.Sums.{sum-cong}
-use Rattle.lattice.specs.Lattice.{V3, dot, d3q19, d2q9}
+use Rattle.lattice.specs.Lattice.{dot, d3q19, d2q9}
 use Rattle.lattice.specs.Cell.{over, under, positive, isPositive, share}
-use Rattle.grid.specs.State.{State, Scene, byFlag}
-use Rattle.grid.specs.Step.{normal, tradedMass, newDensity, filled, besideFilled, emptied, besideEmptied, flagAfter, newFlag, newPart, converted, excess, target, anyTarget, lean, leanWeight, shareWeight, gift, toCarry, received, newMass, newCarry, fillFor, newFill, next}
-use Rattle.flume.specs.Spread.{wide, plainScene, spreadScene, Idle, Spreads, SpreadOf}
+use Rattle.grid.specs.State.{Scene, byFlag}
+use Rattle.grid.specs.Step.{tradedMass, newDensity, filled, besideFilled, emptied, besideEmptied, flagAfter, newFlag, newPart, converted, excess, target, anyTarget, lean, leanWeight, shareWeight, gift, toCarry, received, newMass, newCarry, fillFor, newFill, next}
+use Rattle.flume.specs.Spread.{wide, plainScene, spreadScene, Idle, SpreadOf}
 use Rattle.flume.proofs.Places.{dirs-same, any-same, share-same}
 use Rattle.flume.proofs.Flowing.{e-at, opp-at, opp-dir, near-at, near-none, normal-same, density-same, traded-mass-same, new-density-same}
 use Rattle.flume.proofs.Turning.{Steady, filled-same, emptied-same, new-flag-same, base-mass-same, new-part-spreads}

@@ -1,8 +1,8 @@
 -- Sums, tests, counts and shares over the nineteen places are those over the flume's directions, where the idle places add nothing. Assumes nothing.
-use mathlib.Core.Path.{_≡_, refl, sym, ap, ap₂, _∙_, subst}
+use mathlib.Core.Path.{_≡_, refl, sym, ap, ap₂, _∙_}
 use mathlib.Core.Logic.{_⊎_, inl, inr}
 use mathlib.Core.Bool.{Bool, true, false, _&&_, _||_, cond, false≢true}
-use mathlib.Core.List.{List, [], _∷_}
+use mathlib.Core.List.{[], _∷_}
 use Prim.Native.Nat.{ℕ, zero, suc, pred, _+_, _≤_, _<_}
 use native.Mathlib.Nat.{lt-irrefl, zero-add, le-of-suc-le-suc}
 use native.Mathlib.Decide.{ℕ-discrete}
@@ -12,7 +12,7 @@ use lib.IntN.{ℤ, pos, _+ℤ_, _-ℤ_, _*ℤ_, *ℤ-zero}
 use lib.ListN.{getD}
 use lib.Signed.{quotZ}
 use borrow.Author.Tests.{leb-true, ltb-true, eq-eqb, ne-eqb}
-use Rattle.whole.specs.Bools.{and-yes, and-left, and-right}
+use Rattle.whole.specs.Bools.{and-left, and-right}
 use Rattle.whole.specs.Fold.{sum, any, all, count, first, dirs, anyDir, countDir, open-fold}
 use Rattle.whole.specs.Quot.{zero-quot}
 use Rattle.whole.specs.Ring.{ring-by, quotes}

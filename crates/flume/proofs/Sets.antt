@@ -1,13 +1,13 @@
 -- The bridge for a lent set: what the flume's step answers and leaves, read from its spread scene. This is what the flume's code is proved by. Assumes nothing.
-use mathlib.Core.Path.{_≡_, refl, sym, ap, _∙_, subst}
-use mathlib.Core.List.{List, [], _∷_}
-use Prim.Native.Nat.{ℕ, _+_, _*_, _/_, _%_, _≤_, _<_}
+use mathlib.Core.Path.{_≡_, sym, subst}
+use mathlib.Core.List.{[], _∷_}
+use Prim.Native.Nat.{ℕ, _*_, _/_, _%_, _≤_}
 use lib.ListN.{length, List·getD-eq-default}
 use Rattle.whole.specs.Fold.{tab, first}
 use Rattle.lattice.specs.Lattice.{d2q9}
 use Rattle.grid.specs.declared.Answer.{Answer}
 use Rattle.grid.specs.Grid.{flume}
-use Rattle.grid.specs.State.{Lent, State, Scene, stateOf}
+use Rattle.grid.specs.State.{Lent, Scene, stateOf}
 use Rattle.grid.specs.Step.{tooFast, newFlag, newPart, newMass, newFill, newCarry}
 use Rattle.grid.specs.Outcome.{goodAnswer, moveAnswer}
 use Rattle.flume.specs.declared.FlumeSides.{FlumeSides}

@@ -1,17 +1,17 @@
 -- Stage 5 gives the same among the nineteen places as on the flume's own lattice, where no cell is too fast: an idle direction leads to the cell itself,
 -- which is neither filled beside an empty cell, nor emptied beside a fluid one, nor emptied where it is filled. Assumes nothing.
-use mathlib.Core.Path.{_≡_, refl, sym, ap, ap₂, _∙_, subst}
+use mathlib.Core.Path.{_≡_, refl, sym, ap, ap₂, _∙_}
 use mathlib.Core.Bool.{Bool, true, false, _&&_, not, cond, false≢true}
-use Prim.Native.Nat.{ℕ, zero, suc, _≤_}
+use Prim.Native.Nat.{ℕ, zero, suc}
 use native.Mathlib.Omega.{arith}
-use lib.IntN.{ℤ, pos, _+ℤ_, _-ℤ_, _*ℤ_, zero-*ℤ}
-use lib.Signed.{quotZ, shrZ}
+use lib.IntN.{ℤ, pos, _-ℤ_, _*ℤ_, zero-*ℤ}
+use lib.Signed.{quotZ}
 use Rattle.whole.specs.Bools.{never, cond-no}
 use Rattle.whole.specs.Quot.{zero-quot}
 use Rattle.whole.specs.Search.{Dir}
 use Rattle.lattice.specs.Lattice.{V3, dot, d3q19, d2q9}
 use Rattle.lattice.specs.Cell.{dense, over, under, quad, still, floor, cut}
-use Rattle.grid.specs.State.{State, Scene, byFlag, liquid}
+use Rattle.grid.specs.State.{Scene, byFlag, liquid}
 use Rattle.grid.specs.Step.{tradedMass, newDensity, newMomentum, collided, filled, besideFilled, emptied, besideEmptied, flagAfter, newFlag, baseMass, liquidNear, nearSum, bornDensity, bornMomentum, bornDir, born, newPart}
 use Rattle.grid.proofs.Accurate.{not-both, both-tests}
 use Rattle.flume.specs.Spread.{wide, spread, plainScene, spreadScene, Idle, Spreads}

@@ -3,7 +3,7 @@
 use Prim.Native.Nat.{ℕ, _*_}
 use mathlib.Core.Bool.{Bool, _&&_}
 use lib.Dec.{leb}
-use lib.IntN.{ℤ, pos}
+use lib.IntN.{pos}
 use Rattle.lattice.specs.Lattice.{d2q9}
 use Rattle.lattice.specs.declared.Settings.{Settings}
 use Rattle.grid.specs.Grid.{Grid, flume}

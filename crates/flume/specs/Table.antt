@@ -10,7 +10,6 @@ use Rattle.grid.specs.declared.Answer.{Answer}
 use Rattle.grid.specs.State.{Lent, Scene}
 use Rattle.grid.specs.Step.{normal, newFlag, excess, gift}
 use Rattle.grid.specs.Outcome.{numberOf, placeOf}
-use Rattle.flume.specs.declared.FlumeSides.{FlumeSides}
 use Rattle.flume.specs.Outcome.{flumeCheck, flumeScene, flumeStep, flumeSecond, flumeMarks}
 use Rattle.flume.specs.Cases.{square, pulled, falling, calm, fallen, single, caseF, marks, nothing, pool}
 

@@ -1,7 +1,7 @@
 -- Demand 3 over the run's own outcome: after a run that is accepted, or stopped by a refused step, both sets are reached from the first by accepted steps,
 -- and so all that Conserved claims holds of both. The idea: a run is its steps, one after the other. Assumes nothing.
 use mathlib.Core.Path.{_≡_, refl, sym, subst}
-use mathlib.Core.Bool.{Bool, true, false, cond}
+use mathlib.Core.Bool.{Bool, true, false}
 use mathlib.Core.List.{List}
 use Prim.Native.Nat.{ℕ, zero, suc}
 use lib.Dec.{leb}

@@ -12,19 +12,19 @@ use lib.Dec.{eqb, leb}
 use lib.ListN.{length}
 use Rattle.whole.specs.Bools.{and-left}
 use Rattle.whole.specs.Fold.{first}
-use Rattle.lattice.specs.Lattice.{V3, Lattice, d3q19}
+use Rattle.lattice.specs.Lattice.{Lattice, d3q19}
 use Rattle.lattice.specs.declared.Settings.{Settings}
 use Rattle.lattice.proofs.Paired.{Paired, paired19}
 use Rattle.grid.specs.declared.Sides.{Sides}
 use Rattle.grid.specs.declared.Answer.{Answer}
-use Rattle.grid.specs.declared.Answer.the-variants.{Done, Refused}
+use Rattle.grid.specs.declared.Answer.the-variants.{Done}
 use Rattle.grid.specs.Grid.{Grid, cellsOf, sidesGood, box, gridOf}
-use Rattle.grid.specs.State.{Lent, State, Scene, stateOf, lentOf}
+use Rattle.grid.specs.State.{Lent, State, Scene, stateOf}
 use Rattle.grid.specs.Step.{tooFast, next}
 use Rattle.grid.specs.Good.{badRule}
 use Rattle.grid.specs.Outcome.{numberOf, orRefuse, ifNone, goodAnswer, moveAnswer, lengthsGood, settingsGood, checkAnswer, byAnswer}
 use Rattle.grid.specs.Ground.{Ground, ground, boxGround, lengthsOn, stateOn, checkOn, sceneOn, entryOn, stepOn, nextOn, secondOn}
-use Rattle.grid.specs.Demands.{Closed, water, waterOn, strayed, scene, gridAnswer, Reaches, strays, Reached, strayedOn}
+use Rattle.grid.specs.Demands.{Closed, waterOn, strayed, gridAnswer, Reaches, strays, Reached, strayedOn}
 use Rattle.grid.specs.Demands as demands
 use Rattle.grid.proofs.Box.{grid-laid}
 use Rattle.grid.proofs.Laid.{Laid}

@@ -1,12 +1,11 @@
 -- What check, step and run answer and leave over one ground: a lattice, a grid and its sides' test. Document 01's box is one, document 02's flume another.
 -- Assumes nothing.
-use Prim.Native.Nat.{ℕ, zero, suc}
+use Prim.Native.Nat.{ℕ, suc}
 use mathlib.Core.Bool.{Bool, _&&_, cond}
 use mathlib.Core.List.{List}
-use lib.IntN.{ℤ}
 use lib.Dec.{leb, eqb}
 use lib.ListN.{length, replicate}
-use Rattle.lattice.specs.Lattice.{V3, Lattice, d3q19}
+use Rattle.lattice.specs.Lattice.{Lattice, d3q19}
 use Rattle.lattice.specs.declared.Settings.{Settings}
 use Rattle.grid.specs.declared.Sides.{Sides}
 use Rattle.grid.specs.declared.Answer.{Answer}
