@@ -9,7 +9,7 @@ use lib.Dec.{eqb}
 use lib.ListN.{getD}
 use borrow.Author.Tests.{eq-eqb, eqb-true}
 use Rattle.whole.specs.Bools.{cond-yes}
-use Rattle.whole.specs.Fold.{sum, anyDir, tab}
+use Rattle.whole.specs.Fold.{sum, anyDir, first, tab}
 use Rattle.whole.specs.Ring.{ring-by, quotes}
 use Rattle.whole.specs.Search.{Dir, as-dir, any-dir}
 use Rattle.whole.specs.Sums.{sum-cong}
@@ -21,19 +21,18 @@ use Rattle.lattice.proofs.Paired.{paired19}
 use Rattle.grid.specs.declared.Sides.{Sides}
 use Rattle.grid.specs.Grid.{cellsOf, gridOf, box}
 use Rattle.grid.specs.State.{Lent, Scene, byFlag, stateOf}
-use Rattle.grid.specs.Step.{flagAt, tradedMass, newDensity, collided, filled, besideFilled, emptied, besideEmptied, flagAfter, newFlag, seen, normal, target, anyTarget, lean, leanWeight, shareWeight, excess, converted, gift, toCarry, received, newCarry}
+use Rattle.grid.specs.Step.{flagAt, tooFast, tradedMass, newDensity, collided, filled, besideFilled, emptied, besideEmptied, flagAfter, newFlag, seen, normal, target, anyTarget, lean, leanWeight, shareWeight, excess, converted, gift, toCarry, received, newCarry}
 use Rattle.grid.specs.Outcome.{sceneOf}
-use Rattle.grid.specs.Between.{movedMass, settledMark, bornPart, gatheredMass}
+use Rattle.grid.specs.Between.{Poised, movedMass, settledMark, bornPart, gatheredMass}
 use Rattle.grid.specs.Passes.{seenAt, seenBeside, normalAt, Inner}
 use Rattle.grid.proofs.Beside.{Offsets, any-cong, place-is}
 use Rattle.grid.proofs.Box.{grid-laid}
 use Rattle.grid.proofs.Closed.{wall-stays}
-use Rattle.grid.proofs.Listed.{part-at}
 use Rattle.grid.proofs.Moved.{density-collided}
 use Rattle.grid.proofs.Offsets.{near-below, near-self}
 use Rattle.grid.proofs.Same.{density-same}
 use Rattle.grid.proofs.Slopes.{dot-turn}
-use Rattle.excess.specs.Gifts.{back, leaningAt, targetAt, leanWeightAt, evenAt, weightAt, densityAt, excessAt, giftAt, giftFrom, receivedAt, gatheredAt, lostAt, strayAt, Midway}
+use Rattle.excess.specs.Gifts.{back, leaningAt, targetAt, leanWeightAt, evenAt, weightAt, densityAt, excessAt, giftAt, giftFrom, receivedAt, gatheredAt, lostAt, strayAt}
 use Rattle.excess.proofs.Portions.{share-cong}
 use Rattle.turn.proofs.Amounts.{marked-interface, outer-not, inner-cell}
 
@@ -91,8 +90,18 @@ gathered-cases : (b : Bool) (m x y : ℤ) → (b ≡ true → x ≡ y) → cond 
 gathered-cases true m x y e = ap (λ (z : ℤ). m +ℤ z) (e refl)
 gathered-cases false m x y e = sym (+ℤ-idr m)
 
+-- ---- where stage 6 begins: from a good state that passed test 7, with flags, newborn parts, masses and settled marks in their places
+pub record Midway (s : Sides) (g : Settings) (a : Lent) (flags fills : List ℕ) (part : ℕ → ℕ → ℤ) (masses : List ℤ) (marks : List ℕ) : Type 0 where
+  pub poised : Poised s g a
+  pub steady : cellsOf s ≤ first (cellsOf s) (tooFast (sceneOf s g a))
+  pub fills-are : fills ≡ a .fills
+  pub flags-are : flags ≡ tab (cellsOf s) (newFlag (sceneOf s g a))
+  pub part-is : (c k : ℕ) → c < cellsOf s → k ≤ 18 → part c k ≡ bornPart (sceneOf s g a) c k
+  pub masses-are : masses ≡ tab (cellsOf s) (movedMass (sceneOf s g a))
+  pub marks-are : marks ≡ tab (cellsOf s) (settledMark (sceneOf s g a))
+
 -- ---- what the lists hold
-module _ {s : Sides} {g : Settings} {a : Lent} {flags fills : List ℕ} {parts masses : List ℤ} {marks : List ℕ} (w : Midway s g a flags fills parts masses marks) where
+module _ {s : Sides} {g : Settings} {a : Lent} {flags fills : List ℕ} {part : ℕ → ℕ → ℤ} {masses : List ℤ} {marks : List ℕ} (w : Midway s g a flags fills part masses marks) where
   abbrev S : Scene
   S = sceneOf s g a
 
@@ -108,8 +117,8 @@ module _ {s : Sides} {g : Settings} {a : Lent} {flags fills : List ℕ} {parts m
   pub mass-is : (c : ℕ) → c < cellsOf s → getD masses c (pos 0) ≡ movedMass S c
   mass-is c h = rw (w .masses-are) (getD-tab (cellsOf s) (movedMass S) (pos 0) c h)
 
-  pub part-is : (c k : ℕ) → c < cellsOf s → k ≤ 18 → getD parts (19 * c + k) (pos 0) ≡ bornPart S c k
-  part-is c k h l = rw (w .parts-are) (part-at 18 (cellsOf s) c k h l (bornPart S))
+  pub part-is : (c k : ℕ) → c < cellsOf s → k ≤ 18 → part c k ≡ bornPart S c k
+  part-is = w .part-is
 
   -- ---- marks
   pub filled-is : (c : ℕ) → c < cellsOf s → eqb (getD marks c 0) 1 ≡ filled S c
@@ -194,9 +203,9 @@ module _ {s : Sides} {g : Settings} {a : Lent} {flags fills : List ℕ} {parts m
     unfolding bornPart sceneOf
     born-is k = rw (converted-interface c t) refl
 
-    pub density-is : densityAt parts c ≡ newDensity S c
+    pub density-is : densityAt part c ≡ newDensity S c
     unfolding densityAt sceneOf d3q19
-    density-is = density-same d3q19 (λ k. getD parts (19 * c + k) (pos 0)) (collided S c) (λ k l. part-is c k h l ∙ born-is k) ∙ density-collided S c
+    density-is = density-same d3q19 (part c) (collided S c) (λ k l. part-is c k h l ∙ born-is k) ∙ density-collided S c
 
     moved-is : movedMass S c ≡ tradedMass S c
     unfolding movedMass sceneOf
@@ -205,7 +214,7 @@ module _ {s : Sides} {g : Settings} {a : Lent} {flags fills : List ℕ} {parts m
     traded-is : getD masses c (pos 0) ≡ tradedMass S c
     traded-is = mass-is c h ∙ moved-is
 
-    pub excess-is : excessAt parts masses (getD marks c 0) c ≡ excess S c
+    pub excess-is : excessAt part masses (getD marks c 0) c ≡ excess S c
     unfolding excessAt excess
     excess-is =
         (λ i. cond (filled-is c h i) (traded-is i -ℤ density-is i) (traded-is i))
@@ -218,7 +227,7 @@ module _ {s : Sides} {g : Settings} {a : Lent} {flags fills : List ℕ} {parts m
     some-target b k d e = any-dir 18 (target S b) k d e
 
     given-is : (b k : ℕ) → b < cellsOf s → converted S b ≡ true → Dir 18 k
-        → giftAt flags fills parts masses off low b (getD marks b 0) k ≡ share 18 (excess S b) (shareWeight S b) k
+        → giftAt flags fills part masses off low b (getD marks b 0) k ≡ share 18 (excess S b) (shareWeight S b) k
     unfolding giftAt
     given-is b zero h t d = absurd (omega (arith, d .some))
     given-is b (suc j) h t d =
@@ -226,11 +235,11 @@ module _ {s : Sides} {g : Settings} {a : Lent} {flags fills : List ℕ} {parts m
         ap (λ (x : ℤ). share 18 x (weightAt flags fills off (b - low) (getD marks b 0)) (suc j)) (excess-is b h t)
         ∙ share-cong 18 (excess S b) (weightAt flags fills off (b - low) (getD marks b 0)) (shareWeight S b) (λ i l. weight-is o b n h (suc i) (omega arith)) j (d .most)
 
-    pub gift-is : (b k : ℕ) → b < cellsOf s → Dir 18 k → target S b k ≡ true → giftFrom flags fills parts masses marks off low b k ≡ gift S b k
+    pub gift-is : (b k : ℕ) → b < cellsOf s → Dir 18 k → target S b k ≡ true → giftFrom flags fills part masses marks off low b k ≡ gift S b k
     unfolding giftFrom gift sceneOf d3q19
     gift-is b k h d e =
-        ap (λ (x : Bool). cond x (pos 0) (giftAt flags fills parts masses off low b (getD marks b 0) k)) (none-is b h)
-        ∙ given-cases (converted S b) (anyTarget S b) (giftAt flags fills parts masses off low b (getD marks b 0) k) (share 18 (excess S b) (shareWeight S b) k)
+        ap (λ (x : Bool). cond x (pos 0) (giftAt flags fills part masses off low b (getD marks b 0) k)) (none-is b h)
+        ∙ given-cases (converted S b) (anyTarget S b) (giftAt flags fills part masses off low b (getD marks b 0) k) (share 18 (excess S b) (shareWeight S b) k)
         (some-target b k d e) (λ t. given-is b k h t d)
 
     pub taker-inner : (c : ℕ) → newFlag S c ≡ 1 → stateOf 18 a .flag c ≡ 3 → ⊥
@@ -249,45 +258,45 @@ module _ {s : Sides} {g : Settings} {a : Lent} {flags fills : List ℕ} {parts m
     unfolding target sceneOf
     comes-back c i h e d = ap (λ (b : ℕ). eqb (newFlag S b) 1) (there-back c i h e d) ∙ eq-eqb (newFlag S c) 1 e
 
-    pub received-is : (c : ℕ) → c < cellsOf s → newFlag S c ≡ 1 → receivedAt flags fills parts masses marks off low c ≡ received S c
+    pub received-is : (c : ℕ) → c < cellsOf s → newFlag S c ≡ 1 → receivedAt flags fills part masses marks off low c ≡ received S c
     unfolding receivedAt received sceneOf d3q19
     received-is c h e =
-        sum-cong 18 (λ b. giftFrom flags fills parts masses marks off low (c - low + getD off (suc b) 0) (d3q19 .opp (suc b)))
+        sum-cong 18 (λ b. giftFrom flags fills part masses marks off low (c - low + getD off (suc b) 0) (d3q19 .opp (suc b)))
         (λ b. gift S (gridOf s .near c (suc b)) (d3q19 .opp (suc b))) (λ b k. one (suc b) (as-dir k))
       where
         n : Inner s c
         n = inner-cell s g a (w .poised) c h (taker-inner c e)
 
-        one : (i : ℕ) → Dir 18 i → giftFrom flags fills parts masses marks off low (c - low + getD off i 0) (d3q19 .opp i) ≡ gift S (gridOf s .near c i) (d3q19 .opp i)
+        one : (i : ℕ) → Dir 18 i → giftFrom flags fills part masses marks off low (c - low + getD off i 0) (d3q19 .opp i) ≡ gift S (gridOf s .near c i) (d3q19 .opp i)
         one i d =
             let l : i < 19 = omega (arith, d .most) in
-            ap (λ (b : ℕ). giftFrom flags fills parts masses marks off low b (d3q19 .opp i)) (place-is o c n i l)
+            ap (λ (b : ℕ). giftFrom flags fills part masses marks off low b (d3q19 .opp i)) (place-is o c n i l)
             ∙ gift-is (gridOf s .near c i) (d3q19 .opp i) (near-below s i l c n) (opp-dir i d) (comes-back c i h e d)
 
-    gathered-at : (c : ℕ) → c < cellsOf s → gatheredAt flags fills parts masses marks off low c ≡ gatheredMass S c
+    gathered-at : (c : ℕ) → c < cellsOf s → gatheredAt flags fills part masses marks off low c ≡ gatheredMass S c
     unfolding gatheredAt gatheredMass
     gathered-at c h =
-        (λ i. cond (eqb (flag-is c h i) 1) (mass-is c h i +ℤ receivedAt flags fills parts masses marks off low c) (mass-is c h i))
+        (λ i. cond (eqb (flag-is c h i) 1) (mass-is c h i +ℤ receivedAt flags fills part masses marks off low c) (mass-is c h i))
         ∙ gathered-cases (eqb (newFlag S c) 1) (movedMass S c) _ _ (λ e. received-is c h (eqb-true (newFlag S c) 1 e))
 
     -- stage 6's masses
-    pub gathered-is : tab (cellsOf s) (gatheredAt flags fills parts masses marks off low) ≡ tab (cellsOf s) (gatheredMass S)
-    gathered-is = tab-cong (cellsOf s) (gatheredAt flags fills parts masses marks off low) (gatheredMass S) (pos 0) gathered-at
+    pub gathered-is : tab (cellsOf s) (gatheredAt flags fills part masses marks off low) ≡ tab (cellsOf s) (gatheredMass S)
+    gathered-is = tab-cong (cellsOf s) (gatheredAt flags fills part masses marks off low) (gatheredMass S) (pos 0) gathered-at
 
-    pub stray-is : (c : ℕ) → c < cellsOf s → strayAt flags parts masses marks off low c ≡ toCarry S c
+    pub stray-is : (c : ℕ) → c < cellsOf s → strayAt flags part masses marks off low c ≡ toCarry S c
     unfolding strayAt lostAt toCarry
     stray-is c h =
-        ap (λ (x : Bool). cond x (pos 0) (lostAt flags parts masses off low c (getD marks c 0))) (none-is c h)
+        ap (λ (x : Bool). cond x (pos 0) (lostAt flags part masses off low c (getD marks c 0))) (none-is c h)
         ∙ by (converted S c) refl
       where
         by : (b : Bool) → converted S c ≡ b
-            → cond (not b) (pos 0) (cond (anyDir 18 (targetAt flags off (c - low))) (pos 0) (excessAt parts masses (getD marks c 0) c)) ≡ cond (b && not (anyTarget S c)) (excess S c) (pos 0)
+            → cond (not b) (pos 0) (cond (anyDir 18 (targetAt flags off (c - low))) (pos 0) (excessAt part masses (getD marks c 0) c)) ≡ cond (b && not (anyTarget S c)) (excess S c) (pos 0)
         by true t =
             let n : Inner s c = inner-cell s g a (w .poised) c h (λ f. omega (arith, converted-interface c t)) in
             ap₂ (λ (x : Bool) (y : ℤ). cond x (pos 0) y) (any-target-is o c n) (excess-is c h t) ∙ stray-cases true (anyTarget S c) (excess S c) (excess S c) (λ e. refl)
         by false t = refl
 
     -- the new carry
-    pub carry-is : stateOf 18 a .carry +ℤ sum (cellsOf s) (strayAt flags parts masses marks off low) ≡ newCarry S
+    pub carry-is : stateOf 18 a .carry +ℤ sum (cellsOf s) (strayAt flags part masses marks off low) ≡ newCarry S
     unfolding newCarry sceneOf gridOf box cellsOf
-    carry-is = ap (λ (x : ℤ). stateOf 18 a .carry +ℤ x) (sum-cong (cellsOf s) (strayAt flags parts masses marks off low) (toCarry S) stray-is)
+    carry-is = ap (λ (x : ℤ). stateOf 18 a .carry +ℤ x) (sum-cong (cellsOf s) (strayAt flags part masses marks off low) (toCarry S) stray-is)

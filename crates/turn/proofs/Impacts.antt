@@ -1,5 +1,6 @@
 -- What a collision leaves of a cell that passed test 7 is in range: each part of a direction far below 2^25, and part 0 far below 2^30. Assumes nothing.
 use mathlib.Core.Path.{_≡_, refl, sym, subst}
+use mathlib.Core.List.{[]}
 use mathlib.Core.Bool.{Bool, true, false, _&&_, not}
 use Prim.Native.Nat.{ℕ, zero, suc, _*_, _≤_, _<_}
 use native.Mathlib.Nat.{mul-le-mul}
@@ -22,19 +23,20 @@ use Rattle.lattice.proofs.Paired.{paired19}
 use Rattle.lattice.proofs.Reading.{quot-abs}
 use Rattle.lattice.proofs.Tame.{steady-tame}
 use Rattle.grid.specs.declared.Sides.{Sides}
+use Rattle.grid.specs.Fill.{partOf}
 use Rattle.grid.specs.Grid.{cellsOf}
 use Rattle.grid.specs.State.{Lent, Scene, liquid, stateOf}
 use Rattle.grid.specs.Step.{streamed, newDensity, newMomentum, tooFast, collidedDir, collided}
 use Rattle.grid.specs.Outcome.{sceneOf}
 use Rattle.grid.specs.Between.{Poised}
 use Rattle.grid.specs.Passes.{Inner, lowOf, offsetOf}
-use Rattle.grid.specs.Sight.{Around, flowing, sight}
+use Rattle.grid.specs.Sight.{Around, bodiesOf, sight, boxSight}
 use Rattle.grid.proofs.Beside.{Offsets, place-is}
 use Rattle.flow.proofs.Collisions.{relaxation-of}
 use Rattle.flow.proofs.Mirrored.{around}
 use Rattle.flow.proofs.Plain.{axial19, streamed-same}
 use Rattle.flow.proofs.Poise.{poised-bodied, liquid-inner}
-use Rattle.flow.proofs.Spans.{weight-low, streamed-in}
+use Rattle.flow.proofs.Spans.{light19, light-low, streamed-in}
 
 -- a product of two numbers in range
 times-in : (a b : ℤ) (m n : ℕ) → natAbs a ≤ m → natAbs b ≤ n → natAbs (a *ℤ b) ≤ m * n
@@ -58,16 +60,16 @@ quad-in ρ ej jj h k l =
       times-in ej ej 1179648 1179648 k k,
     )
 
-relaxed-in : (p : ℤ) (w : ℕ) (Q ρ f : ℤ) → natAbs p ≤ 2037 → w ≤ 2 → natAbs Q ≤ 26000000000000 → 294912 ≤ natAbs ρ → natAbs ρ ≤ 1179648 → natAbs f ≤ 1572864
+relaxed-in : (p : ℤ) (w : ℕ) (Q ρ f : ℤ) → natAbs p ≤ 2037 → w ≤ 4 → natAbs Q ≤ 26000000000000 → 294912 ≤ natAbs ρ → natAbs ρ ≤ 1179648 → natAbs f ≤ 1572864
     → natAbs (relaxed p w Q ρ f) ≤ 33554432
 unfolding relaxed
 relaxed-in p w Q ρ f hp hw hQ low hρ hf =
     let n = pos w *ℤ Q -ℤ pos 72 *ℤ (ρ *ℤ f) in
-    let inner : natAbs n ≤ 230120883699712 =
-    omega (arith, abs-sub (pos w *ℤ Q) (pos 72 *ℤ (ρ *ℤ f)), times-in (pos w) Q 2 26000000000000 hw hQ, abs-mul (pos 72) (ρ *ℤ f), times-in ρ f 1179648 1572864 hρ hf) in
-    let top : natAbs (p *ℤ n) ≤ 468756240096313344 = omega (arith, times-in p n 2037 230120883699712 hp inner) in
+    let inner : natAbs n ≤ 282120883699712 =
+    omega (arith, abs-sub (pos w *ℤ Q) (pos 72 *ℤ (ρ *ℤ f)), times-in (pos w) Q 4 26000000000000 hw hQ, abs-mul (pos 72) (ρ *ℤ f), times-in ρ f 1179648 1572864 hρ hf) in
+    let top : natAbs (p *ℤ n) ≤ 574680240096313344 = omega (arith, times-in p n 2037 282120883699712 hp inner) in
     let bottom : 21743271936 ≤ natAbs (pos 73728 *ℤ ρ) = omega (arith, abs-mul (pos 73728) ρ) in
-    let q : natAbs (quotZ (p *ℤ n) (pos 73728 *ℤ ρ)) ≤ 21558679 = quot-abs (p *ℤ n) (pos 73728 *ℤ ρ) 468756240096313344 21743271936 top (omega arith) bottom in
+    let q : natAbs (quotZ (p *ℤ n) (pos 73728 *ℤ ρ)) ≤ 26430255 = quot-abs (p *ℤ n) (pos 73728 *ℤ ρ) 574680240096313344 21743271936 top (omega arith) bottom in
     omega (arith, abs-add f (quotZ (p *ℤ n) (pos 73728 *ℤ ρ)))
 
 -- e·j, of a direction
@@ -111,7 +113,7 @@ module _ (s : Sides) (g : Settings) (a : Lent) (r : Poised s g a) (t : cellsOf s
   inside = liquid-inner s g a r c h l
 
   abbrev seen : Scene
-  seen = sight (flowing (a .flags) (a .parts) (a .fills)) (tab 19 (offsetOf s)) (lowOf s) g
+  seen = boxSight (a .flags) (a .parts) [] (a .fills) (tab 19 (offsetOf s)) (lowOf s) g
 
   near : (i : ℕ) → i ≤ d3q19 .q → S .grid .near c i ≡ seen .grid .near c i
   unfolding sight sceneOf d3q19
@@ -121,9 +123,9 @@ module _ (s : Sides) (g : Settings) (a : Lent) (r : Poised s g a) (t : cellsOf s
   unfolding sight sceneOf stateOf d3q19
   stream-in k m =
       subst (λ (z : ℤ). Within z 1572864)
-      (sym (streamed-same d3q19 paired19 axial19 (S .grid) (seen .grid) (S .old .flag) (S .old .part) (S .old .fill) c near
+      (sym (streamed-same d3q19 (paired19 .dir) axial19 (S .grid) (seen .grid) (S .old .flag) (S .old .part) (S .old .fill) c near
       (S .old .mass) (seen .old .mass) (S .old .carry) (seen .old .carry) (S .g) (seen .g) (S .relax) (seen .relax) k m))
-      (streamed-in (a .flags) (a .parts) (a .fills) (tab 19 (offsetOf s)) (lowOf s) g (poised-bodied s g a r) c (subst (λ (n : ℕ). Around n (tab 19 (offsetOf s)) (lowOf s) c) (sym (r .flags)) (around o c inside)) l k m)
+      (streamed-in (d3q19 .weight) light19 (a .flags) (partOf (a .parts)) (a .fills) (tab 19 (offsetOf s)) (lowOf s) g (bodiesOf (poised-bodied s g a r)) c (subst (λ (n : ℕ). Around n (tab 19 (offsetOf s)) (lowOf s) c) (sym (r .flags)) (around o c inside)) l k m)
 
   -- density and momentum as a flow
   flow : Flow
@@ -139,7 +141,7 @@ module _ (s : Sides) (g : Settings) (a : Lent) (r : Poised s g a) (t : cellsOf s
   dir-in : (i : ℕ) → Dir 18 i → natAbs (collidedDir S c i) ≤ 33554432
   unfolding collidedDir flow sceneOf
   dir-in i d =
-      relaxed-in (g .p) (d3q19 .weight i) _ (newDensity S c) (streamed S c i) (relaxation-in (g .p) (relaxation-of g (r .settings)) .abs) (weight-low i (d .some) (omega (arith, d .most)))
+      relaxed-in (g .p) (d3q19 .weight i) _ (newDensity S c) (streamed S c i) (relaxation-in (g .p) (relaxation-of g (r .settings)) .abs) (light-low light19 i (d .some) (omega (arith, d .most)))
       (quad-in (newDensity S c) (dot (d3q19 .e i) (newMomentum S c)) (dot (newMomentum S c) (newMomentum S c)) (tame .rho .abs)
       (along-in (newMomentum S c) i d (tame .x .abs) (tame .y .abs) (tame .z .abs)) (square-in (newMomentum S c) (tame .x .abs) (tame .y .abs) (tame .z .abs)))
       (abs-above (tame .low)) (tame .rho .abs) (stream-in i (d .most) .abs)
