@@ -65,7 +65,7 @@ module _ (s : Sides) (g : Settings) (flags : List ℕ) (parts masses : List ℤ)
   is-cell : {c : ℕ} → c < length flags → c < cellsOf s
   is-cell {c} h = subst (λ (n : ℕ). c < n) (p .flags) h
 
-  near-of : (c : ℕ) → c < cellsOf s → liquid (getD flags c 3) ≡ true → (i : ℕ) → i < 19 → c - lowOf s + getD (tab 19 (offsetOf s)) i 0 ≡ gridOf s .near c i
+  pub near-of : (c : ℕ) → c < cellsOf s → liquid (getD flags c 3) ≡ true → (i : ℕ) → i < 19 → c - lowOf s + getD (tab 19 (offsetOf s)) i 0 ≡ gridOf s .near c i
   unfolding stateOf
   near-of c h l i k = placed s g (carried flags parts masses fills carry) p offs c h l i k
 
