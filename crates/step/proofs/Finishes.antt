@@ -39,6 +39,7 @@ use Rattle.flow.specs.Flowed.{Flowable, Went, stopped, through, Flowed}
 use Rattle.flow.proofs.Poise.{poised}
 use Rattle.turn.specs.Filled.{Fillable, Refilled}
 use Rattle.turn.proofs.Amounts.{new-dense}
+use Rattle.turn.proofs.Field.{fieldOf, standing}
 use Rattle.turn.proofs.Converts.{ready-poised}
 use Rattle.step.specs.Finished.{Finishing, Finished, Tried}
 use Rattle.step.proofs.Opened.{open-fluid, open-near}
@@ -147,8 +148,8 @@ module _ (s : Sides) (g : Settings) (a : Lent) where
       poise = ready-poised s g a r
 
       dense-now : (c : ℕ) → c < cellsOf s → liquid (flagAt S c) ≡ true → dense (newDensity S c) ≡ true
-      unfolding sceneOf
-      dense-now c h l = new-dense s g a poise t c h l
+      unfolding sceneOf stateOf
+      dense-now c h l = new-dense (fieldOf s g a) (standing s g a poise) t c h l
 
       -- after the conversion
       pub fills-asked : Fillable flags2 parts2 masses2

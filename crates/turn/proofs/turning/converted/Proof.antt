@@ -24,9 +24,8 @@ use Rattle.grid.specs.Between.{movedPart, movedMass, firstMark, gatheredMass}
 use Rattle.grid.specs.Halfway.{Moved, Turning, Turned}
 use Rattle.grid.specs.Passes.{lowOf, offsetOf}
 use Rattle.excess.specs.Gifts.{strayAt}
-use Rattle.turn.proofs.Converts.{asks-emptying, marks-settled, asks-marked, flags-turned, asks-fertile, parts-born, born-fair, midway, parts-count, carry-told, carry-within}
-use Rattle.turn.proofs.Given.{gathered-is}
-use Rattle.turn.proofs.Handed.{grid-offsets, gathering, straying, settling, settled-is}
+use Rattle.turn.proofs.Converts.{asks-emptying, marks-settled, asks-marked, flags-turned, asks-fertile, parts-born, born-fair, midway, carry-told, carry-within}
+use Rattle.turn.proofs.Handed.{gathered-box, gathering, straying, settling, settled-is}
 use Rattle.turn.proofs.turning.converted.Statement.{statement}
 use Rattle.turn.proofs.turning.converted.Tie as tie
 
@@ -86,8 +85,7 @@ new-carry-requires c κs =
     let ef = flags-turned (t .args .s) (t .args .g) a r (m .steady) _ _ ek (c .before .before .before .before .before .before .before .before .before .before .before .new-flags .ensures) in
     let ep = parts-born (t .args .s) (t .args .g) a r (m .steady) _ ef _ _ (m .parts-are) _ (c .before .before .before .before .before .before .newborn .ensures) in
     let w = midway (t .args .s) (t .args .g) a r (m .steady) _ ef _ _ _ ep (m .masses-are) ek in
-    let count = parts-count (t .args .s) (t .args .g) a r (m .steady) _ ef _ _ _ ep (m .masses-are) ek in
-    (straying _ w count, rw (kept _ (carry-within (t .args .s) (t .args .g) a r (m .steady))) (carry-within (t .args .s) (t .args .g) a r (m .steady)))
+    (straying w, rw (kept _ (carry-within (t .args .s) (t .args .g) a r (m .steady))) (carry-within (t .args .s) (t .args .g) a r (m .steady)))
 
 slice-set-from-k : tie.Need-slice-set-from-k
 slice-set-from-k c = let t = c .before .before .before .before .before .before .before .before .before .before .before .before .before .before .before .before .before .before .before .before .before .before .before in omega (arith, t .pre .0 .carry-room)
@@ -102,8 +100,7 @@ gather-requires c κs =
     let ef = flags-turned (t .args .s) (t .args .g) a r (m .steady) _ _ ek (c .before .before .before .before .before .before .before .before .before .before .before .before .before .before .before .before .new-flags .ensures) in
     let ep = parts-born (t .args .s) (t .args .g) a r (m .steady) _ ef _ _ (m .parts-are) _ (c .before .before .before .before .before .before .before .before .before .before .before .newborn .ensures) in
     let w = midway (t .args .s) (t .args .g) a r (m .steady) _ ef _ _ _ ep (m .masses-are) ek in
-    let count = parts-count (t .args .s) (t .args .g) a r (m .steady) _ ef _ _ _ ep (m .masses-are) ek in
-    gathering _ w count
+    gathering w
 
 settle-requires : tie.Need-settle-requires
 settle-requires c κs =
@@ -115,9 +112,8 @@ settle-requires c κs =
     let ef = flags-turned (t .args .s) (t .args .g) a r (m .steady) _ _ ek (c .before .before .before .before .before .before .before .before .before .before .before .before .before .before .before .before .before .before .before .before .before .new-flags .ensures) in
     let ep = parts-born (t .args .s) (t .args .g) a r (m .steady) _ ef _ _ (m .parts-are) _ (c .before .before .before .before .before .before .before .before .before .before .before .before .before .before .before .before .newborn .ensures) in
     let w = midway (t .args .s) (t .args .g) a r (m .steady) _ ef _ _ _ ep (m .masses-are) ek in
-    let count = parts-count (t .args .s) (t .args .g) a r (m .steady) _ ef _ _ _ ep (m .masses-are) ek in
-    let em = c .before .before .before .before .gather .ensures ∙ gathered-is w (grid-offsets (t .args .s)) in
-    settling _ w count _ (ap length em ∙ length-tab (cellsOf (t .args .s)) (gatheredMass (sceneOf (t .args .s) (t .args .g) a)))
+    let em = c .before .before .before .before .gather .ensures ∙ gathered-box w in
+    settling w _ (ap length em ∙ length-tab (cellsOf (t .args .s)) (gatheredMass (sceneOf (t .args .s) (t .args .g) a)))
 
 fair-carry-requires : tie.Need-fair-carry-requires
 fair-carry-requires c κs = tt
@@ -132,9 +128,8 @@ same-length c =
     let ef = flags-turned (t .args .s) (t .args .g) a r (m .steady) _ _ ek (c .before .before .before .before .before .before .before .before .before .before .before .before .before .before .before .before .before .before .before .before .before .before .before .before .before .before .before .new-flags .ensures) in
     let ep = parts-born (t .args .s) (t .args .g) a r (m .steady) _ ef _ _ (m .parts-are) _ (c .before .before .before .before .before .before .before .before .before .before .before .before .before .before .before .before .before .before .before .before .before .before .newborn .ensures) in
     let w = midway (t .args .s) (t .args .g) a r (m .steady) _ ef _ _ _ ep (m .masses-are) ek in
-    let count = parts-count (t .args .s) (t .args .g) a r (m .steady) _ ef _ _ _ ep (m .masses-are) ek in
-    let em = c .before .before .before .before .before .before .before .before .before .before .gather .ensures ∙ gathered-is w (grid-offsets (t .args .s)) in
-    let done = settled-is _ w count em (c .before .before .before .before .before .settle .ensures) in
+    let em = c .before .before .before .before .before .before .before .before .before .before .gather .ensures ∙ gathered-box w in
+    let done = settled-is w em (c .before .before .before .before .before .settle .ensures) in
     ap length ef ∙ length-tab (cellsOf (t .args .s)) (newFlag (sceneOf (t .args .s) (t .args .g) a)) ∙ sym (t .pre .0 .flags-room)
 
 same-length-2 : tie.Need-same-length-2
@@ -147,9 +142,8 @@ same-length-2 c =
     let ef = flags-turned (t .args .s) (t .args .g) a r (m .steady) _ _ ek (c .before .before .before .before .before .before .before .before .before .before .before .before .before .before .before .before .before .before .before .before .before .before .before .before .before .before .before .new-flags .ensures) in
     let ep = parts-born (t .args .s) (t .args .g) a r (m .steady) _ ef _ _ (m .parts-are) _ (c .before .before .before .before .before .before .before .before .before .before .before .before .before .before .before .before .before .before .before .before .before .before .newborn .ensures) in
     let w = midway (t .args .s) (t .args .g) a r (m .steady) _ ef _ _ _ ep (m .masses-are) ek in
-    let count = parts-count (t .args .s) (t .args .g) a r (m .steady) _ ef _ _ _ ep (m .masses-are) ek in
-    let em = c .before .before .before .before .before .before .before .before .before .before .gather .ensures ∙ gathered-is w (grid-offsets (t .args .s)) in
-    let done = settled-is _ w count em (c .before .before .before .before .before .settle .ensures) in
+    let em = c .before .before .before .before .before .before .before .before .before .before .gather .ensures ∙ gathered-box w in
+    let done = settled-is w em (c .before .before .before .before .before .settle .ensures) in
     ap length (done .0) ∙ length-tab (19 * cellsOf (t .args .s)) (λ m. newPart (sceneOf (t .args .s) (t .args .g) a) (m / 19) (m % 19)) ∙ sym (parts-length t)
 
 same-length-3 : tie.Need-same-length-3
@@ -162,9 +156,8 @@ same-length-3 c =
     let ef = flags-turned (t .args .s) (t .args .g) a r (m .steady) _ _ ek (c .before .before .before .before .before .before .before .before .before .before .before .before .before .before .before .before .before .before .before .before .before .before .before .before .before .before .before .new-flags .ensures) in
     let ep = parts-born (t .args .s) (t .args .g) a r (m .steady) _ ef _ _ (m .parts-are) _ (c .before .before .before .before .before .before .before .before .before .before .before .before .before .before .before .before .before .before .before .before .before .before .newborn .ensures) in
     let w = midway (t .args .s) (t .args .g) a r (m .steady) _ ef _ _ _ ep (m .masses-are) ek in
-    let count = parts-count (t .args .s) (t .args .g) a r (m .steady) _ ef _ _ _ ep (m .masses-are) ek in
-    let em = c .before .before .before .before .before .before .before .before .before .before .gather .ensures ∙ gathered-is w (grid-offsets (t .args .s)) in
-    let done = settled-is _ w count em (c .before .before .before .before .before .settle .ensures) in
+    let em = c .before .before .before .before .before .before .before .before .before .before .gather .ensures ∙ gathered-box w in
+    let done = settled-is w em (c .before .before .before .before .before .settle .ensures) in
     ap length (done .1) ∙ length-tab (cellsOf (t .args .s)) (newMass (sceneOf (t .args .s) (t .args .g) a)) ∙ sym (ap length (m .masses-are) ∙ length-tab (cellsOf (t .args .s)) (movedMass (sceneOf (t .args .s) (t .args .g) a)))
 
 same-length-4 : tie.Need-same-length-4
@@ -180,9 +173,8 @@ same-length-5 c =
     let ef = flags-turned (t .args .s) (t .args .g) a r (m .steady) _ _ ek (c .before .before .before .before .before .before .before .before .before .before .before .before .before .before .before .before .before .before .before .before .before .before .before .before .before .before .before .new-flags .ensures) in
     let ep = parts-born (t .args .s) (t .args .g) a r (m .steady) _ ef _ _ (m .parts-are) _ (c .before .before .before .before .before .before .before .before .before .before .before .before .before .before .before .before .before .before .before .before .before .before .newborn .ensures) in
     let w = midway (t .args .s) (t .args .g) a r (m .steady) _ ef _ _ _ ep (m .masses-are) ek in
-    let count = parts-count (t .args .s) (t .args .g) a r (m .steady) _ ef _ _ _ ep (m .masses-are) ek in
-    let em = c .before .before .before .before .before .before .before .before .before .before .gather .ensures ∙ gathered-is w (grid-offsets (t .args .s)) in
-    let done = settled-is _ w count em (c .before .before .before .before .before .settle .ensures) in
+    let em = c .before .before .before .before .before .before .before .before .before .before .gather .ensures ∙ gathered-box w in
+    let done = settled-is w em (c .before .before .before .before .before .settle .ensures) in
     ap length (done .2) ∙ length-replicate (cellsOf (t .args .s)) 0 ∙ sym (ap length (m .marks-are) ∙ length-tab (cellsOf (t .args .s)) (firstMark (sceneOf (t .args .s) (t .args .g) a)))
 
 returns : tie.Need-returns
@@ -195,9 +187,8 @@ returns c =
     let ef = flags-turned (t .args .s) (t .args .g) a r (m .steady) _ _ ek (c .before .before .before .before .before .before .before .before .before .before .before .before .before .before .before .before .before .before .before .before .before .before .before .before .before .before .before .new-flags .ensures) in
     let ep = parts-born (t .args .s) (t .args .g) a r (m .steady) _ ef _ _ (m .parts-are) _ (c .before .before .before .before .before .before .before .before .before .before .before .before .before .before .before .before .before .before .before .before .before .before .newborn .ensures) in
     let w = midway (t .args .s) (t .args .g) a r (m .steady) _ ef _ _ _ ep (m .masses-are) ek in
-    let count = parts-count (t .args .s) (t .args .g) a r (m .steady) _ ef _ _ _ ep (m .masses-are) ek in
-    let em = c .before .before .before .before .before .before .before .before .before .before .gather .ensures ∙ gathered-is w (grid-offsets (t .args .s)) in
-    let done = settled-is _ w count em (c .before .before .before .before .before .settle .ensures) in
+    let em = c .before .before .before .before .before .before .before .before .before .before .gather .ensures ∙ gathered-box w in
+    let done = settled-is w em (c .before .before .before .before .before .settle .ensures) in
     let carry = toZ-ofZ {w = w64} (record { sfits = c .before .before .before .before .before .before .before .before .before .before .before .before .before .before .before .new-carry .ok }) in
     let sum-is = carry-told (t .args .s) (t .args .g) a r (m .steady) _ ef _ _ _ ep (m .masses-are) ek _ _ (kept _ (carry-within (t .args .s) (t .args .g) a r (m .steady))) (c .before .before .before .before .before .before .before .before .before .before .before .before .before .before .before .new-carry .ensures) in
     record {
