@@ -31,13 +31,7 @@ fn kind_after(f: u8, m: u8, filled: bool, emptied: bool) -> u8
 }
 
 // Pass 3, by offsets: the new flags. The second set's are a copy of the old ones; the first and the last cells, all wall, are left as they are.
-pub fn new_flags_by(
-    flags: &[u8],
-    marks: &[u8],
-    next: &mut [u8],
-    off: &[usize; 19],
-    low: usize,
-)
+pub fn new_flags_by(flags: &[u8], marks: &[u8], next: &mut [u8], off: &[usize; 19], low: usize)
     requires { ⌜ MarkedBy (now flags) (now marks) (now off) low × (now next ≡ now flags) ⌝ }
     ensures { λ r. ⌜ now (next .exit) ≡ tab (length (now (flags .entry))) (turnedBy (now (flags .entry)) (now (marks .entry)) (now (off .entry)) low) ⌝ }
 {

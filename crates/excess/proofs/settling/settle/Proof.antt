@@ -83,8 +83,11 @@ loop-again c =
     let s = l .before .before in
     let n = c .next-marked .ensures .past in
     -- up to the next mark all is as it is to be
-    (turned b .0, over-gap (λ j. Upon (partOf (s .args .parts .now)) (s .args .masses .now) (s .args .marks .now) (partOf (b .if1 .parts)) (b .if1 .masses) (b .if1 .marks) j) (l .loop .c + 1) (c .next-marked .result) (n .least)
-    (λ j k i q. upon-keep _ _ _ (partOf (b .if1 .parts)) (b .if1 .masses) (b .if1 .marks) j q (omega (arith, n .most, turned b .1 .marks-size)) (n .before j k i)) (turned b .1))
+    (
+      turned b .0,
+      over-gap (λ j. Upon (partOf (s .args .parts .now)) (s .args .masses .now) (s .args .marks .now) (partOf (b .if1 .parts)) (b .if1 .masses) (b .if1 .marks) j) (l .loop .c + 1) (c .next-marked .result) (n .least)
+          (λ j k i q. upon-keep _ _ _ (partOf (b .if1 .parts)) (b .if1 .masses) (b .if1 .marks) j q (omega (arith, n .most, turned b .1 .marks-size)) (n .before j k i)) (turned b .1),
+    )
 
 same-length : tie.Need-same-length Inv-loop μ-loop
 same-length c = c .before .loop .inv .0
