@@ -7,9 +7,10 @@ use mathlib.Core.List.{[], _∷_}
 use lib.Dec.{eqb}
 use lib.IntN.{ℤ, pos}
 use lib.ListN.{getD}
-use Rattle.lattice.specs.Lattice.{Lattice, d3q19, d2q9}
+use Rattle.lattice.specs.Lattice.{Lattice, d2q9}
 use Rattle.grid.specs.Grid.{Grid}
 use Rattle.grid.specs.State.{State, Scene}
+use Rattle.grid.specs.Sight.{weighing}
 
 -- the place of direction k, 19 for what is no direction
 unfoldable pub wide : ℕ → ℕ
@@ -29,18 +30,7 @@ module _ {ℓ} {A : Type ℓ} where
 
 -- the nineteen places and their directions with the flume's weights
 abbrev pub spreadLattice : Lattice
-spreadLattice = record {
-  q = d3q19 .q;
-  weight = spread 0 (d2q9 .weight);
-  e = d3q19 .e;
-  opp = d3q19 .opp;
-  xp = d3q19 .xp;
-  xm = d3q19 .xm;
-  yp = d3q19 .yp;
-  ym = d3q19 .ym;
-  zp = d3q19 .zp;
-  zm = d3q19 .zm;
-}
+spreadLattice = weighing (spread 0 (d2q9 .weight))
 
 abbrev pub spreadGrid : Grid → Grid
 spreadGrid G = record { cells = G .cells; near = λ c. spread c (G .near c); outer = G .outer }
