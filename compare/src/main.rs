@@ -31,7 +31,7 @@ enum Part {
     Library(&'static str, fn(&Wish, &mut Total)),
 }
 
-const PARTS: [Part; 7] = [
+const PARTS: [Part; 8] = [
     Part::Program("gridstep", gridstep::compare),
     Part::Program("gridrun", gridrun::compare),
     Part::Program("gridread", gridread::compare),

@@ -42,51 +42,51 @@ pub opposite-even : (i : ℕ) → Dir 18 i → (i % 2 ≡ 1 → ⊥) → i - 1 �
 opposite-even i d h = let e : eqb (i % 2) 1 ≡ false = ne-eqb (i % 2) 1 h in sym (eqb-true (d3q19 .opp i) (i - 1) (rw e at (opposite-at i d)))
 
 -- ---- sizes
-pub excess-in : (parts masses : List ℤ) (m c : ℕ) → Weighed parts masses c → Within (excessAt parts masses m c) 46006272
+pub excess-in : {Room : ℕ → Type 0} (part : ℕ → ℕ → ℤ) (masses : List ℤ) (m c : ℕ) → Weighed Room part masses c → Within (excessAt part masses m c) 46006272
 unfolding excessAt
-excess-in parts masses m c w = go (eqb m 1)
+excess-in part masses m c w = go (eqb m 1)
   where
-    go : (b : Bool) → Within (cond b (getD masses c (pos 0) -ℤ densityAt parts c) (getD masses c (pos 0))) 46006272
-    go true = record { abs = omega (arith, abs-sub (getD masses c (pos 0)) (densityAt parts c), w .mass-in .abs, w .density-in .abs) }
+    go : (b : Bool) → Within (cond b (getD masses c (pos 0) -ℤ densityAt part c) (getD masses c (pos 0))) 46006272
+    go true = record { abs = omega (arith, abs-sub (getD masses c (pos 0)) (densityAt part c), w .mass-in .abs, w .density-in .abs) }
     go false = record { abs = omega (arith, w .mass-in .abs) }
 
-module _ (flags fills : List ℕ) (parts masses : List ℤ) (off : List ℕ) (low : ℕ) where
-  pub gift-in : (c m i : ℕ) → Giver flags fills parts masses off low c → Dir 18 i → Within (giftAt flags fills parts masses off low c m i) 92012544
+module _ (flags fills : List ℕ) (part : ℕ → ℕ → ℤ) (masses : List ℤ) (off : List ℕ) (low : ℕ) where
+  pub gift-in : {Room : ℕ → Type 0} (c m i : ℕ) → Giver flags fills Room part masses off low c → Dir 18 i → Within (giftAt flags fills part masses off low c m i) 92012544
   unfolding giftAt
   gift-in c m zero g d = absurd (omega (arith, d .some))
   gift-in c m (suc a) g d =
       record {
         abs = omega (
           arith,
-          excess-in parts masses m c (g .weighed) .abs,
+          excess-in part masses m c (g .weighed) .abs,
           share-le 18 (λ b. natAbs (weightAt flags fills off (c - low) m (suc b))) (weightAt flags fills off (c - low) m) (λ b l. weight-counted flags fills off (c - low) m (suc b))
-              (excessAt parts masses m c) a (d .most),
+              (excessAt part masses m c) a (d .most),
         );
       }
 
   -- the shares of an array of weights are those of the weights
-  pub share-told : (c m i : ℕ) {x : ℤ} {w : List ℤ} → x ≡ excessAt parts masses m c → w ≡ tab 19 (ofDir (weightAt flags fills off (c - low) m)) → Dir 18 i
-      → share 18 x (partsOf w) i ≡ giftAt flags fills parts masses off low c m i
+  pub share-told : (c m i : ℕ) {x : ℤ} {w : List ℤ} → x ≡ excessAt part masses m c → w ≡ tab 19 (ofDir (weightAt flags fills off (c - low) m)) → Dir 18 i
+      → share 18 x (partsOf w) i ≡ giftAt flags fills part masses off low c m i
   unfolding giftAt
   share-told c m zero e u d = absurd (omega (arith, d .some))
   share-told c m (suc a) {x} {w} e u d =
       ap (λ (z : ℤ). share 18 z (partsOf w) (suc a)) e
-      ∙ share-cong 18 (excessAt parts masses m c) (partsOf w) (weightAt flags fills off (c - low) m) (λ b l. dir-at (weightAt flags fills off (c - low) m) u (suc b) (omega arith) (omega arith)) a (d .most)
+      ∙ share-cong 18 (excessAt part masses m c) (partsOf w) (weightAt flags fills off (c - low) m) (λ b l. dir-at (weightAt flags fills off (c - low) m) u (suc b) (omega arith) (omega arith)) a (d .most)
 
   module _ (marks : List ℕ) (b i : ℕ) where
-    pub from-none : getD marks b 0 ≡ 0 → pos 0 ≡ giftFrom flags fills parts masses marks off low b i
+    pub from-none : getD marks b 0 ≡ 0 → pos 0 ≡ giftFrom flags fills part masses marks off low b i
     unfolding giftFrom
-    from-none e = sym (cond-yes (pos 0) (giftAt flags fills parts masses off low b (getD marks b 0) i) (eq-eqb (getD marks b 0) 0 e))
+    from-none e = sym (cond-yes (pos 0) (giftAt flags fills part masses off low b (getD marks b 0) i) (eq-eqb (getD marks b 0) 0 e))
 
-    pub from-some : (getD marks b 0 ≡ 0 → ⊥) → giftAt flags fills parts masses off low b (getD marks b 0) i ≡ giftFrom flags fills parts masses marks off low b i
+    pub from-some : (getD marks b 0 ≡ 0 → ⊥) → giftAt flags fills part masses off low b (getD marks b 0) i ≡ giftFrom flags fills part masses marks off low b i
     unfolding giftFrom
-    from-some n = sym (cond-no (pos 0) (giftAt flags fills parts masses off low b (getD marks b 0) i) (ne-eqb (getD marks b 0) 0 n))
+    from-some n = sym (cond-no (pos 0) (giftAt flags fills part masses off low b (getD marks b 0) i) (ne-eqb (getD marks b 0) 0 n))
 
-    pub from-in : ((getD marks b 0 ≡ 0 → ⊥) → Giver flags fills parts masses off low b) → Dir 18 i → Within (giftFrom flags fills parts masses marks off low b i) 92012544
+    pub from-in : {Room : ℕ → Type 0} → ((getD marks b 0 ≡ 0 → ⊥) → Giver flags fills Room part masses off low b) → Dir 18 i → Within (giftFrom flags fills part masses marks off low b i) 92012544
     unfolding giftFrom
     from-in g d = go (eqb (getD marks b 0) 0) refl
       where
-        go : (t : Bool) → eqb (getD marks b 0) 0 ≡ t → Within (cond t (pos 0) (giftAt flags fills parts masses off low b (getD marks b 0) i)) 92012544
+        go : (t : Bool) → eqb (getD marks b 0) 0 ≡ t → Within (cond t (pos 0) (giftAt flags fills part masses off low b (getD marks b 0) i)) 92012544
         go true e = record { abs = omega arith }
         go false e = gift-in b (getD marks b 0) i (g (eqb-false (getD marks b 0) 0 e)) d
 

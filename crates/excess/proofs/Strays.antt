@@ -21,29 +21,29 @@ use Rattle.excess.proofs.Sent.{excess-in}
 pub around-as : {n : ℕ} {off off′ : List ℕ} {low low′ : ℕ} (c : ℕ) → off ≡ off′ → low ≡ low′ → Around n off′ low′ c → Around n off low c
 around-as {n} {off} {off′} {low} {low′} c p q a = subst (λ (o : List ℕ). Around n o low c) (sym p) (subst (λ (m : ℕ). Around n off′ m c) (sym q) a)
 
-module _ (flags : List ℕ) (parts masses : List ℤ) (marks off : List ℕ) (low : ℕ) where
+module _ (flags : List ℕ) (part : ℕ → ℕ → ℤ) (masses : List ℤ) (marks off : List ℕ) (low : ℕ) where
   abbrev pub stray : ℕ → ℤ
-  stray = strayAt flags parts masses marks off low
+  stray = strayAt flags part masses marks off low
 
   pub stray-none : (c : ℕ) → getD marks c 0 ≡ 0 → pos 0 ≡ stray c
   unfolding strayAt
-  stray-none c e = sym (cond-yes (pos 0) (lostAt flags parts masses off low c (getD marks c 0)) (eq-eqb (getD marks c 0) 0 e))
+  stray-none c e = sym (cond-yes (pos 0) (lostAt flags part masses off low c (getD marks c 0)) (eq-eqb (getD marks c 0) 0 e))
 
-  pub stray-some : (c : ℕ) → (getD marks c 0 ≡ 0 → ⊥) → lostAt flags parts masses off low c (getD marks c 0) ≡ stray c
+  pub stray-some : (c : ℕ) → (getD marks c 0 ≡ 0 → ⊥) → lostAt flags part masses off low c (getD marks c 0) ≡ stray c
   unfolding strayAt
-  stray-some c n = sym (cond-no (pos 0) (lostAt flags parts masses off low c (getD marks c 0)) (ne-eqb (getD marks c 0) 0 n))
+  stray-some c n = sym (cond-no (pos 0) (lostAt flags part masses off low c (getD marks c 0)) (ne-eqb (getD marks c 0) 0 n))
 
-  pub stray-in : (c : ℕ) → ((getD marks c 0 ≡ 0 → ⊥) → Weighed parts masses c) → Within (stray c) 46006272
+  pub stray-in : {Room : ℕ → Type 0} (c : ℕ) → ((getD marks c 0 ≡ 0 → ⊥) → Weighed Room part masses c) → Within (stray c) 46006272
   unfolding strayAt lostAt
   stray-in c w = go (eqb (getD marks c 0) 0) refl (anyDir 18 (targetAt flags off (c - low)))
     where
-      go : (b : Bool) → eqb (getD marks c 0) 0 ≡ b → (t : Bool) → Within (cond b (pos 0) (cond t (pos 0) (excessAt parts masses (getD marks c 0) c))) 46006272
+      go : (b : Bool) → eqb (getD marks c 0) 0 ≡ b → (t : Bool) → Within (cond b (pos 0) (cond t (pos 0) (excessAt part masses (getD marks c 0) c))) 46006272
       go true e t = record { abs = omega arith }
       go false e true = record { abs = omega arith }
-      go false e false = excess-in parts masses (getD marks c 0) c (w (eqb-false (getD marks c 0) 0 e))
+      go false e false = excess-in part masses (getD marks c 0) c (w (eqb-false (getD marks c 0) 0 e))
 
   -- so far
-  pub strays-in : (n : ℕ) → n ≤ 262144 → ((c : ℕ) → c < n → (getD marks c 0 ≡ 0 → ⊥) → Weighed parts masses c) → Within (sum n stray) 12060268167168
+  pub strays-in : {Room : ℕ → Type 0} (n : ℕ) → n ≤ 262144 → ((c : ℕ) → c < n → (getD marks c 0 ≡ 0 → ⊥) → Weighed Room part masses c) → Within (sum n stray) 12060268167168
   strays-in n h w = record { abs = omega (arith, sum-abs n stray 46006272 (λ c k. stray-in c (w c k) .abs), mul-le-mul-right 46006272 h) }
 
   -- one more cell

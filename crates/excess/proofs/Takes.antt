@@ -24,13 +24,13 @@ use Rattle.excess.specs.Gifts.{targetAt, weightAt, densityAt, excessAt, 
 use Rattle.excess.proofs.Sent.{from-in}
 
 -- what the neighbour in direction a + 1 of the cell with k = c − low gives
-abbrev pub sent : List ℕ → List ℕ → List ℤ → List ℤ → List ℕ → List ℕ → ℕ → ℕ → ℕ → ℤ
-sent flags fills parts masses marks off low k a = giftFrom flags fills parts masses marks off low (k + getD off (suc a) 0) (d3q19 .opp (suc a))
+abbrev pub sent : List ℕ → List ℕ → (ℕ → ℕ → ℤ) → List ℤ → List ℕ → List ℕ → ℕ → ℕ → ℕ → ℤ
+sent flags fills part masses marks off low k a = giftFrom flags fills part masses marks off low (k + getD off (suc a) 0) (d3q19 .opp (suc a))
 
 -- what is asked of cell b to give towards direction o
-abbrev pub Asked : List ℕ → List ℕ → List ℤ → List ℤ → List ℕ → List ℕ → ℕ → ℕ → ℕ → Type 0
-Asked flags fills parts masses marks off low b o =
-    (b < length marks) × Dir 18 o × ((getD marks b 0 ≡ 0 → ⊥) → Giver flags fills parts masses off low b × (targetAt flags off (b - low) o ≡ true))
+abbrev pub Asked : List ℕ → List ℕ → (ℕ → Type 0) → (ℕ → ℕ → ℤ) → List ℤ → List ℕ → List ℕ → ℕ → ℕ → ℕ → Type 0
+Asked flags fills Room part masses marks off low b o =
+    (b < length marks) × Dir 18 o × ((getD marks b 0 ≡ 0 → ⊥) → Giver flags fills Room part masses off low b × (targetAt flags off (b - low) o ≡ true))
 
 -- one more term of a sum that counts from 1
 pub sum-more : (f : ℕ → ℤ) (i : ℕ) → 1 ≤ i → sum (i - 1) f +ℤ f (i - 1) ≡ sum (i + 1 - 1) f
@@ -38,19 +38,19 @@ unfolding sum
 sum-more f i h = let e : suc (i - 1) ≡ i + 1 - 1 = omega arith in ap (λ (n : ℕ). sum n f) e
 
 -- a call's answer is what is sent from direction i
-pub sent-at : (flags fills : List ℕ) (parts masses : List ℤ) (marks off : List ℕ) (low k i o : ℕ) → 1 ≤ i → o ≡ d3q19 .opp i
-    → giftFrom flags fills parts masses marks off low (k + getD off i 0) o ≡ sent flags fills parts masses marks off low k (i - 1)
-sent-at flags fills parts masses marks off low k i o h e =
+pub sent-at : (flags fills : List ℕ) (part : ℕ → ℕ → ℤ) (masses : List ℤ) (marks off : List ℕ) (low k i o : ℕ) → 1 ≤ i → o ≡ d3q19 .opp i
+    → giftFrom flags fills part masses marks off low (k + getD off i 0) o ≡ sent flags fills part masses marks off low k (i - 1)
+sent-at flags fills part masses marks off low k i o h e =
     let n : i ≡ suc (i - 1) = omega arith in
-    ap (giftFrom flags fills parts masses marks off low (k + getD off i 0)) e
-    ∙ ap (λ (j : ℕ). giftFrom flags fills parts masses marks off low (k + getD off j 0) (d3q19 .opp j)) n
+    ap (giftFrom flags fills part masses marks off low (k + getD off i 0)) e
+    ∙ ap (λ (j : ℕ). giftFrom flags fills part masses marks off low (k + getD off j 0) (d3q19 .opp j)) n
 
 opp-dir : (i : ℕ) → Dir 18 i → Dir 18 (d3q19 .opp i)
 unfolding d3q19
 opp-dir i d = paired19 .dir i d
 
-module _ {flags fills : List ℕ} {parts masses : List ℤ} {marks off : List ℕ} {low : ℕ} (g : Giving flags fills parts masses marks off low) (c : ℕ) (h : c < length flags) (f : getD flags c 0 ≡ 1) where
-  pub asked : (i : ℕ) → Dir 18 i → Asked flags fills parts masses marks off low (c - low + getD off i 0) (d3q19 .opp i)
+module _ {flags fills : List ℕ} {Room : ℕ → Type 0} {part : ℕ → ℕ → ℤ} {masses : List ℤ} {marks off : List ℕ} {low : ℕ} (g : Giving flags fills Room part masses marks off low) (c : ℕ) (h : c < length flags) (f : getD flags c 0 ≡ 1) where
+  pub asked : (i : ℕ) → Dir 18 i → Asked flags fills Room part masses marks off low (c - low + getD off i 0) (d3q19 .opp i)
   unfolding targetAt
   asked i d =
       let l : c - low + getD off i 0 < length flags = g .taker c h f .each i (omega (arith, d .most)) in (
@@ -59,26 +59,26 @@ module _ {flags fills : List ℕ} {parts masses : List ℤ} {marks off : List �
         λ m. (g .giver (c - low + getD off i 0) l m, eq-eqb _ 1 (ap (λ (j : ℕ). getD flags j 0) (g .returns c i h f d m) ∙ f)),
       )
 
-  pub sent-in : (a : ℕ) → a < 18 → Within (sent flags fills parts masses marks off low (c - low) a) 92012544
+  pub sent-in : (a : ℕ) → a < 18 → Within (sent flags fills part masses marks off low (c - low) a) 92012544
   sent-in a l =
       let q = asked (suc a) (as-dir l) in
-      from-in flags fills parts masses off low marks (c - low + getD off (suc a) 0) (d3q19 .opp (suc a)) (λ m. q .2 m .0) (q .1)
+      from-in flags fills part masses off low marks (c - low + getD off (suc a) 0) (d3q19 .opp (suc a)) (λ m. q .2 m .0) (q .1)
 
   -- so far
-  pub sum-in : (n : ℕ) → n ≤ 18 → Within (sum n (sent flags fills parts masses marks off low (c - low))) 1656225792
+  pub sum-in : (n : ℕ) → n ≤ 18 → Within (sum n (sent flags fills part masses marks off low (c - low))) 1656225792
   sum-in n l =
       record {
-        abs = omega (arith, sum-abs n (sent flags fills parts masses marks off low (c - low)) 92012544 (λ a k. sent-in a (omega arith) .abs), mul-le-mul-right 92012544 l);
+        abs = omega (arith, sum-abs n (sent flags fills part masses marks off low (c - low)) 92012544 (λ a k. sent-in a (omega arith) .abs), mul-le-mul-right 92012544 l);
       }
 
-  pub received-in : Within (receivedAt flags fills parts masses marks off low c) 1656225792
+  pub received-in : Within (receivedAt flags fills part masses marks off low c) 1656225792
   unfolding receivedAt
   received-in = sum-in 18 (omega arith)
 
 -- ---- masses that changed at takers alone
-module _ {flags fills : List ℕ} {parts masses₀ : List ℤ} {marks off : List ℕ} {low : ℕ} (g : Giving flags fills parts masses₀ marks off low) (masses : List ℤ)
+module _ {flags fills : List ℕ} {Room : ℕ → Type 0} {part : ℕ → ℕ → ℤ} {masses₀ : List ℤ} {marks off : List ℕ} {low : ℕ} (g : Giving flags fills Room part masses₀ marks off low) (masses : List ℤ)
     (size : length masses ≡ length masses₀) (same : (j : ℕ) → j < length flags → (getD marks j 0 ≡ 0 → ⊥) → getD masses j (pos 0) ≡ getD masses₀ j (pos 0)) where
-  giver-still : (c : ℕ) → c < length flags → (getD marks c 0 ≡ 0 → ⊥) → Giver flags fills parts masses off low c
+  giver-still : (c : ℕ) → c < length flags → (getD marks c 0 ≡ 0 → ⊥) → Giver flags fills Room part masses off low c
   giver-still c h m =
       let v = g .giver c h m in
       record {
@@ -93,7 +93,7 @@ module _ {flags fills : List ℕ} {parts masses₀ : List ℤ} {marks off : List
         };
       }
 
-  pub giving-still : Giving flags fills parts masses marks off low
+  pub giving-still : Giving flags fills Room part masses marks off low
   giving-still = record {
     masses-there = size ∙ g .masses-there;
     marks-there = g .marks-there;
@@ -103,29 +103,29 @@ module _ {flags fills : List ℕ} {parts masses₀ : List ℤ} {marks off : List
     returns = g .returns;
   }
 
-  from-still : (b i : ℕ) → b < length flags → giftFrom flags fills parts masses marks off low b i ≡ giftFrom flags fills parts masses₀ marks off low b i
+  from-still : (b i : ℕ) → b < length flags → giftFrom flags fills part masses marks off low b i ≡ giftFrom flags fills part masses₀ marks off low b i
   unfolding giftFrom giftAt excessAt
   from-still b i h = go (eqb (getD marks b 0) 0) refl
     where
       go : (t : Bool) → eqb (getD marks b 0) 0 ≡ t
-          → cond t (pos 0) (giftAt flags fills parts masses off low b (getD marks b 0) i) ≡ cond t (pos 0) (giftAt flags fills parts masses₀ off low b (getD marks b 0) i)
+          → cond t (pos 0) (giftAt flags fills part masses off low b (getD marks b 0) i) ≡ cond t (pos 0) (giftAt flags fills part masses₀ off low b (getD marks b 0) i)
       go true e = refl
       go false e =
-          ap (λ (z : ℤ). share 18 (cond (eqb (getD marks b 0) 1) (z -ℤ densityAt parts b) z) (weightAt flags fills off (b - low) (getD marks b 0)) i)
+          ap (λ (z : ℤ). share 18 (cond (eqb (getD marks b 0) 1) (z -ℤ densityAt part b) z) (weightAt flags fills off (b - low) (getD marks b 0)) i)
           (same b h (eqb-false (getD marks b 0) 0 e))
 
-  pub received-still : (c : ℕ) → c < length flags → getD flags c 0 ≡ 1 → receivedAt flags fills parts masses marks off low c ≡ receivedAt flags fills parts masses₀ marks off low c
+  pub received-still : (c : ℕ) → c < length flags → getD flags c 0 ≡ 1 → receivedAt flags fills part masses marks off low c ≡ receivedAt flags fills part masses₀ marks off low c
   unfolding receivedAt
   received-still c h f =
-      sum-cong 18 (sent flags fills parts masses marks off low (c - low)) (sent flags fills parts masses₀ marks off low (c - low))
+      sum-cong 18 (sent flags fills part masses marks off low (c - low)) (sent flags fills part masses₀ marks off low (c - low))
       (λ a k. from-still (c - low + getD off (suc a) 0) (d3q19 .opp (suc a)) (g .taker c h f .each (suc a) (omega arith)))
 
 -- ---- the loop: cells before c have taken
-module _ {flags fills : List ℕ} {parts masses₀ : List ℤ} {marks off : List ℕ} {low : ℕ} (g : Giving flags fills parts masses₀ marks off low) where
+module _ {flags fills : List ℕ} {Room : ℕ → Type 0} {part : ℕ → ℕ → ℤ} {masses₀ : List ℤ} {marks off : List ℕ} {low : ℕ} (g : Giving flags fills Room part masses₀ marks off low) where
   abbrev pub taking : ℕ → ℤ
-  taking = gatheredAt flags fills parts masses₀ marks off low
+  taking = gatheredAt flags fills part masses₀ marks off low
 
-  pub took : (c : ℕ) → getD flags c 0 ≡ 1 → getD masses₀ c (pos 0) +ℤ receivedAt flags fills parts masses₀ marks off low c ≡ taking c
+  pub took : (c : ℕ) → getD flags c 0 ≡ 1 → getD masses₀ c (pos 0) +ℤ receivedAt flags fills part masses₀ marks off low c ≡ taking c
   unfolding gatheredAt
   took c f = sym (cond-yes _ (getD masses₀ c (pos 0)) (eq-eqb (getD flags c 0) 1 f))
 
@@ -151,7 +151,7 @@ pub in-range : (f : ℕ → ℤ) (old : List ℤ) (n j : ℕ) → j < n → rang
 in-range f old n j h = cond-yes (f j) (getD old j (pos 0)) (and-true (leb 0 j) (ltb j n) (le-leb 0 j (omega arith)) (lt-ltb j n h))
 
 -- the offsets that the code has are the grid's
-pub giving-as : {flags fills : List ℕ} {parts masses : List ℤ} {marks off off′ : List ℕ} {low low′ : ℕ} → off ≡ off′ → low ≡ low′
-    → Giving flags fills parts masses marks off′ low′ → Giving flags fills parts masses marks off low
-giving-as {flags} {fills} {parts} {masses} {marks} {off} {off′} {low} {low′} p q g =
-    subst (λ (o : List ℕ). Giving flags fills parts masses marks o low) (sym p) (subst (λ (n : ℕ). Giving flags fills parts masses marks off′ n) (sym q) g)
+pub giving-as : {flags fills : List ℕ} {Room : ℕ → Type 0} {part : ℕ → ℕ → ℤ} {masses : List ℤ} {marks off off′ : List ℕ} {low low′ : ℕ} → off ≡ off′ → low ≡ low′
+    → Giving flags fills Room part masses marks off′ low′ → Giving flags fills Room part masses marks off low
+giving-as {flags} {fills} {Room} {part} {masses} {marks} {off} {off′} {low} {low′} p q g =
+    subst (λ (o : List ℕ). Giving flags fills Room part masses marks o low) (sym p) (subst (λ (n : ℕ). Giving flags fills Room part masses marks off′ n) (sym q) g)

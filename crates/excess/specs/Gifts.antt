@@ -1,5 +1,5 @@
 -- Stage 6 over the lists that its functions are lent: the new flags, the old fills, the parts and masses on the way, the settled marks, and the offsets
--- of neighbours. Each is Step's formula over lists; proofs/Given has one law each that turns it into the step's scene. Assumes nothing.
+-- of neighbours. Each is Step's formula over lists, and over parts as a function of cell and direction; turn's proofs/Given has one law each that turns it into the step's scene. Assumes nothing.
 use mathlib.Core.Path.{_≡_}
 use mathlib.Core.Bool.{Bool, true, cond}
 use mathlib.Core.List.{List}
@@ -7,18 +7,14 @@ use Prim.Native.Nat.{ℕ, zero, suc, _+_, _-_, _*_, _/_, _%_, _≤_, _<_}
 use lib.IntN.{ℤ, pos, negℤ, _+ℤ_, _-ℤ_}
 use lib.Dec.{eqb}
 use lib.ListN.{length, getD, set, replicate}
-use Rattle.whole.specs.Fold.{dirs, anyDir, first, tab}
+use Rattle.whole.specs.Fold.{dirs, anyDir, tab}
 use Rattle.whole.specs.Machine.{Within}
 use Rattle.whole.specs.Search.{Dir}
 use Rattle.lattice.specs.Lattice.{V3, dot, d3q19, density}
 use Rattle.lattice.specs.Cell.{positive, isPositive, share}
-use Rattle.lattice.specs.declared.Settings.{Settings}
 use Rattle.grid.specs.declared.Sides.{Sides}
+use Rattle.grid.specs.Fill.{partOf}
 use Rattle.grid.specs.Grid.{cellsOf, sidesGood}
-use Rattle.grid.specs.State.{Lent}
-use Rattle.grid.specs.Step.{tooFast, newFlag}
-use Rattle.grid.specs.Outcome.{sceneOf}
-use Rattle.grid.specs.Between.{Poised, movedMass, settledMark, bornPart}
 use Rattle.grid.specs.Passes.{lowOf, offsetOf, normalAt}
 use Rattle.grid.specs.Sight.{Around}
 use Rattle.grid.specs.Pasted.{pasted}
@@ -58,48 +54,48 @@ ofDir f (suc a) = f (suc a)
 -- ---- gifts
 
 -- ρ' of cell c
-unfoldable pub densityAt : List ℤ → ℕ → ℤ
-densityAt parts c = density d3q19 (λ k. getD parts (19 * c + k) (pos 0))
+unfoldable pub densityAt : (ℕ → ℕ → ℤ) → ℕ → ℤ
+densityAt part c = density d3q19 (part c)
 
 -- of a cell with mark m: mass less density for a filled one, the mass for an emptied one
-unfoldable pub excessAt : List ℤ → List ℤ → ℕ → ℕ → ℤ
-excessAt parts masses m c = cond (eqb m 1) (getD masses c (pos 0) -ℤ densityAt parts c) (getD masses c (pos 0))
+unfoldable pub excessAt : (ℕ → ℕ → ℤ) → List ℤ → ℕ → ℕ → ℤ
+excessAt part masses m c = cond (eqb m 1) (getD masses c (pos 0) -ℤ densityAt part c) (getD masses c (pos 0))
 
 -- what cell c with mark m gives in direction i, where it has a target
-unfoldable pub giftAt : List ℕ → List ℕ → List ℤ → List ℤ → List ℕ → ℕ → ℕ → ℕ → ℕ → ℤ
-giftAt flags fills parts masses off low c m i = share 18 (excessAt parts masses m c) (weightAt flags fills off (c - low) m) i
+unfoldable pub giftAt : List ℕ → List ℕ → (ℕ → ℕ → ℤ) → List ℤ → List ℕ → ℕ → ℕ → ℕ → ℕ → ℤ
+giftAt flags fills part masses off low c m i = share 18 (excessAt part masses m c) (weightAt flags fills off (c - low) m) i
 
-unfoldable pub giftFrom : List ℕ → List ℕ → List ℤ → List ℤ → List ℕ → List ℕ → ℕ → ℕ → ℕ → ℤ
-giftFrom flags fills parts masses marks off low b i =
-    cond (eqb (getD marks b 0) 0) (pos 0) (giftAt flags fills parts masses off low b (getD marks b 0) i)
+unfoldable pub giftFrom : List ℕ → List ℕ → (ℕ → ℕ → ℤ) → List ℤ → List ℕ → List ℕ → ℕ → ℕ → ℕ → ℤ
+giftFrom flags fills part masses marks off low b i =
+    cond (eqb (getD marks b 0) 0) (pos 0) (giftAt flags fills part masses off low b (getD marks b 0) i)
 
 -- what the neighbours give to c
-unfoldable pub receivedAt : List ℕ → List ℕ → List ℤ → List ℤ → List ℕ → List ℕ → ℕ → ℕ → ℤ
-receivedAt flags fills parts masses marks off low c =
-    dirs 18 (λ i. giftFrom flags fills parts masses marks off low (c - low + getD off i 0) (d3q19 .opp i))
+unfoldable pub receivedAt : List ℕ → List ℕ → (ℕ → ℕ → ℤ) → List ℤ → List ℕ → List ℕ → ℕ → ℕ → ℤ
+receivedAt flags fills part masses marks off low c =
+    dirs 18 (λ i. giftFrom flags fills part masses marks off low (c - low + getD off i 0) (d3q19 .opp i))
 
-unfoldable pub gatheredAt : List ℕ → List ℕ → List ℤ → List ℤ → List ℕ → List ℕ → ℕ → ℕ → ℤ
-gatheredAt flags fills parts masses marks off low c =
-    cond (eqb (getD flags c 0) 1) (getD masses c (pos 0) +ℤ receivedAt flags fills parts masses marks off low c) (getD masses c (pos 0))
+unfoldable pub gatheredAt : List ℕ → List ℕ → (ℕ → ℕ → ℤ) → List ℤ → List ℕ → List ℕ → ℕ → ℕ → ℤ
+gatheredAt flags fills part masses marks off low c =
+    cond (eqb (getD flags c 0) 1) (getD masses c (pos 0) +ℤ receivedAt flags fills part masses marks off low c) (getD masses c (pos 0))
 
 -- ---- what joins the carry: the excess of a marked cell with no target
 
-unfoldable pub lostAt : List ℕ → List ℤ → List ℤ → List ℕ → ℕ → ℕ → ℕ → ℤ
-lostAt flags parts masses off low c m = cond (anyDir 18 (targetAt flags off (c - low))) (pos 0) (excessAt parts masses m c)
+unfoldable pub lostAt : List ℕ → (ℕ → ℕ → ℤ) → List ℤ → List ℕ → ℕ → ℕ → ℕ → ℤ
+lostAt flags part masses off low c m = cond (anyDir 18 (targetAt flags off (c - low))) (pos 0) (excessAt part masses m c)
 
-unfoldable pub strayAt : List ℕ → List ℤ → List ℤ → List ℕ → List ℕ → ℕ → ℕ → ℤ
-strayAt flags parts masses marks off low c =
-    cond (eqb (getD marks c 0) 0) (pos 0) (lostAt flags parts masses off low c (getD marks c 0))
+unfoldable pub strayAt : List ℕ → (ℕ → ℕ → ℤ) → List ℤ → List ℕ → List ℕ → ℕ → ℕ → ℤ
+strayAt flags part masses marks off low c =
+    cond (eqb (getD marks c 0) 0) (pos 0) (lostAt flags part masses off low c (getD marks c 0))
 
 -- ---- marked cells come to their own: a filled cell's mass is its density, an emptied cell is all zero
 
-unfoldable pub settledMass : List ℤ → List ℤ → List ℕ → ℕ → ℤ
-settledMass parts masses marks c =
-    cond (eqb (getD marks c 0) 0) (getD masses c (pos 0)) (cond (eqb (getD marks c 0) 1) (densityAt parts c) (pos 0))
+unfoldable pub settledMass : (ℕ → ℕ → ℤ) → List ℤ → List ℕ → ℕ → ℤ
+settledMass part masses marks c =
+    cond (eqb (getD marks c 0) 0) (getD masses c (pos 0)) (cond (eqb (getD marks c 0) 1) (densityAt part c) (pos 0))
 
-unfoldable pub settledPart : List ℤ → List ℕ → ℕ → ℕ → ℤ
-settledPart parts marks c k =
-    cond (eqb (getD marks c 0) 0) (getD parts (19 * c + k) (pos 0)) (cond (eqb (getD marks c 0) 1) (getD parts (19 * c + k) (pos 0)) (pos 0))
+unfoldable pub settledPart : (ℕ → ℕ → ℤ) → List ℕ → ℕ → ℕ → ℤ
+settledPart part marks c k =
+    cond (eqb (getD marks c 0) 0) (part c k) (cond (eqb (getD marks c 0) 1) (part c k) (pos 0))
 
 -- ---- what is asked of the lists
 
@@ -111,31 +107,35 @@ Near n off k = (i : ℕ) → i < 19 → k + getD off i 0 < n
 abbrev pub Filled : List ℕ → Type 0
 Filled fills = (j : ℕ) → getD fills j 0 ≤ 65536
 
--- cell c has nineteen parts that can be added up
-pub record Parts (parts : List ℤ) (c : ℕ) : Type 0 where
-  pub there : 19 * c + 19 ≤ length parts
-  pub rest : Within (getD parts (19 * c) (pos 0)) 1073741824
-  pub at : (k : ℕ) → 0 < k → k < 19 → Within (getD parts (19 * c + k) (pos 0)) 33554432
+-- cell c has parts that can be added up; Room says that the list they lie in holds them
+pub record Parts (Room : ℕ → Type 0) (part : ℕ → ℕ → ℤ) (c : ℕ) : Type 0 where
+  pub there : Room c
+  pub rest : Within (part c 0) 1073741824
+  pub at : (k : ℕ) → 0 < k → k < 19 → Within (part c k) 33554432
+
+-- in the box nineteen of them
+abbrev pub roomOf : List ℤ → ℕ → Type 0
+roomOf parts c = 19 * c + 19 ≤ length parts
 
 -- cell c has a mass and a density whose difference is an excess
-pub record Weighed (parts masses : List ℤ) (c : ℕ) : Type 0 where
+pub record Weighed (Room : ℕ → Type 0) (part : ℕ → ℕ → ℤ) (masses : List ℤ) (c : ℕ) : Type 0 where
   pub there : c < length masses
-  pub parts-in : Parts parts c
+  pub parts-in : Parts Room part c
   pub mass-in : Within (getD masses c (pos 0)) 44826624
-  pub density-in : Within (densityAt parts c) 1179648
+  pub density-in : Within (densityAt part c) 1179648
 
 -- cell c can give: it is weighed, and flags and fills are known all round
-pub record Giver (flags fills : List ℕ) (parts masses : List ℤ) (off : List ℕ) (low c : ℕ) : Type 0 where
+pub record Giver (flags fills : List ℕ) (Room : ℕ → Type 0) (part : ℕ → ℕ → ℤ) (masses : List ℤ) (off : List ℕ) (low c : ℕ) : Type 0 where
   pub around : Around (length flags) off low c
   pub fills-there : length fills ≡ length flags
   pub fills-in : Filled fills
-  pub weighed : Weighed parts masses c
+  pub weighed : Weighed Room part masses c
 
 -- marked cells can give; cells of new flag 1 can take, are not marked, and each marked neighbour gives towards them
-pub record Giving (flags fills : List ℕ) (parts masses : List ℤ) (marks off : List ℕ) (low : ℕ) : Type 0 where
+pub record Giving (flags fills : List ℕ) (Room : ℕ → Type 0) (part : ℕ → ℕ → ℤ) (masses : List ℤ) (marks off : List ℕ) (low : ℕ) : Type 0 where
   pub masses-there : length masses ≡ length flags
   pub marks-there : length marks ≡ length flags
-  pub giver : (c : ℕ) → c < length flags → (getD marks c 0 ≡ 0 → ⊥) → Giver flags fills parts masses off low c
+  pub giver : (c : ℕ) → c < length flags → (getD marks c 0 ≡ 0 → ⊥) → Giver flags fills Room part masses off low c
   pub taker : (c : ℕ) → c < length flags → getD flags c 0 ≡ 1 → Around (length flags) off low c
   pub apart : (c : ℕ) → c < length flags → getD flags c 0 ≡ 1 → getD marks c 0 ≡ 0
   pub returns : (c i : ℕ) → c < length flags → getD flags c 0 ≡ 1 → Dir 18 i → (getD marks (c - low + getD off i 0) 0 ≡ 0 → ⊥)
@@ -145,7 +145,7 @@ pub record Giving (flags fills : List ℕ) (parts masses : List ℤ) (marks off 
 pub record Gathering (s : Sides) (flags fills : List ℕ) (parts masses : List ℤ) (marks : List ℕ) : Type 0 where
   pub sides : sidesGood s ≡ true
   pub count : length flags ≡ cellsOf s
-  pub giving : Giving flags fills parts masses marks (tab 19 (offsetOf s)) (lowOf s)
+  pub giving : Giving flags fills (roomOf parts) (partOf parts) masses marks (tab 19 (offsetOf s)) (lowOf s)
   pub taken : (c : ℕ) → c < length flags → getD flags c 0 ≡ 1 → Within (getD masses c (pos 0)) 44826624
 
 -- what the pass that works out the carry asks: marked cells are weighed, with flags all round
@@ -154,35 +154,25 @@ pub record Straying (s : Sides) (flags : List ℕ) (parts masses : List ℤ) (ma
   pub count : length flags ≡ cellsOf s
   pub marks-there : length marks ≡ length flags
   pub around : (c : ℕ) → c < length flags → (getD marks c 0 ≡ 0 → ⊥) → Around (length flags) (tab 19 (offsetOf s)) (lowOf s) c
-  pub weighed : (c : ℕ) → c < length flags → (getD marks c 0 ≡ 0 → ⊥) → Weighed parts masses c
+  pub weighed : (c : ℕ) → c < length flags → (getD marks c 0 ≡ 0 → ⊥) → Weighed (roomOf parts) (partOf parts) masses c
 
 -- marked cells have parts that can be added up
 pub record Settling (parts masses : List ℤ) (marks : List ℕ) : Type 0 where
   pub few : length marks ≤ 262144
   pub parts-there : length parts ≡ 19 * length marks
   pub masses-there : length masses ≡ length marks
-  pub each : (c : ℕ) → c < length marks → (getD marks c 0 ≡ 0 → ⊥) → Parts parts c
+  pub each : (c : ℕ) → c < length marks → (getD marks c 0 ≡ 0 → ⊥) → Parts (roomOf parts) (partOf parts) c
 
 -- one marked cell settled: a filled one gets its mass, an emptied one is cleared
 pub record CellSettled (m c : ℕ) (parts masses parts′ masses′ : List ℤ) : Type 0 where
   pub parts-are : parts′ ≡ cond (eqb m 1) parts (pasted parts (19 * c) (replicate 19 (pos 0)))
-  pub masses-are : masses′ ≡ set masses c (cond (eqb m 1) (densityAt parts c) (pos 0))
+  pub masses-are : masses′ ≡ set masses c (cond (eqb m 1) (densityAt (partOf parts) c) (pos 0))
 
 -- all cells settled, and no mark left
 pub record Settled (parts masses : List ℤ) (marks : List ℕ) (parts′ masses′ : List ℤ) (marks′ : List ℕ) : Type 0 where
-  pub parts-are : parts′ ≡ tab (19 * length marks) (λ m. settledPart parts marks (m / 19) (m % 19))
-  pub masses-are : masses′ ≡ tab (length marks) (settledMass parts masses marks)
+  pub parts-are : parts′ ≡ tab (19 * length marks) (λ m. settledPart (partOf parts) marks (m / 19) (m % 19))
+  pub masses-are : masses′ ≡ tab (length marks) (settledMass (partOf parts) masses marks)
   pub marks-are : marks′ ≡ replicate (length marks) 0
-
--- ---- where stage 6 begins: from a good state that passed test 7, with flags, newborn parts, masses and settled marks in their places
-pub record Midway (s : Sides) (g : Settings) (a : Lent) (flags fills : List ℕ) (parts masses : List ℤ) (marks : List ℕ) : Type 0 where
-  pub poised : Poised s g a
-  pub steady : cellsOf s ≤ first (cellsOf s) (tooFast (sceneOf s g a))
-  pub fills-are : fills ≡ a .fills
-  pub flags-are : flags ≡ tab (cellsOf s) (newFlag (sceneOf s g a))
-  pub parts-are : parts ≡ tab (19 * cellsOf s) (λ m. bornPart (sceneOf s g a) (m / 19) (m % 19))
-  pub masses-are : masses ≡ tab (cellsOf s) (movedMass (sceneOf s g a))
-  pub marks-are : marks ≡ tab (cellsOf s) (settledMark (sceneOf s g a))
 
 -- names every definition of this file: whoever unfolds this computes with all of them
 unfoldable pub open-gifts : Unit {0}

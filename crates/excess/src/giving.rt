@@ -17,7 +17,8 @@ ghost use Rattle.whole.specs.Search.{Dir};
 ghost use Rattle.lattice.specs.Lattice.{d3q19};
 ghost use Rattle.grid.specs.Grid.{cellsOf};
 ghost use Rattle.grid.specs.Passes.{lowOf, offsetOf};
-ghost use Rattle.excess.specs.Gifts.{Weighed, Giver, Giving, Gathering, targetAt, excessAt, giftAt, giftFrom, receivedAt, gatheredAt};
+ghost use Rattle.grid.specs.Fill.{partOf};
+ghost use Rattle.excess.specs.Gifts.{roomOf, Weighed, Giver, Giving, Gathering, targetAt, excessAt, giftAt, giftFrom, receivedAt, gatheredAt};
 
 // The opposite of odd i is i + 1.
 fn opposite(i: usize) -> usize
@@ -32,8 +33,8 @@ fn opposite(i: usize) -> usize
 
 // The excess of cell c with mark m: mass less density for a filled cell, the mass for an emptied one.
 pub(crate) fn excess(parts: &[i32], masses: &[i32], m: u8, c: usize) -> i64
-    requires { ⌜ Weighed (now parts) (now masses) c ⌝ }
-    ensures { λ r. ⌜ r ≡ excessAt (now (parts .entry)) (now (masses .entry)) m c ⌝ }
+    requires { ⌜ Weighed (roomOf (now parts)) (partOf (now parts)) (now masses) c ⌝ }
+    ensures { λ r. ⌜ r ≡ excessAt (partOf (now (parts .entry))) (now (masses .entry)) m c ⌝ }
 {
     if m == 1 {
         return wide(masses[c]) - wide(density(own(parts, c)));
@@ -53,8 +54,8 @@ fn gift(
     m: u8,
     i: usize,
 ) -> i64
-    requires { ⌜ Giver (now flags) (now fill) (now parts) (now masses) (now off) low c × Dir 18 i × (targetAt (now flags) (now off) (c - low) i ≡ true) ⌝ }
-    ensures { λ r. ⌜ r ≡ giftAt (now (flags .entry)) (now (fill .entry)) (now (parts .entry)) (now (masses .entry)) (now (off .entry)) low c m i ⌝ }
+    requires { ⌜ Giver (now flags) (now fill) (roomOf (now parts)) (partOf (now parts)) (now masses) (now off) low c × Dir 18 i × (targetAt (now flags) (now off) (c - low) i ≡ true) ⌝ }
+    ensures { λ r. ⌜ r ≡ giftAt (now (flags .entry)) (now (fill .entry)) (partOf (now (parts .entry))) (now (masses .entry)) (now (off .entry)) low c m i ⌝ }
 {
     let w = used_weights(flags, fill, off, c - low, m);
     given(excess(parts, masses, m, c), w, i)
@@ -72,8 +73,8 @@ fn gift_from(
     b: usize,
     i: usize,
 ) -> i64
-    requires { ⌜ (b < length (now marks)) × Dir 18 i × ((getD (now marks) b 0 ≡ 0 → ⊥) → Giver (now flags) (now fill) (now parts) (now masses) (now off) low b × (targetAt (now flags) (now off) (b - low) i ≡ true)) ⌝ }
-    ensures { λ r. ⌜ r ≡ giftFrom (now (flags .entry)) (now (fill .entry)) (now (parts .entry)) (now (masses .entry)) (now (marks .entry)) (now (off .entry)) low b i ⌝ }
+    requires { ⌜ (b < length (now marks)) × Dir 18 i × ((getD (now marks) b 0 ≡ 0 → ⊥) → Giver (now flags) (now fill) (roomOf (now parts)) (partOf (now parts)) (now masses) (now off) low b × (targetAt (now flags) (now off) (b - low) i ≡ true)) ⌝ }
+    ensures { λ r. ⌜ r ≡ giftFrom (now (flags .entry)) (now (fill .entry)) (partOf (now (parts .entry))) (now (masses .entry)) (now (marks .entry)) (now (off .entry)) low b i ⌝ }
 {
     let m = marks[b];
     if m == 0 {
@@ -93,8 +94,8 @@ fn gifts(
     low: usize,
     c: usize,
 ) -> i64
-    requires { ⌜ Giving (now flags) (now fill) (now parts) (now masses) (now marks) (now off) low × (c < length (now flags)) × (getD (now flags) c 0 ≡ 1) ⌝ }
-    ensures { λ r. ⌜ r ≡ receivedAt (now (flags .entry)) (now (fill .entry)) (now (parts .entry)) (now (masses .entry)) (now (marks .entry)) (now (off .entry)) low c ⌝ }
+    requires { ⌜ Giving (now flags) (now fill) (roomOf (now parts)) (partOf (now parts)) (now masses) (now marks) (now off) low × (c < length (now flags)) × (getD (now flags) c 0 ≡ 1) ⌝ }
+    ensures { λ r. ⌜ r ≡ receivedAt (now (flags .entry)) (now (fill .entry)) (partOf (now (parts .entry))) (now (masses .entry)) (now (marks .entry)) (now (off .entry)) low c ⌝ }
 {
     let k = c - low;
     let mut t: i64 = 0;
@@ -119,7 +120,7 @@ fn gifts(
 // Pass 6: each interface cell takes what its converted neighbours give. It reads masses of converted cells and writes others.
 pub fn gather(flags: &[u8], fill: &[u32], parts: &[i32], masses: &mut [i32], marks: &[u8], s: Sides)
     requires { ⌜ Gathering s (now flags) (now fill) (now parts) (now masses) (now marks) ⌝ }
-    ensures { λ r. ⌜ now (masses .exit) ≡ tab (cellsOf s) (gatheredAt (now (flags .entry)) (now (fill .entry)) (now (parts .entry)) (now (masses .entry)) (now (marks .entry)) (tab 19 (offsetOf s)) (lowOf s)) ⌝ }
+    ensures { λ r. ⌜ now (masses .exit) ≡ tab (cellsOf s) (gatheredAt (now (flags .entry)) (now (fill .entry)) (partOf (now (parts .entry))) (now (masses .entry)) (now (marks .entry)) (tab 19 (offsetOf s)) (lowOf s)) ⌝ }
 {
     let off = offsets(s);
     let low = low_of(s);

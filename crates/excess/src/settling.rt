@@ -5,11 +5,12 @@ use grid::seeking::next_marked;
 use lattice::moments::density;
 ghost use Prim.Native.Nat.{_<_};
 ghost use lib.ListN.{length};
-ghost use Rattle.excess.specs.Gifts.{Parts, CellSettled, Settling, Settled};
+ghost use Rattle.grid.specs.Fill.{partOf};
+ghost use Rattle.excess.specs.Gifts.{roomOf, Parts, CellSettled, Settling, Settled};
 
 // A filled cell's mass is its density, an emptied cell is all zero.
 fn settle_cell(parts: &mut [i32], masses: &mut [i32], c: usize, m: u8)
-    requires { ⌜ Parts (now parts) c × (c < length (now masses)) ⌝ }
+    requires { ⌜ Parts (roomOf (now parts)) (partOf (now parts)) c × (c < length (now masses)) ⌝ }
     ensures { λ r. ⌜ CellSettled m c (now (parts .entry)) (now (masses .entry)) (now (parts .exit)) (now (masses .exit)) ⌝ }
 {
     if m == 1 {

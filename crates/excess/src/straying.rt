@@ -15,7 +15,8 @@ ghost use Rattle.whole.specs.Machine.{Within};
 ghost use Rattle.grid.specs.Grid.{cellsOf};
 ghost use Rattle.grid.specs.Passes.{lowOf, offsetOf};
 ghost use Rattle.grid.specs.Sight.{Around};
-ghost use Rattle.excess.specs.Gifts.{Weighed, Straying, lostAt, strayAt};
+ghost use Rattle.grid.specs.Fill.{partOf};
+ghost use Rattle.excess.specs.Gifts.{roomOf, Weighed, Straying, lostAt, strayAt};
 
 // What cell c with mark m has left for no one.
 fn lost(
@@ -27,8 +28,8 @@ fn lost(
     c: usize,
     m: u8,
 ) -> i64
-    requires { ⌜ Around (length (now flags)) (now off) low c × Weighed (now parts) (now masses) c ⌝ }
-    ensures { λ r. ⌜ r ≡ lostAt (now (flags .entry)) (now (parts .entry)) (now (masses .entry)) (now (off .entry)) low c m ⌝ }
+    requires { ⌜ Around (length (now flags)) (now off) low c × Weighed (roomOf (now parts)) (partOf (now parts)) (now masses) c ⌝ }
+    ensures { λ r. ⌜ r ≡ lostAt (now (flags .entry)) (partOf (now (parts .entry))) (now (masses .entry)) (now (off .entry)) low c m ⌝ }
 {
     if total(evens(flags, off, c - low)) == 0 {
         return excess(parts, masses, m, c);
@@ -46,7 +47,7 @@ pub fn new_carry(
     s: Sides,
 ) -> i64
     requires { ⌜ Straying s (now flags) (now parts) (now masses) (now marks) × Within carry 1000000000000 ⌝ }
-    ensures { λ r. ⌜ r ≡ carry +ℤ sum (cellsOf s) (strayAt (now (flags .entry)) (now (parts .entry)) (now (masses .entry)) (now (marks .entry)) (tab 19 (offsetOf s)) (lowOf s)) ⌝ }
+    ensures { λ r. ⌜ r ≡ carry +ℤ sum (cellsOf s) (strayAt (now (flags .entry)) (partOf (now (parts .entry))) (now (masses .entry)) (now (marks .entry)) (tab 19 (offsetOf s)) (lowOf s)) ⌝ }
 {
     let off = offsets(s);
     let low = low_of(s);

@@ -1,9 +1,8 @@
 -- What streams into a cell, as the code reads it: by places, by pairs of directions, by the neighbour's flag. Assumes nothing.
 use mathlib.Core.Path.{_≡_, refl, sym, ap, ap₂, _∙_, subst}
 use mathlib.Core.Bool.{Bool, true, false, _||_, cond, false≢true}
-use mathlib.Core.List.{List}
+use mathlib.Core.List.{List, []}
 use Prim.Native.Nat.{ℕ, zero, suc, _+_, _-_, _*_, _%_, _≤_, _<_}
-use native.Mathlib.Nat.{add-zero}
 use native.Mathlib.Omega.{arith}
 use lib.Dec.{eqb}
 use lib.IntN.{ℤ, pos, _-ℤ_}
@@ -14,9 +13,9 @@ use Rattle.whole.specs.Tab.{getD-tab, tab-cong}
 use Rattle.lattice.specs.Lattice.{V3, dot, pairOpp, d3q19, density, momentum}
 use Rattle.lattice.specs.Cell.{gas}
 use Rattle.lattice.specs.declared.Settings.{Settings}
-use Rattle.grid.specs.State.{Scene, byFlag, liquid, stateOf}
+use Rattle.grid.specs.State.{Scene, byFlag, liquid}
 use Rattle.grid.specs.Step.{oldDensity, oldMomentum, leansTo, rebuilt, rebuild, arrives, streamed}
-use Rattle.grid.specs.Sight.{flowing, sight, Around}
+use Rattle.grid.specs.Sight.{sight, Around}
 use Rattle.flow.specs.Sources.{Mirrored, sourceOf, Immersed}
 
 -- ---- opposite directions: an odd one and the one after it
@@ -81,13 +80,10 @@ liquid-test (suc zero) = refl
 liquid-test (suc (suc zero)) = refl
 liquid-test (suc (suc (suc n))) = ap₂ (λ (a b : Bool). a || b) (ne-eqb (suc (suc (suc n))) 1 (λ e. omega arith)) (ne-eqb (suc (suc (suc n))) 2 (λ e. omega arith))
 
-module _ (flags : List ℕ) (parts : List ℤ) (fills off : List ℕ) (low : ℕ) (g : Settings) where
+-- over any parts and weights
+module _ (weights : ℕ → ℕ) (flags : List ℕ) (part : ℕ → ℕ → ℤ) (fills off : List ℕ) (low : ℕ) (g : Settings) where
   abbrev S : Scene
-  S = sight (flowing flags parts fills) off low g
-
-  -- part k of cell c
-  abbrev pub part : ℕ → ℕ → ℤ
-  part c k = getD parts (19 * c + k) (pos 0)
+  S = sight weights flags part [] fills off low g
 
   -- the neighbour in direction i
   abbrev pub beside : ℕ → ℕ → ℕ
@@ -95,19 +91,19 @@ module _ (flags : List ℕ) (parts : List ℤ) (fills off : List ℕ) (low : ℕ
 
   module _ (c b i k : ℕ) (e : b ≡ (c - low) + getD off i 0) where
     pub arrives-wall : 2 < getD flags b 3 → arrives S c i k ≡ part c i
-    unfolding arrives rebuilt sight stateOf
+    unfolding arrives rebuilt sight
     arrives-wall h = wall-case (getD flags (beside c i) 3) (leansTo S c i) (rebuild S c i) (part (beside c i) k) (part c i) (subst (λ (n : ℕ). 2 < getD flags n 3) e h)
 
     pub arrives-rebuilt : getD flags b 3 ≤ 2 → (eqb (getD flags b 3) 0 || leansTo S c i) ≡ true
         → arrives S c i k
-        ≡ gas (d3q19 .weight i) (density d3q19 (part c)) (dot (d3q19 .e i) (momentum d3q19 (part c))) (dot (momentum d3q19 (part c)) (momentum d3q19 (part c))) -ℤ part c i
-    unfolding arrives rebuilt rebuild oldDensity oldMomentum sight stateOf
+        ≡ gas (weights i) (density d3q19 (part c)) (dot (d3q19 .e i) (momentum d3q19 (part c))) (dot (momentum d3q19 (part c)) (momentum d3q19 (part c))) -ℤ part c i
+    unfolding arrives rebuilt rebuild oldDensity oldMomentum sight density momentum
     arrives-rebuilt h l =
         rebuilt-case (getD flags (beside c i) 3) (leansTo S c i) (rebuild S c i) (part (beside c i) k) (part c i)
         (subst (λ (n : ℕ). getD flags n 3 ≤ 2) e h) (subst (λ (n : ℕ). (eqb (getD flags n 3) 0 || leansTo S c i) ≡ true) e l)
 
     pub arrives-liquid : getD flags b 3 ≤ 2 → (eqb (getD flags b 3) 0 || leansTo S c i) ≡ false → arrives S c i k ≡ part b k
-    unfolding arrives rebuilt sight stateOf
+    unfolding arrives rebuilt sight
     arrives-liquid h l =
         liquid-case (getD flags (beside c i) 3) (leansTo S c i) (rebuild S c i) (part (beside c i) k) (part c i)
         (subst (λ (n : ℕ). getD flags n 3 ≤ 2) e h) (subst (λ (n : ℕ). (eqb (getD flags n 3) 0 || leansTo S c i) ≡ false) e l)
@@ -115,16 +111,16 @@ module _ (flags : List ℕ) (parts : List ℤ) (fills off : List ℕ) (low : ℕ
 
     -- a fluid cell leans nowhere
     pub arrives-straight : getD flags c 3 ≡ 2 → liquid (getD flags b 3) ≡ true → arrives S c i k ≡ part b k
-    unfolding leansTo sight stateOf
+    unfolding leansTo sight
     arrives-straight f h =
         let l : leansTo S c i ≡ false = rw f refl in
         let u = unleaning (getD flags b 3) (leansTo S c i) h l in
         arrives-liquid (u .0) (u .1)
 
   -- ---- part by part
-  pub streamed-rest : (c : ℕ) → streamed S c 0 ≡ getD parts (19 * c) (pos 0)
-  unfolding streamed sight stateOf
-  streamed-rest c = ap (λ (n : ℕ). getD parts n (pos 0)) (add-zero (19 * c))
+  pub streamed-rest : (c : ℕ) → streamed S c 0 ≡ part c 0
+  unfolding streamed sight
+  streamed-rest c = refl
 
   pub streamed-odd : (c i : ℕ) → i % 2 ≡ 1 → streamed S c i ≡ arrives S c (i + 1) i
   unfolding streamed sight d3q19
@@ -143,20 +139,20 @@ pub source-is : (off : List ℕ) (low i : ℕ) → Mirrored off low → i < 19 �
 unfolding sourceOf
 source-is off low i m h = omega (arith, m .pair i h)
 
--- with liquid all around, every part is read straight from its source
-module _ (flags : List ℕ) (parts : List ℤ) (fills off : List ℕ) (low : ℕ) (g : Settings) (m : Mirrored off low) (c : ℕ) (l : low ≤ c) (d : Immersed flags off low c) where
-  at-source : (k : ℕ) → 19 * (c - low) + sourceOf off k ≡ 19 * (c - low + getD off (pairOpp k) 0) + k
-  unfolding sourceOf
-  at-source k = omega arith
+-- where the box's list holds the part that streams straight into cell c
+pub at-source : (off : List ℕ) (low c k : ℕ) → 19 * (c - low) + sourceOf off k ≡ 19 * (c - low + getD off (pairOpp k) 0) + k
+unfolding sourceOf
+at-source off low c k = omega arith
 
-  pub streamed-straight : (k : ℕ) → k < 19 → getD parts (19 * (c - low) + sourceOf off k) (pos 0) ≡ streamed (sight (flowing flags parts fills) off low g) c k
-  unfolding streamed sight stateOf d3q19
+-- with liquid all around, every part comes straight from the cell opposite
+module _ (weights : ℕ → ℕ) (flags : List ℕ) (part : ℕ → ℕ → ℤ) (fills off : List ℕ) (low : ℕ) (g : Settings) (m : Mirrored off low) (c : ℕ) (l : low ≤ c) (d : Immersed flags off low c) where
+  pub streamed-straight : (k : ℕ) → k < 19 → part (c - low + getD off (pairOpp k) 0) k ≡ streamed (sight weights flags part [] fills off low g) c k
+  unfolding streamed sight d3q19
   streamed-straight zero h =
-      let z : 19 * (c - low + getD off 0 0) ≡ 19 * c = omega (arith, m .pair 0 h) in
-      ap (λ (n : ℕ). getD parts n (pos 0)) (at-source 0 ∙ ap (λ (n : ℕ). n + 0) z)
+      let z : c - low + getD off 0 0 ≡ c = omega (arith, m .pair 0 h) in
+      ap (λ (n : ℕ). part n 0) z
   streamed-straight (suc a) h =
-      ap (λ (n : ℕ). getD parts n (pos 0)) (at-source (suc a))
-      ∙ sym (arrives-straight flags parts fills off low g c (c - low + getD off (pairOpp (suc a)) 0) (pairOpp (suc a)) (suc a) refl (d .fluid)
+      sym (arrives-straight weights flags part fills off low g c (c - low + getD off (pairOpp (suc a)) 0) (pairOpp (suc a)) (suc a) refl (d .fluid)
       (d .each (pairOpp (suc a)) (opposite-some a) (opposite-most a (omega arith))))
 
 pub opposite-low : (k : ℕ) → k < 19 → pairOpp k < 19

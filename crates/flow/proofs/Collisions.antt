@@ -2,7 +2,7 @@
 -- Assumes nothing.
 use mathlib.Core.Path.{_≡_, refl, sym, ap, ap₂, _∙_, subst}
 use mathlib.Core.Bool.{Bool, true, false, _&&_, not, false≢true}
-use mathlib.Core.List.{List}
+use mathlib.Core.List.{List, []}
 use Prim.Native.Nat.{ℕ, zero, suc, _+_, _*_, _≤_, _<_}
 use native.Mathlib.Omega.{arith}
 use lib.IntN.{ℤ, pos, natAbs, _+ℤ_, _-ℤ_}
@@ -22,16 +22,16 @@ use Rattle.lattice.proofs.Momentum.{x-in, y-in, z-in, density-in}
 use Rattle.lattice.proofs.Ranges.{weak-x, weak-y, weak-z}
 use Rattle.lattice.proofs.Tame.{pull-in}
 use Rattle.collision.specs.Post.{Pulled}
-use Rattle.grid.specs.State.{Scene, byFlag, liquid, stateOf}
+use Rattle.grid.specs.State.{Scene, byFlag, liquid}
 use Rattle.grid.specs.Step.{seen, normal, oldDensity, oldMomentum, leansTo, rebuilt, rebuild, arrives, streamed, newDensity, newMomentum, tooFast, collidedDir, collided}
 use Rattle.grid.specs.Between.{movedPart}
 use Rattle.grid.specs.Outcome.{settingsGood}
-use Rattle.grid.specs.Sight.{flowing, noSettings, sight}
+use Rattle.grid.specs.Sight.{weighing, noSettings, sight}
 use Rattle.grid.specs.Pasted.{pasted}
 use Rattle.grid.proofs.Blocks.{length-pasted}
 use Rattle.grid.proofs.Same.{density-same, momentum-same, body-same}
 use Rattle.flow.specs.declared.moving.Put.{Put}
-use Rattle.flow.specs.PutAt.{PutAt}
+use Rattle.flow.specs.PutAt.{Told, PutAt}
 
 by-liquid {ℓ} : {A : Type ℓ} (f : ℕ) (d x : A) → liquid f ≡ true → byFlag f d x x d ≡ x
 by-liquid zero d x h = absurd (false≢true h)
@@ -39,12 +39,13 @@ by-liquid (suc zero) d x h = refl
 by-liquid (suc (suc zero)) d x h = refl
 by-liquid (suc (suc (suc n))) d x h = absurd (false≢true h)
 
-module _ (flags : List ℕ) (parts : List ℤ) (fills off : List ℕ) (low : ℕ) (g : Settings) (c : ℕ) (f : List ℤ) (e : f ≡ tab 19 (streamed (sight (flowing flags parts fills) off low noSettings) c)) where
+module _ (weights : ℕ → ℕ) (flags : List ℕ) (part : ℕ → ℕ → ℤ) (fills off : List ℕ) (low : ℕ) (g : Settings) (c : ℕ) (f : List ℤ)
+    (e : f ≡ tab 19 (streamed (sight weights flags part [] fills off low noSettings) c)) where
   abbrev S : Scene
-  S = sight (flowing flags parts fills) off low g
+  S = sight weights flags part [] fills off low g
 
   -- stage 1 turns on no setting
-  unset : (k : ℕ) → streamed (sight (flowing flags parts fills) off low noSettings) c k ≡ streamed S c k
+  unset : (k : ℕ) → streamed (sight weights flags part [] fills off low noSettings) c k ≡ streamed S c k
   unfolding streamed arrives seen normal leansTo rebuilt rebuild oldDensity oldMomentum sight
   unset zero = refl
   unset (suc a) = refl
@@ -53,7 +54,7 @@ module _ (flags : List ℕ) (parts : List ℤ) (fills off : List ℕ) (low : ℕ
   part-is k h = ap (λ (x : List ℤ). getD x k (pos 0)) e ∙ getD-tab 19 _ (pos 0) k (omega arith) ∙ unset k
 
   pub density-is : density d3q19 (partsOf f) ≡ newDensity S c
-  unfolding newDensity sight d3q19
+  unfolding newDensity sight d3q19 density
   density-is = density-same d3q19 (partsOf f) (streamed S c) part-is
 
   pub momentum-is : momentum d3q19 (partsOf f) ≡ momentum d3q19 (streamed S c)
@@ -72,7 +73,7 @@ module _ (flags : List ℕ) (parts : List ℤ) (fills off : List ℕ) (low : ℕ
     rho-is = p .rho ∙ rho-old
 
     pub vec-is : vec w ≡ newMomentum S c
-    unfolding newMomentum sight
+    unfolding newMomentum sight momentum
     vec-is t = record {
       x = (p .x ∙ ap₂ _+ℤ_ (ap (λ (m : V3). m .x) vec-old) (ap (λ (z : ℤ). pull z (g .gx)) rho-old)) t;
       y = (p .y ∙ ap₂ _+ℤ_ (ap (λ (m : V3). m .y) vec-old) (ap (λ (z : ℤ). pull z (g .gy)) rho-old)) t;
@@ -86,17 +87,17 @@ module _ (flags : List ℕ) (parts : List ℤ) (fills off : List ℕ) (low : ℕ
 
     -- stage 3's test
     pub steady-is : liquid (getD flags c 3) ≡ true → steadyFlow w ≡ not (tooFast S c)
-    unfolding steadyFlow tooFast sight stateOf
+    unfolding steadyFlow tooFast sight
     steady-is l =
         ap₂ (λ (x : ℤ) (m : V3). dense x && slow x (dot m m)) rho-is vec-is
         ∙ passed (liquid (getD flags c 3)) _ l
 
-    along : (i : ℕ) → i ≤ 18 → relaxedDir d3q19 (w .rho) (vec w) (g .p) (partsOf f) i ≡ collidedDir S c i
+    along : (i : ℕ) → i ≤ 18 → relaxedDir (weighing weights) (w .rho) (vec w) (g .p) (partsOf f) i ≡ collidedDir S c i
     unfolding relaxedDir collidedDir sight
-    along i h t = relaxed (g .p) (d3q19 .weight i) (quad (rho-is t) (dot (d3q19 .e i) (vec-is t)) (dot (vec-is t) (vec-is t))) (rho-is t) (part-is i h t)
+    along i h t = relaxed (g .p) (weights i) (quad (rho-is t) (dot (d3q19 .e i) (vec-is t)) (dot (vec-is t) (vec-is t))) (rho-is t) (part-is i h t)
 
     -- stage 4
-    pub collided-is : (k : ℕ) → k ≤ 18 → collidedPart d3q19 (w .rho) (vec w) (g .p) (partsOf f) k ≡ collided S c k
+    pub collided-is : (k : ℕ) → k ≤ 18 → collidedPart (weighing weights) (w .rho) (vec w) (g .p) (partsOf f) k ≡ collided S c k
     unfolding collidedPart collided sight d3q19
     collided-is zero h = ap₂ _-ℤ_ rho-is (sum-cong 18 _ _ (λ a k. along (suc a) (omega arith)))
     collided-is (suc a) h = along (suc a) h
@@ -106,42 +107,48 @@ module _ (flags : List ℕ) (parts : List ℤ) (fills off : List ℕ) (low : ℕ
       kind {ℓ} : {A : Type ℓ} (d x : A) → byFlag (getD flags c 3) d x x d ≡ x
       kind d x = by-liquid (getD flags c 3) d x l
 
-      pub put-refused : (out : List ℤ) (b : Put) → b .ok ≡ false → steadyFlow w ≡ false → PutAt S c out out b
-      put-refused out b n e = record {
-        kept = refl;
+      pub told-refused : (b : Put) → b .ok ≡ false → steadyFlow w ≡ false → Told S c b
+      told-refused b n e = record {
         ok = n ∙ sym e ∙ steady-is l;
-        parts = λ h. absurd (false≢true (sym n ∙ h));
         rho = λ h. absurd (false≢true (sym n ∙ h));
         fair = λ h. absurd (false≢true (sym n ∙ h));
       }
 
-      module _ (x : List ℤ) (made : x ≡ tab 19 (collidedPart d3q19 (w .rho) (vec w) (g .p) (partsOf f))) where
+      pub put-refused : (out : List ℤ) (b : Put) → b .ok ≡ false → steadyFlow w ≡ false → PutAt S c out out b
+      put-refused out b n e = record { kept = refl; told = told-refused b n e; parts = λ h. absurd (false≢true (sym n ∙ h)) }
+
+      module _ (x : List ℤ) (made : x ≡ tab 19 (collidedPart (weighing weights) (w .rho) (vec w) (g .p) (partsOf f))) where
         new-part : (k : ℕ) → k ≤ 18 → partsOf x k ≡ collided S c k
         new-part k h = ap (λ (y : List ℤ). getD y k (pos 0)) made ∙ getD-tab 19 _ (pos 0) k (omega arith) ∙ collided-is k h
 
-        moved : x ≡ tab 19 (movedPart S c)
-        unfolding movedPart sight stateOf
+        pub moved : x ≡ tab 19 (movedPart S c)
+        unfolding movedPart sight
         moved = made ∙ tab-cong 19 _ _ (pos 0) (λ k h. collided-is k (omega arith) ∙ sym (kind (pos 0) (collided S c k)))
 
         fair-is : bodyGood d3q19 (partsOf x) ≡ bodyGood d3q19 (collided S c)
         unfolding bodyGood d3q19
         fair-is = body-same d3q19 (partsOf x) (collided S c) new-part
 
-        pub put-accepted : (before after : List ℤ) (b : Put) → 19 * c + 19 ≤ length before → after ≡ pasted before (19 * c) x
-            → b .ok ≡ true → steadyFlow w ≡ true → b .rho ≡ w .rho → b .fair ≡ bodyGood d3q19 (partsOf x) → PutAt S c before after b
-        unfolding sight stateOf
-        put-accepted before after b room put y e r o = record {
-          kept = ap length put ∙ length-pasted before (19 * c) x room (ap length made ∙ length-tab 19 _);
+        pub told-accepted : (b : Put) → b .ok ≡ true → steadyFlow w ≡ true → b .rho ≡ w .rho → b .fair ≡ bodyGood d3q19 (partsOf x) → Told S c b
+        unfolding sight
+        told-accepted b y e r o = record {
           ok = y ∙ sym e ∙ steady-is l;
-          parts = λ h. put ∙ ap (pasted before (19 * c)) moved;
           rho = λ h. r ∙ rho-is ∙ sym (kind (pos 0) (newDensity S c));
           fair = λ h. o ∙ fair-is ∙ sym (kind true (bodyGood d3q19 (collided S c)));
         }
 
+        pub put-accepted : (before after : List ℤ) (b : Put) → 19 * c + 19 ≤ length before → after ≡ pasted before (19 * c) x
+            → b .ok ≡ true → steadyFlow w ≡ true → b .rho ≡ w .rho → b .fair ≡ bodyGood d3q19 (partsOf x) → PutAt S c before after b
+        put-accepted before after b room put y e r o = record {
+          kept = ap length put ∙ length-pasted before (19 * c) x room (ap length made ∙ length-tab 19 _);
+          told = told-accepted b y e r o;
+          parts = λ h. put ∙ ap (pasted before (19 * c)) moved;
+        }
+
 -- ---- a cell that is not liquid
-module _ (flags : List ℕ) (parts : List ℤ) (fills off : List ℕ) (low : ℕ) (g : Settings) (c : ℕ) (d : liquid (getD flags c 3) ≡ false) where
+module _ (weights : ℕ → ℕ) (flags : List ℕ) (part : ℕ → ℕ → ℤ) (fills off : List ℕ) (low : ℕ) (g : Settings) (c : ℕ) (d : liquid (getD flags c 3) ≡ false) where
   abbrev T : Scene
-  T = sight (flowing flags parts fills) off low g
+  T = sight weights flags part [] fills off low g
 
   by-dry {ℓ} : {A : Type ℓ} (f : ℕ) (z x : A) → liquid f ≡ false → byFlag f z x x z ≡ z
   by-dry zero z x h = refl
@@ -149,23 +156,28 @@ module _ (flags : List ℕ) (parts : List ℤ) (fills off : List ℕ) (low : ℕ
   by-dry (suc (suc zero)) z x h = absurd (false≢true (sym h))
   by-dry (suc (suc (suc n))) z x h = refl
 
-  none : tab 19 (movedPart T c) ≡ replicate 19 (pos 0)
-  unfolding movedPart sight stateOf open-fold
+  pub none : tab 19 (movedPart T c) ≡ replicate 19 (pos 0)
+  unfolding movedPart sight open-fold
   none = tab-cong 19 (movedPart T c) (λ k. pos 0) (pos 0) (λ k h. by-dry (getD flags c 3) (pos 0) (collided T c k) d)
 
   fast : tooFast T c ≡ false
-  unfolding tooFast sight stateOf
+  unfolding tooFast sight
   fast = ap (λ (b : Bool). b && not (dense (newDensity T c) && slow (newDensity T c) (dot (newMomentum T c) (newMomentum T c)))) d
+
+  pub told-dry : Told T c (record { ok = true; fair = true; rho = pos 0 })
+  unfolding sight
+  told-dry = record {
+    ok = sym (ap not fast);
+    rho = λ h. sym (by-dry (getD flags c 3) (pos 0) (newDensity T c) d);
+    fair = λ h. sym (by-dry (getD flags c 3) true (bodyGood d3q19 (collided T c)) d);
+  }
 
   pub put-dry : (before after : List ℤ) → 19 * c + 19 ≤ length before → after ≡ pasted before (19 * c) (replicate 19 (pos 0))
       → PutAt T c before after (record { ok = true; fair = true; rho = pos 0 })
-  unfolding sight stateOf
   put-dry before after room put = record {
     kept = ap length put ∙ length-pasted before (19 * c) (replicate 19 (pos 0)) room refl;
-    ok = sym (ap not fast);
+    told = told-dry;
     parts = λ h. put ∙ ap (pasted before (19 * c)) (sym none);
-    rho = λ h. sym (by-dry (getD flags c 3) (pos 0) (newDensity T c) d);
-    fair = λ h. sym (by-dry (getD flags c 3) true (bodyGood d3q19 (collided T c)) d);
   }
 
 -- ---- how large a flow can be

@@ -1,7 +1,7 @@
 -- Which way a cell leans, as the code reads it by places and offsets, is stage 1's own. Assumes nothing.
 use mathlib.Core.Path.{_≡_, refl, sym, ap, ap₂, _∙_}
 use mathlib.Core.Bool.{Bool, _&&_}
-use mathlib.Core.List.{List}
+use mathlib.Core.List.{List, []}
 use Prim.Native.Nat.{ℕ, zero, suc, _+_, _-_, _≤_, _<_}
 use native.Mathlib.Omega.{arith}
 use lib.Dec.{eqb}
@@ -18,10 +18,10 @@ use Rattle.lattice.specs.Cell.{isPositive}
 use Rattle.lattice.specs.Body.{vec}
 use Rattle.lattice.specs.declared.Flow.{Flow}
 use Rattle.lattice.specs.declared.Settings.{Settings}
-use Rattle.grid.specs.State.{Scene, byFlag, stateOf}
+use Rattle.grid.specs.State.{Scene, byFlag}
 use Rattle.grid.specs.Step.{seen, normal, leansTo}
 use Rattle.grid.specs.Passes.{seenAt, seenBeside, normalAt, Sloping}
-use Rattle.grid.specs.Sight.{flowing, sight}
+use Rattle.grid.specs.Sight.{sight}
 use Rattle.grid.proofs.Slopes.{seen-in, vector, dot-turn}
 use Rattle.flow.specs.Sources.{leanAt}
 
@@ -76,12 +76,12 @@ normal-low {flags} {fills} {off} {k} v s e = (
     fall : {x : ℤ} {a b : ℕ} → x ≡ pos a -ℤ pos b → a ≤ 65536 → b ≤ 65536 → Within x 1000000000
     fall {x} {a} {b} e h l = record { abs = omega (arith, ap natAbs e, abs-sub (pos a) (pos b)) }
 
-module _ (flags : List ℕ) (parts : List ℤ) (fills off : List ℕ) (low : ℕ) (g : Settings) (c : ℕ) (self : (c - low) + getD off 0 0 ≡ c) where
+module _ (weights : ℕ → ℕ) (flags : List ℕ) (part : ℕ → ℕ → ℤ) (fills off : List ℕ) (low : ℕ) (g : Settings) (c : ℕ) (self : (c - low) + getD off 0 0 ≡ c) where
   abbrev S : Scene
-  S = sight (flowing flags parts fills) off low g
+  S = sight weights flags part [] fills off low g
 
   seen-is : (i : ℕ) → seenBeside flags fills off (c - low) i ≡ seen S c ((c - low) + getD off i 0)
-  unfolding seenAt seen sight stateOf
+  unfolding seenAt seen sight
   seen-is i =
       let b = (c - low) + getD off i 0 in
       ap (λ (n : ℕ). pos (getD fills (byFlag (getD flags b 3) b b b n) 0)) self
@@ -93,6 +93,6 @@ module _ (flags : List ℕ) (parts : List ℤ) (fills off : List ℕ) (low : ℕ
       vector (ap₂ _-ℤ_ (seen-is 2) (seen-is 1)) (ap₂ _-ℤ_ (seen-is 4) (seen-is 3)) (ap₂ _-ℤ_ (seen-is 6) (seen-is 5))
 
   pub leans-is : (i : ℕ) → isPositive (leanAt flags fills off low c i) ≡ leansTo S c i
-  unfolding leanAt leansTo sight stateOf
+  unfolding leanAt leansTo sight
   leans-is i =
       lean-cases (getD flags c 3) (ap (dot (d3q19 .e i)) normal-is ∙ dot-turn (d3q19 .e i) (normal S c))

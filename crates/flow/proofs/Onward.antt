@@ -1,8 +1,8 @@
--- From one cell's sight to the step's scene, for every cell of a set that is poised: the test of stage 3, the moved parts, masses and marks. A liquid cell
--- is inner, so that its neighbours are where the offsets say; of any other cell nothing is asked. Assumes nothing.
+-- From one cell's sight to the step's scene: the test of stage 3, the moved parts, masses and marks. A liquid cell's neighbours are where the offsets
+-- say; of any other cell nothing is asked. Assumes nothing.
 use mathlib.Core.Path.{_≡_, refl, sym, ap, ap₂, _∙_, subst}
 use mathlib.Core.Bool.{Bool, true, false, cond}
-use mathlib.Core.List.{List}
+use mathlib.Core.List.{List, []}
 use Prim.Native.Nat.{ℕ, zero, suc, _+_, _-_, _*_, _≤_, _<_}
 use native.Mathlib.Omega.{arith}
 use lib.IntN.{ℤ, pos}
@@ -11,16 +11,12 @@ use Rattle.lattice.specs.Lattice.{d3q19}
 use Rattle.lattice.specs.Cell.{over, under}
 use Rattle.lattice.specs.declared.Settings.{Settings}
 use Rattle.lattice.proofs.Paired.{paired19}
-use Rattle.grid.specs.declared.Sides.{Sides}
-use Rattle.grid.specs.Grid.{cellsOf}
-use Rattle.grid.specs.State.{Scene, byFlag, liquid, stateOf}
+use Rattle.grid.specs.Grid.{Grid}
+use Rattle.grid.specs.State.{Scene, byFlag, liquid}
 use Rattle.grid.specs.Step.{newDensity, tradedMass, tooFast, collided}
-use Rattle.grid.specs.Outcome.{sceneOf}
-use Rattle.grid.specs.Between.{Poised, carried, uncarried, movedPart, movedMass, firstMark}
-use Rattle.grid.specs.Sight.{flowing, noSettings, sight}
-use Rattle.grid.proofs.Beside.{Offsets, place-is}
+use Rattle.grid.specs.Between.{movedPart, movedMass, firstMark}
+use Rattle.grid.specs.Sight.{weighing, noSettings, sight}
 use Rattle.flow.proofs.Plain.{axial19, new-density-same, too-fast-same, collided-same, traded-mass-same}
-use Rattle.flow.proofs.Poise.{liquid-inner}
 
 -- ---- by cases on the flag alone
 dry-part : (f : ℕ) (x y : ℤ) → (liquid f ≡ true → x ≡ y) → byFlag f (pos 0) x x (pos 0) ≡ byFlag f (pos 0) y y (pos 0)
@@ -42,50 +38,60 @@ mark-cases (suc zero) m n r q h = ap₂ (λ (x y : ℤ). cond (over x y) 1 (cond
 mark-cases (suc (suc zero)) m n r q h = refl
 mark-cases (suc (suc (suc k))) m n r q h = refl
 
-module _ (s : Sides) (g : Settings) (flags : List ℕ) (parts masses : List ℤ) (fills : List ℕ) (carry : List ℤ) (p : Poised s g (carried flags parts masses fills carry))
-    (off : List ℕ) (low : ℕ) (o : Offsets s off low) (c : ℕ) (h : c < cellsOf s) where
+-- a step's scene: a grid, and a set's lists, with parts as a function
+abbrev pub stepOn : (ℕ → ℕ) → Grid → Settings → List ℕ → (ℕ → ℕ → ℤ) → List ℤ → List ℕ → ℤ → Scene
+stepOn weights G g flags part masses fills carry = record {
+  lat = weighing weights;
+  grid = G;
+  old = record { flag = λ c. getD flags c 3; part = part; mass = λ c. getD masses c (pos 0); fill = λ c. getD fills c 0; carry = carry };
+  g = record { x = g .gx; y = g .gy; z = g .gz };
+  relax = λ c. g .p;
+}
+
+module _ (weights : ℕ → ℕ) (G : Grid) (g : Settings) (flags : List ℕ) (part : ℕ → ℕ → ℤ) (masses : List ℤ) (fills : List ℕ) (carry : ℤ) (off : List ℕ) (low c : ℕ)
+    (placed : liquid (getD flags c 3) ≡ true → (i : ℕ) → i < 19 → c - low + getD off i 0 ≡ G .near c i) where
   -- the step's scene, and what functions of one cell see of it
   abbrev step : Scene
-  step = sceneOf s g (carried flags parts masses fills carry)
+  step = stepOn weights G g flags part masses fills carry
 
   abbrev seen : Scene
-  seen = sight (flowing flags parts fills) off low g
+  seen = sight weights flags part [] fills off low g
 
   abbrev trader : Scene
-  trader = sight (uncarried flags parts masses fills) off low noSettings
+  trader = sight weights flags part masses fills off low noSettings
 
-  near : liquid (getD flags c 3) ≡ true → (i : ℕ) → i ≤ d3q19 .q → seen .grid .near c i ≡ step .grid .near c i
-  unfolding stateOf sight sceneOf d3q19
-  near l i d = place-is o c (liquid-inner s g (carried flags parts masses fills carry) p c h l) i (omega arith)
+  near : liquid (getD flags c 3) ≡ true → (i : ℕ) → i ≤ d3q19 .q → c - low + getD off i 0 ≡ G .near c i
+  unfolding d3q19
+  near l i d = placed l i (omega arith)
 
   -- stages 1, 3 and 4
   module _ (l : liquid (getD flags c 3) ≡ true) where
     pub density-seen : newDensity seen c ≡ newDensity step c
-    unfolding sight sceneOf stateOf
+    unfolding sight
     density-seen =
-        new-density-same d3q19 paired19 axial19 (seen .grid) (step .grid) (step .old .flag) (step .old .part) (step .old .fill) c (near l)
+        new-density-same (weighing weights) (paired19 .dir) axial19 (seen .grid) (step .grid) (step .old .flag) (step .old .part) (step .old .fill) c (near l)
         (seen .old .mass) (step .old .mass) (seen .old .carry) (step .old .carry) (seen .g) (step .g) (seen .relax) (step .relax)
 
     wet-fast : tooFast seen c ≡ tooFast step c
-    unfolding sight sceneOf stateOf
+    unfolding sight
     wet-fast =
-        too-fast-same d3q19 paired19 axial19 (seen .grid) (step .grid) (step .old .flag) (step .old .part) (step .old .fill) c (near l)
+        too-fast-same (weighing weights) (paired19 .dir) axial19 (seen .grid) (step .grid) (step .old .flag) (step .old .part) (step .old .fill) c (near l)
         (seen .old .mass) (step .old .mass) (seen .old .carry) (step .old .carry) (step .g) (step .relax)
 
     pub collided-seen : (k : ℕ) → k ≤ 18 → collided seen c k ≡ collided step c k
-    unfolding sight sceneOf stateOf d3q19
+    unfolding sight d3q19
     collided-seen =
-        collided-same d3q19 paired19 axial19 (seen .grid) (step .grid) (step .old .flag) (step .old .part) (step .old .fill) c (near l)
+        collided-same (weighing weights) (paired19 .dir) axial19 (seen .grid) (step .grid) (step .old .flag) (step .old .part) (step .old .fill) c (near l)
         (seen .old .mass) (step .old .mass) (seen .old .carry) (step .old .carry) (step .g) (step .relax)
 
     traded-seen : tradedMass trader c ≡ tradedMass step c
-    unfolding sight sceneOf stateOf
+    unfolding sight
     traded-seen =
-        traded-mass-same d3q19 paired19 axial19 (trader .grid) (step .grid) (step .old .flag) (step .old .part) (step .old .fill) c (near l)
+        traded-mass-same (weighing weights) (paired19 .dir) axial19 (trader .grid) (step .grid) (step .old .flag) (step .old .part) (step .old .fill) c (near l)
         (step .old .mass) (trader .old .carry) (step .old .carry) (trader .g) (step .g) (trader .relax) (step .relax)
 
   pub fast-seen : tooFast seen c ≡ tooFast step c
-  unfolding tooFast sight sceneOf stateOf
+  unfolding tooFast sight
   fast-seen = go (liquid (getD flags c 3)) refl
     where
       go : (b : Bool) → liquid (getD flags c 3) ≡ b → tooFast seen c ≡ tooFast step c
@@ -93,20 +99,20 @@ module _ (s : Sides) (g : Settings) (flags : List ℕ) (parts masses : List ℤ)
       go false l = rw l refl
 
   pub part-seen : (k : ℕ) → k ≤ 18 → movedPart seen c k ≡ movedPart step c k
-  unfolding movedPart sight sceneOf stateOf
+  unfolding movedPart sight
   part-seen k m = dry-part (getD flags c 3) (collided seen c k) (collided step c k) (λ l. collided-seen l k m)
 
   -- the density that the pass hands on: that of a liquid cell, else 0
   pub mass-seen : (rho : ℤ) → rho ≡ byFlag (getD flags c 3) (pos 0) (newDensity seen c) (newDensity seen c) (pos 0)
       → byFlag (getD flags c 3) rho (tradedMass trader c) rho rho ≡ movedMass step c
-  unfolding movedMass sight sceneOf stateOf
+  unfolding movedMass sight
   mass-seen rho e =
       dry-mass (getD flags c 3) (tradedMass trader c) (tradedMass step c) rho (newDensity step c) (λ f. traded-seen (ap liquid f))
       (e ∙ dry-part (getD flags c 3) (newDensity seen c) (newDensity step c) density-seen)
 
   pub mark-seen : (m rho : ℤ) → rho ≡ byFlag (getD flags c 3) (pos 0) (newDensity seen c) (newDensity seen c) (pos 0) → m ≡ movedMass step c
       → _≡_ {A = ℕ} (byFlag (getD flags c 3) 0 (cond (over m rho) 1 (cond (under m rho) 2 0)) 0 0) (firstMark step c)
-  unfolding firstMark movedMass sight sceneOf stateOf
+  unfolding firstMark movedMass sight
   mark-seen m rho e u =
       mark-cases (getD flags c 3) m (tradedMass step c) rho (newDensity step c)
       (λ f. (

@@ -11,11 +11,11 @@ use Rattle.whole.specs.Search.{Dir, as-dir}
 use Rattle.whole.specs.Sums.{sum-cong}
 use Rattle.lattice.specs.Lattice.{V3, dot, Lattice, d3q19, density, momentum}
 use Rattle.lattice.specs.Cell.{dense, slow, gas, exchange, isPositive, pull, quad, relaxed, over, under}
-use Rattle.lattice.proofs.Paired.{Paired}
 use Rattle.grid.specs.Grid.{Grid}
 use Rattle.grid.specs.State.{State, Scene, byFlag, liquid}
 use Rattle.grid.specs.Step.{seen, normal, oldDensity, oldMomentum, leansTo, rebuilt, rebuild, arrives, streamed, difference, traded, tradedMass, newDensity, newMomentum, tooFast, collidedDir, collided}
 use Rattle.grid.specs.Between.{movedPart, movedMass, firstMark}
+use Rattle.grid.specs.Sight.{weighing}
 use Rattle.grid.proofs.Same.{density-same, momentum-same}
 
 -- the directions of the axes, or rest where there is no axis
@@ -27,7 +27,7 @@ pub record Axial (L : Lattice) : Type 0 where
   pub zp : L .zp ≤ L .q
   pub zm : L .zm ≤ L .q
 
-pub axial19 : Axial d3q19
+pub axial19 : {weights : ℕ → ℕ} → Axial (weighing weights)
 unfolding d3q19
 axial19 = record { xp = omega arith; xm = omega arith; yp = omega arith; ym = omega arith; zp = omega arith; zm = omega arith }
 
@@ -36,7 +36,7 @@ abbrev with-flow : Lattice → Grid → (ℕ → ℕ) → (ℕ → ℕ → ℤ) 
 with-flow L G flag part mass fill carry g p =
     record { lat = L; grid = G; old = record { flag = flag; part = part; mass = mass; fill = fill; carry = carry }; g = g; relax = p }
 
-module _ (L : Lattice) (pair : Paired L) (axes : Axial L) (G H : Grid) (flag : ℕ → ℕ) (part : ℕ → ℕ → ℤ) (fill : ℕ → ℕ) (c : ℕ)
+module _ (L : Lattice) (turned : (i : ℕ) → Dir (L .q) i → Dir (L .q) (L .opp i)) (axes : Axial L) (G H : Grid) (flag : ℕ → ℕ) (part : ℕ → ℕ → ℤ) (fill : ℕ → ℕ) (c : ℕ)
     (near : (i : ℕ) → i ≤ L .q → G .near c i ≡ H .near c i) where
   -- stage 1 turns on flags, parts and fills alone
   module _ (mass mass′ : ℕ → ℤ) (carry carry′ : ℤ) (g g′ : V3) (p p′ : ℕ → ℤ) where
@@ -69,7 +69,7 @@ module _ (L : Lattice) (pair : Paired L) (axes : Axial L) (G H : Grid) (flag : �
     pub streamed-same : (k : ℕ) → k ≤ L .q → streamed S c k ≡ streamed S′ c k
     unfolding streamed
     streamed-same zero h = refl
-    streamed-same (suc a) h = arrives-same (L .opp (suc a)) (suc a) (pair .dir (suc a) (as-dir h))
+    streamed-same (suc a) h = arrives-same (L .opp (suc a)) (suc a) (turned (suc a) (as-dir h))
 
     pub new-density-same : newDensity S c ≡ newDensity S′ c
     unfolding newDensity

@@ -18,6 +18,7 @@ use Rattle.grid.specs.Good.{dryGood, interfaceGood, fluidGood, fillGood, cellGo
 use Rattle.grid.specs.Between.{Sized, Ready, Poised, uncarried}
 use Rattle.grid.specs.Passes.{Inner}
 use Rattle.grid.specs.Sight.{Body, Bodied}
+use Rattle.grid.proofs.Beside.{Offsets, place-is}
 use Rattle.grid.proofs.Coordinates.{inner-of}
 use Rattle.grid.proofs.GoodSides.{good-sides}
 use Rattle.grid.proofs.Laid.{inner}
@@ -90,3 +91,7 @@ module _ (s : Sides) (g : Settings) (a : Lent) (r : Poised s g a) where
 
   pub liquid-inner : (c : ℕ) → c < cellsOf s → liquid (stateOf 18 a .flag c) ≡ true → Inner s c
   liquid-inner c h l = poised-inner c h (λ w. false≢true (sym (ap liquid w) ∙ l))
+
+  -- and its neighbours are where the offsets say
+  pub placed : {off : List ℕ} {low : ℕ} → Offsets s off low → (c : ℕ) → c < cellsOf s → liquid (stateOf 18 a .flag c) ≡ true → (i : ℕ) → i < 19 → c - low + getD off i 0 ≡ gridOf s .near c i
+  placed o c h l i k = place-is o c (liquid-inner c h l) i k

@@ -2,6 +2,7 @@
 use mathlib.Core.Path.{_≡_, refl, sym, ap, ap₂, _∙_, subst}
 use mathlib.Core.Bool.{Bool, true, false, _&&_, _||_, false≢true}
 use mathlib.Core.List.{List, [], _∷_}
+use mathlib.Core.Logic.{_⊎_, inl, inr, ⊎-elim}
 use Prim.Native.Nat.{ℕ, zero, suc, _+_, _-_, _*_, _/_, _%_, _≤_, _<_}
 use native.Mathlib.Nat.{mul-le-mul, mul-le-mul-left, mul-le-mul-right, div-le-of-le-mul, le-trans, le-of-eq}
 use native.Mathlib.Omega.{arith}
@@ -23,10 +24,10 @@ use Rattle.lattice.specs.Cell.{dense, slow, gas}
 use Rattle.lattice.specs.Body.{partsOf, Bounded, vec, Tame, steadyFlow}
 use Rattle.lattice.specs.declared.Flow.{Flow}
 use Rattle.lattice.specs.declared.Settings.{Settings}
-use Rattle.lattice.proofs.Tame.{dense-low, dense-in, steady-tame}
-use Rattle.grid.specs.State.{Scene, liquid, stateOf}
+use Rattle.lattice.proofs.Tame.{dense-in, steady-tame}
+use Rattle.grid.specs.State.{Scene, liquid}
 use Rattle.grid.specs.Step.{leansTo, arrives, streamed}
-use Rattle.grid.specs.Sight.{Body, Bodied, Around, flowing, sight}
+use Rattle.grid.specs.Sight.{Body, Bodies, Around, sight}
 use Rattle.grid.proofs.Same.{density-same, momentum-same}
 use Rattle.flow.proofs.Arrivals.{arrives-wall, arrives-rebuilt, arrives-liquid, opposite-some, opposite-most}
 
@@ -58,8 +59,8 @@ dot-abs e j =
       abs-mul (e .z) (j .z),
     )
 
-leaning : (e j : V3) (r : ℕ) → length-of e ≤ 2 → 3 * natAbs (j .x) ≤ r → 3 * natAbs (j .y) ≤ r → 3 * natAbs (j .z) ≤ r → 3 * natAbs (dot e j) ≤ 2 * r
-leaning e j r s hx hy hz =
+leaning : (e j : V3) (r n : ℕ) → length-of e ≤ n → 3 * natAbs (j .x) ≤ r → 3 * natAbs (j .y) ≤ r → 3 * natAbs (j .z) ≤ r → 3 * natAbs (dot e j) ≤ n * r
+leaning e j r n s hx hy hz =
     omega (
       arith,
       dot-abs e j,
@@ -89,35 +90,55 @@ module _ (j : V3) (ρ : ℤ) (h : (pos 9 *ℤ dot j j) ≤ℤ (ρ *ℤ ρ)) wher
   square-third : 9 * natAbs (dot j j) ≤ natAbs ρ * natAbs ρ
   square-third = omega (arith, dot-abs j j, squares (j .x) (j .y) (j .z) ρ h)
 
-  -- what both opposite parts add up to beside an empty cell
-  pub gas-in : (w : ℕ) (e : V3) → w ≤ 2 → length-of e ≤ 2 → 0 < natAbs ρ → Within (gas w ρ (dot e j) (dot j j)) 229376
+  -- what both opposite parts add up to beside an empty cell, before the division
+  abbrev twice : ℤ → ℤ
+  twice a = pos 2 *ℤ (ρ *ℤ ρ) +ℤ pos 9 *ℤ (a *ℤ a) -ℤ pos 3 *ℤ dot j j
+
+  upper : (a : ℤ) (t : ℕ) → 3 * natAbs a * (3 * natAbs a) ≤ t → natAbs (twice a) ≤ 3 * (natAbs ρ * natAbs ρ) + t
+  upper a t k =
+      omega (
+        arith,
+        abs-sub (pos 2 *ℤ (ρ *ℤ ρ) +ℤ pos 9 *ℤ (a *ℤ a)) (pos 3 *ℤ dot j j),
+        abs-add (pos 2 *ℤ (ρ *ℤ ρ)) (pos 9 *ℤ (a *ℤ a)),
+        abs-mul (pos 2) (ρ *ℤ ρ),
+        abs-mul ρ ρ,
+        abs-mul (pos 9) (a *ℤ a),
+        abs-mul a a,
+        abs-mul (pos 3) (dot j j),
+        square-third,
+      )
+
+  gas-le : (w : ℕ) (a : ℤ) → natAbs (twice a) * w ≤ 16 * (natAbs ρ * natAbs ρ) → Within (gas w ρ a (dot j j)) 262144
   unfolding gas
-  gas-in w e l s z =
-      let a = dot e j in
+  gas-le w a k =
       let r = natAbs ρ in
-      let n = pos 2 *ℤ (ρ *ℤ ρ) +ℤ pos 9 *ℤ (a *ℤ a) -ℤ pos 3 *ℤ dot j j in
-      let k : 3 * natAbs a ≤ 2 * r = leaning e j r s third-x third-y third-z in
-      let big : natAbs n ≤ 7 * (r * r) = upper a (mul-le-mul k k) in
-      let top : natAbs (pos (w * 16384) *ℤ n) ≤ r * r * 229376 =
-      omega (arith, abs-mul (pos (w * 16384)) n, mul-le-mul (mul-le-mul-right 16384 l) big) in
+      let top : natAbs (pos (w * 16384) *ℤ twice a) ≤ r * r * 262144 = omega (arith, abs-mul (pos (w * 16384)) (twice a)) in
       record {
-        abs = le-trans (le-of-eq (abs-quot (pos (w * 16384) *ℤ n) (ρ *ℤ ρ) ∙ ap (λ (t : ℕ). natAbs (pos (w * 16384) *ℤ n) / t) (abs-mul ρ ρ)))
+        abs = le-trans (le-of-eq (abs-quot (pos (w * 16384) *ℤ twice a) (ρ *ℤ ρ) ∙ ap (λ (t : ℕ). natAbs (pos (w * 16384) *ℤ twice a) / t) (abs-mul ρ ρ)))
             (div-le-of-le-mul (r * r) top);
       }
-    where
-      upper : (a : ℤ) → 3 * natAbs a * (3 * natAbs a) ≤ 2 * natAbs ρ * (2 * natAbs ρ) → natAbs (pos 2 *ℤ (ρ *ℤ ρ) +ℤ pos 9 *ℤ (a *ℤ a) -ℤ pos 3 *ℤ dot j j) ≤ 7 * (natAbs ρ * natAbs ρ)
-      upper a k =
-          omega (
-            arith,
-            abs-sub (pos 2 *ℤ (ρ *ℤ ρ) +ℤ pos 9 *ℤ (a *ℤ a)) (pos 3 *ℤ dot j j),
-            abs-add (pos 2 *ℤ (ρ *ℤ ρ)) (pos 9 *ℤ (a *ℤ a)),
-            abs-mul (pos 2) (ρ *ℤ ρ),
-            abs-mul ρ ρ,
-            abs-mul (pos 9) (a *ℤ a),
-            abs-mul a a,
-            abs-mul (pos 3) (dot j j),
-            square-third,
-          )
+
+  -- the box's weights are at most 2; a weight of up to 4 goes with an axis
+  pub gas-in : (w : ℕ) (e : V3) → ((w ≤ 4) × (length-of e ≤ 1)) ⊎ (w ≤ 2) → length-of e ≤ 2 → Within (gas w ρ (dot e j) (dot j j)) 262144
+  gas-in w e (inl h) s =
+      let k = leaning e j (natAbs ρ) 1 (h .1) third-x third-y third-z in
+      let b = upper (dot e j) _ (mul-le-mul k k) in
+      gas-le w (dot e j) (omega (arith, mul-le-mul b (h .0)))
+  gas-in w e (inr h) s =
+      let k = leaning e j (natAbs ρ) 2 s third-x third-y third-z in
+      let b = upper (dot e j) _ (mul-le-mul k k) in
+      gas-le w (dot e j) (omega (arith, mul-le-mul b h))
+
+-- weights that gas and collisions can bear: at most 2, or along an axis at most 4
+pub record Light (weights : ℕ → ℕ) : Type 0 where
+  pub each : (i : ℕ) → 0 < i → i < 19 → ((weights i ≤ 4) × (length-of (d3q19 .e i) ≤ 1)) ⊎ (weights i ≤ 2)
+
+pub light-low : {weights : ℕ → ℕ} → Light weights → (i : ℕ) → 0 < i → i < 19 → weights i ≤ 4
+light-low l i z h = ⊎-elim (λ a. a .0) (λ b. omega (arith, b)) (l .each i z h)
+
+-- the box's
+pub light19 : Light (d3q19 .weight)
+light19 = record { each = λ i z h. inr (weight-low i z h) }
 
 -- ---- a liquid cell
 module _ (f : ℕ → ℤ) (b : Body f) where
@@ -131,12 +152,12 @@ module _ (f : ℕ → ℤ) (b : Body f) where
   unfolding slow
   within-third = leZ-true (b .is-slow)
 
-  pub gas-body : (i : ℕ) → 0 < i → i < 19 → Within (gas (d3q19 .weight i) ρ (dot (d3q19 .e i) j) (dot j j)) 229376
-  gas-body i z h = gas-in j ρ within-third (d3q19 .weight i) (d3q19 .e i) (weight-low i z h) (short i h) (omega (arith, abs-above (dense-low ρ (b .is-dense))))
+  pub gas-body : {weights : ℕ → ℕ} → Light weights → (i : ℕ) → 0 < i → i < 19 → Within (gas (weights i) ρ (dot (d3q19 .e i) j) (dot j j)) 262144
+  gas-body {weights} light i z h = gas-in j ρ within-third (weights i) (d3q19 .e i) (light .each i z h) (short i h)
 
   pub along-body : (i : ℕ) → i < 19 → Within (dot (d3q19 .e i) j) 1179648
   along-body i h =
-      record { abs = omega (arith, leaning (d3q19 .e i) j (natAbs ρ) (short i h) (third-x j ρ within-third) (third-y j ρ within-third) (third-z j ρ within-third), dense-in ρ (b .is-dense) .abs) }
+      record { abs = omega (arith, leaning (d3q19 .e i) j (natAbs ρ) 2 (short i h) (third-x j ρ within-third) (third-y j ρ within-third) (third-z j ρ within-third), dense-in ρ (b .is-dense) .abs) }
 
   pub tame-body : (v : Flow) → v .rho ≡ ρ → vec v ≡ j → Tame v
   unfolding steadyFlow
@@ -162,14 +183,14 @@ module _ (f : ℕ → ℤ) (b : Body f) where
   momentum-own l e = momentum-same d3q19 (partsOf l) f (part-own l e)
 
 -- ---- what streams into a liquid cell
-module _ (flags : List ℕ) (parts : List ℤ) (fills off : List ℕ) (low : ℕ) (g : Settings) (t : Bodied flags parts) (c : ℕ) (a : Around (length flags) off low c) (l : liquid (getD flags c 3) ≡ true) where
+module _ (weights : ℕ → ℕ) (light : Light weights) (flags : List ℕ) (part : ℕ → ℕ → ℤ) (fills off : List ℕ) (low : ℕ) (g : Settings) (t : Bodies flags part) (c : ℕ) (a : Around (length flags) off low c) (l : liquid (getD flags c 3) ≡ true) where
   abbrev S : Scene
-  S = sight (flowing flags parts fills) off low g
+  S = sight weights flags part [] fills off low g
 
-  own-in : (k : ℕ) → k ≤ 18 → Within (getD parts (19 * c + k) (pos 0)) 1179648
+  own-in : (k : ℕ) → k ≤ 18 → Within (part c k) 1179648
   own-in k h = t .body c (a .is-cell) l .parts k h
 
-  less : {x y : ℤ} → Within x 229376 → Within y 1179648 → Within (x -ℤ y) 1572864
+  less : {x y : ℤ} → Within x 262144 → Within y 1179648 → Within (x -ℤ y) 1572864
   less {x} {y} h k = record { abs = omega (arith, abs-sub x y, h .abs, k .abs) }
 
   loose : {z : ℤ} → Within z 1179648 → Within z 1572864
@@ -187,10 +208,10 @@ module _ (flags : List ℕ) (parts : List ℤ) (fills off : List ℕ) (low : ℕ
         where
           by : (r : Bool) → (eqb (getD flags b 3) 0 || leansTo S c i) ≡ r → Within (arrives S c i k) 1572864
           by true e =
-              subst (λ (x : ℤ). Within x 1572864) (sym (arrives-rebuilt flags parts fills off low g c b i k refl n e))
-              (less (gas-body (λ k. getD parts (19 * c + k) (pos 0)) (t .body c (a .is-cell) l) i z h) (own-in i (omega arith)))
+              subst (λ (x : ℤ). Within x 1572864) (sym (arrives-rebuilt weights flags part fills off low g c b i k refl n e))
+              (less (gas-body (part c) (t .body c (a .is-cell) l) light i z h) (own-in i (omega arith)))
           by false e =
-              subst (λ (x : ℤ). Within x 1572864) (sym (arrives-liquid flags parts fills off low g c b i k refl n e))
+              subst (λ (x : ℤ). Within x 1572864) (sym (arrives-liquid weights flags part fills off low g c b i k refl n e))
               (loose (t .body b (a .each i h) (w e) .parts k (omega arith)))
 
       go : (f : ℕ) → getD flags b 3 ≡ f → Within (arrives S c i k) 1572864
@@ -198,10 +219,10 @@ module _ (flags : List ℕ) (parts : List ℤ) (fills off : List ℕ) (low : ℕ
       go (suc zero) e = open-in (omega arith) (λ n. ap liquid e)
       go (suc (suc zero)) e = open-in (omega arith) (λ n. ap liquid e)
       go (suc (suc (suc n))) e =
-          subst (λ (x : ℤ). Within x 1572864) (sym (arrives-wall flags parts fills off low g c b i k refl (omega arith))) (loose (own-in i (omega arith)))
+          subst (λ (x : ℤ). Within x 1572864) (sym (arrives-wall weights flags part fills off low g c b i k refl (omega arith))) (loose (own-in i (omega arith)))
 
   pub streamed-in : (k : ℕ) → k ≤ 18 → Within (streamed S c k) 1572864
-  unfolding streamed sight stateOf d3q19
+  unfolding streamed sight d3q19
   streamed-in zero h = loose (own-in 0 h)
   streamed-in (suc n) h = arrives-in (pairOpp (suc n)) (suc n) (opposite-some n) (opposite-most n (omega arith)) (omega arith)
 

@@ -16,12 +16,12 @@ use Rattle.whole.specs.Machine.{Within}
 use Rattle.lattice.specs.Lattice.{d3q19, pairOpp}
 use Rattle.lattice.specs.Cell.{exchange, over, under}
 use Rattle.lattice.proofs.Paired.{paired19}
-use Rattle.grid.specs.State.{Scene, byFlag, liquid, stateOf}
+use Rattle.grid.specs.State.{Scene, byFlag, liquid}
 use Rattle.grid.specs.Step.{flagAt, traded, tradedMass, difference, newDensity}
-use Rattle.grid.specs.Between.{uncarried, movedMass, firstMark}
-use Rattle.grid.specs.Sight.{Bodied, Around, sight, noSettings}
+use Rattle.grid.specs.Between.{movedMass, firstMark}
+use Rattle.grid.specs.Sight.{Bodies, Around, sight, noSettings}
 use Rattle.grid.proofs.Lists.{getD-there}
-use Rattle.flow.specs.Trade.{Fills, Traders, apart, passed, markFor}
+use Rattle.flow.specs.Trade.{Fills, Trading, apart, passed, markFor}
 
 -- neither fluid nor interface
 module _ {ℓ} {A : Type ℓ} where
@@ -39,22 +39,22 @@ module _ {ℓ} {A : Type ℓ} where
   by-other (suc (suc (suc n))) x y h = refl
 
 -- ---- by cases, of the flag as the code reads it
-module _ (flags : List ℕ) (parts : List ℤ) (fills : List ℕ) (c b i k : ℕ) (h : b < length flags) where
+module _ (flags : List ℕ) (part : ℕ → ℕ → ℤ) (fills : List ℕ) (c b i k : ℕ) (h : b < length flags) where
   read : (n : ℕ) → getD flags b 0 ≡ n → getD flags b 3 ≡ n
   read n e = getD-there flags b 3 0 h ∙ e
 
-  pub passed-fluid : getD flags b 0 ≡ 2 → apart parts c b i k ≡ passed flags parts fills c b i k
+  pub passed-fluid : getD flags b 0 ≡ 2 → apart part c b i k ≡ passed flags part fills c b i k
   unfolding passed
   passed-fluid e = rw (read 2 e) refl
 
-  pub passed-interface : getD flags b 0 ≡ 1 → exchange (getD fills c 0 + getD fills b 0) (apart parts c b i k) ≡ passed flags parts fills c b i k
+  pub passed-interface : getD flags b 0 ≡ 1 → exchange (getD fills c 0 + getD fills b 0) (apart part c b i k) ≡ passed flags part fills c b i k
   unfolding passed
   passed-interface e = rw (read 1 e) refl
 
-  pub passed-neither : (getD flags b 0 ≡ 2 → ⊥) → (getD flags b 0 ≡ 1 → ⊥) → pos 0 ≡ passed flags parts fills c b i k
+  pub passed-neither : (getD flags b 0 ≡ 2 → ⊥) → (getD flags b 0 ≡ 1 → ⊥) → pos 0 ≡ passed flags part fills c b i k
   unfolding passed
   passed-neither f g =
-      sym (by-neither (getD flags b 3) (pos 0) (exchange (getD fills c 0 + getD fills b 0) (apart parts c b i k)) (apart parts c b i k)
+      sym (by-neither (getD flags b 3) (pos 0) (exchange (getD fills c 0 + getD fills b 0) (apart part c b i k)) (apart part c b i k)
       (λ e. f (getD-there flags b 0 3 h ∙ e)) (λ e. g (getD-there flags b 0 3 h ∙ e)))
 
 -- ---- bounds
@@ -68,24 +68,24 @@ exchange-within φ d k h w =
           (le-trans (div-le-of-le-mul 131072 (omega (arith, abs-mul (pos φ) d, mul-le-mul-right (natAbs d) h))) (w .abs));
     }
 
-module _ {flags : List ℕ} {parts : List ℤ} (w : Bodied flags parts) (c b i k : ℕ) (hi : i < 19) (hk : k < 19) (hc : c < length flags) (hb : b < length flags)
+module _ {flags : List ℕ} {part : ℕ → ℕ → ℤ} (w : Bodies flags part) (c b i k : ℕ) (hi : i < 19) (hk : k < 19) (hc : c < length flags) (hb : b < length flags)
     (lc : liquid (getD flags c 3) ≡ true) where
   -- both cells are liquid
-  pub apart-within : liquid (getD flags b 3) ≡ true → Within (apart parts c b i k) 2359296
+  pub apart-within : liquid (getD flags b 3) ≡ true → Within (apart part c b i k) 2359296
   apart-within lb =
       let x = w .body b hb lb .parts k (omega arith) in
       let y = w .body c hc lc .parts i (omega arith) in
-      record { abs = omega (arith, abs-sub (getD parts (19 * b + k) (pos 0)) (getD parts (19 * c + i) (pos 0)), x .abs, y .abs) }
+      record { abs = omega (arith, abs-sub (part b k) (part c i), x .abs, y .abs) }
 
-  pub passed-within : {fills : List ℕ} → Fills flags fills → Within (passed flags parts fills c b i k) 2359296
+  pub passed-within : {fills : List ℕ} → Fills flags fills → Within (passed flags part fills c b i k) 2359296
   unfolding passed
   passed-within {fills} φ = go (getD flags b 3) refl
     where
       go : (f : ℕ) → getD flags b 3 ≡ f
-          → Within (byFlag f (pos 0) (exchange (getD fills c 0 + getD fills b 0) (apart parts c b i k)) (apart parts c b i k) (pos 0)) 2359296
+          → Within (byFlag f (pos 0) (exchange (getD fills c 0 + getD fills b 0) (apart part c b i k)) (apart part c b i k) (pos 0)) 2359296
       go zero e = record { abs = omega arith }
       go (suc zero) e =
-          exchange-within (getD fills c 0 + getD fills b 0) (apart parts c b i k) 2359296 (omega (arith, φ .low c hc, φ .low b hb)) (apart-within (ap liquid e))
+          exchange-within (getD fills c 0 + getD fills b 0) (apart part c b i k) 2359296 (omega (arith, φ .low c hc, φ .low b hb)) (apart-within (ap liquid e))
       go (suc (suc zero)) e = apart-within (ap liquid e)
       go (suc (suc (suc n))) e = record { abs = omega arith }
 
@@ -109,14 +109,14 @@ dirs-pair (suc n) f h =
     let m : suc n + 1 ≡ suc (suc n) = omega arith in
     rw (e, k, m) refl
 
-module _ (flags : List ℕ) (parts masses : List ℤ) (fills off : List ℕ) (low c : ℕ) where
+module _ (flags : List ℕ) (part : ℕ → ℕ → ℤ) (masses : List ℤ) (fills off : List ℕ) (low c : ℕ) where
   -- what c gains from direction i
   unfoldable pub gain : ℕ → ℤ
-  gain i = passed flags parts fills c ((c - low) + getD off i 0) i (pairOpp i)
+  gain i = passed flags part fills c ((c - low) + getD off i 0) i (pairOpp i)
 
-  pub gain-is : (i : ℕ) → gain i ≡ traded (sight (uncarried flags parts masses fills) off low noSettings) c i
-  unfolding gain passed sight stateOf traded difference d3q19
-  gain-is i = refl
+  pub gain-is : (weights : ℕ → ℕ) (i : ℕ) → gain i ≡ traded (sight weights flags part masses fills off low noSettings) c i
+  unfolding gain passed sight traded difference d3q19
+  gain-is weights i = refl
 
   -- the mass with what c gains from the first n directions
   unfoldable pub gained : ℕ → ℤ
@@ -126,18 +126,18 @@ module _ (flags : List ℕ) (parts masses : List ℤ) (fills off : List ℕ) (lo
   unfolding gained sum
   gained-none = sym (+ℤ-idr (getD masses c (pos 0)))
 
-  pub gained-all : gained 18 ≡ tradedMass (sight (uncarried flags parts masses fills) off low noSettings) c
-  unfolding gained gain passed sight stateOf traded tradedMass difference d3q19
-  gained-all = refl
+  pub gained-all : (weights : ℕ → ℕ) → gained 18 ≡ tradedMass (sight weights flags part masses fills off low noSettings) c
+  unfolding gained gain passed sight traded tradedMass difference d3q19
+  gained-all weights = refl
 
   -- as the loop takes them, two directions a turn
-  pub first-is : (i : ℕ) → i % 2 ≡ 1 → passed flags parts fills c ((c - low) + getD off i 0) i (i + 1) ≡ gain i
+  pub first-is : (i : ℕ) → i % 2 ≡ 1 → passed flags part fills c ((c - low) + getD off i 0) i (i + 1) ≡ gain i
   unfolding gain
-  first-is i e = ap (λ (k : ℕ). passed flags parts fills c ((c - low) + getD off i 0) i k) (sym (odd-opp i e))
+  first-is i e = ap (λ (k : ℕ). passed flags part fills c ((c - low) + getD off i 0) i k) (sym (odd-opp i e))
 
-  pub second-is : (i : ℕ) → i % 2 ≡ 1 → passed flags parts fills c ((c - low) + getD off (i + 1) 0) (i + 1) i ≡ gain (i + 1)
+  pub second-is : (i : ℕ) → i % 2 ≡ 1 → passed flags part fills c ((c - low) + getD off (i + 1) 0) (i + 1) i ≡ gain (i + 1)
   unfolding gain
-  second-is i e = ap (λ (k : ℕ). passed flags parts fills c ((c - low) + getD off (i + 1) 0) (i + 1) k) (sym (even-opp i e))
+  second-is i e = ap (λ (k : ℕ). passed flags part fills c ((c - low) + getD off (i + 1) 0) (i + 1) k) (sym (even-opp i e))
 
   pub gained-pair : (i : ℕ) → 1 ≤ i → (gained (i - 1) +ℤ gain i) +ℤ gain (i + 1) ≡ gained (i + 2 - 1)
   unfolding gained
@@ -147,7 +147,7 @@ module _ (flags : List ℕ) (parts masses : List ℤ) (fills off : List ℕ) (lo
       ∙ ap (λ (z : ℤ). getD masses c (pos 0) +ℤ z) (sym (dirs-pair i gain h))
 
   -- ---- the bounds of an interface cell
-  module _ (t : Traders flags parts masses fills) (a : Around (length flags) off low c) (f : getD flags c 3 ≡ 1) where
+  module _ (t : Trading flags part masses fills) (a : Around (length flags) off low c) (f : getD flags c 3 ≡ 1) where
     pub gain-within : (i : ℕ) → 1 ≤ i → i < 19 → Within (gain i) 2359296
     unfolding gain d3q19
     gain-within i h k =
@@ -166,8 +166,8 @@ module _ (flags : List ℕ) (parts masses : List ℤ) (fills off : List ℕ) (lo
           );
         }
 
-    pub mass-within : Within (tradedMass (sight (uncarried flags parts masses fills) off low noSettings) c) 44826624
-    mass-within = subst (λ (z : ℤ). Within z 44826624) gained-all (gained-within 18 (omega arith))
+    pub mass-within : (weights : ℕ → ℕ) → Within (tradedMass (sight weights flags part masses fills off low noSettings) c) 44826624
+    mass-within weights = subst (λ (z : ℤ). Within z 44826624) (gained-all weights) (gained-within 18 (omega arith))
 
 -- ---- after stages 1 to 4: with the density of a liquid cell, and 0 for any other, the code's mass and mark are those of the passes
 module _ (S : Scene) (c : ℕ) (ρ : ℤ) (e : ρ ≡ byFlag (flagAt S c) (pos 0) (newDensity S c) (newDensity S c) (pos 0)) where

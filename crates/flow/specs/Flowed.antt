@@ -2,18 +2,20 @@
 use mathlib.Core.Path.{_≡_}
 use mathlib.Core.Bool.{Bool, true}
 use mathlib.Core.List.{List}
-use Prim.Native.Nat.{ℕ, _*_, _<_}
+use Prim.Native.Nat.{ℕ, _*_, _≤_, _<_}
 use lib.IntN.{ℤ}
 use lib.ListN.{length, getD}
-use Rattle.whole.specs.Fold.{first}
+use Rattle.whole.specs.Fold.{tab, first}
 use Rattle.whole.specs.Search.{Dir}
+use Rattle.lattice.specs.Lattice.{d3q19}
+use Rattle.lattice.specs.Body.{bodyGood}
 use Rattle.lattice.specs.declared.Settings.{Settings}
 use Rattle.grid.specs.declared.Sides.{Sides}
 use Rattle.grid.specs.Grid.{cellsOf, gridOf}
 use Rattle.grid.specs.State.{Scene, liquid}
-use Rattle.grid.specs.Step.{tooFast}
+use Rattle.grid.specs.Step.{flagAt, tooFast, collided}
 use Rattle.grid.specs.Outcome.{sceneOf}
-use Rattle.grid.specs.Between.{Poised, uncarried}
+use Rattle.grid.specs.Between.{Poised, uncarried, movedPart, movedMass, firstMark}
 use Rattle.grid.specs.Halfway.{Moved}
 use Rattle.flow.specs.declared.passing.Passed.{Passed}
 use Rattle.flow.specs.declared.passing.Passed.the-variants.{Stopped, Through}
@@ -27,6 +29,15 @@ pub record Flowable (s : Sides) (g : Settings) (flags : List ℕ) (parts masses 
   pub marked-fluid : (c : ℕ) → c < cellsOf s → liquid (getD flags c 3) ≡ true → getD marks c 0 ≡ 1 → getD flags c 3 ≡ 2
   pub marked : (c : ℕ) → c < cellsOf s → liquid (getD flags c 3) ≡ true → getD marks c 0 ≡ 1
       → (i : ℕ) → Dir 18 i → liquid (getD flags (gridOf s .near c i) 3) ≡ true
+
+-- stages 1 to 4 are made, as the box's Moved has it, over any parts
+pub record MovedTo (S : Scene) (n : ℕ) (part : ℕ → ℕ → ℤ) (masses : List ℤ) (marks : List ℕ) (fair still : Bool) : Type 0 where
+  pub steady : n ≤ first n (tooFast S)
+  pub part-is : (c k : ℕ) → c < n → k < 19 → part c k ≡ movedPart S c k
+  pub masses-are : masses ≡ tab n (movedMass S)
+  pub marks-are : marks ≡ tab n (firstMark S)
+  pub fair-tells : fair ≡ true → (c : ℕ) → c < n → liquid (flagAt S c) ≡ true → bodyGood d3q19 (collided S c) ≡ true
+  pub still-tells : still ≡ true → (c : ℕ) → c < n → firstMark S c ≡ 0
 
 -- the lowest cell that is too fast, or all of stages 1 to 4; the lengths are kept in either case
 pub data Went (S : Scene) (n : ℕ) : Passed → List ℤ → List ℤ → List ℕ → Type 0 where

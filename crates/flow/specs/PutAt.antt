@@ -19,13 +19,17 @@ use Rattle.flow.specs.declared.moving.Put.{Put}
 use Rattle.flow.specs.Sources.{Mirrored, sourceOf, Immersed}
 use Rattle.flow.specs.Trade.{Fills}
 
--- cell c of scene S, put into a list of parts; after a refusal only the length is told
-pub record PutAt (S : Scene) (c : ℕ) (before after : List ℤ) (r : Put) : Type 0 where
-  pub kept : length after ≡ length before
+-- what is told of cell c of scene S: the test, and if it passed its density and whether its parts keep test 6's rules
+pub record Told (S : Scene) (c : ℕ) (r : Put) : Type 0 where
   pub ok : r .ok ≡ not (tooFast S c)
-  pub parts : r .ok ≡ true → after ≡ pasted before (19 * c) (tab 19 (movedPart S c))
   pub rho : r .ok ≡ true → r .rho ≡ byFlag (flagAt S c) (pos 0) (newDensity S c) (newDensity S c) (pos 0)
   pub fair : r .ok ≡ true → r .fair ≡ byFlag (flagAt S c) true (bodyGood d3q19 (collided S c)) (bodyGood d3q19 (collided S c)) true
+
+-- the same with its parts put into the box's list; after a refusal only the length is told
+pub record PutAt (S : Scene) (c : ℕ) (before after : List ℤ) (r : Put) : Type 0 where
+  pub kept : length after ≡ length before
+  pub told : Told S c r
+  pub parts : r .ok ≡ true → after ≡ pasted before (19 * c) (tab 19 (movedPart S c))
 
 -- what the code asks at cell c: a liquid cell has its neighbours around it, and is fluid with liquid all around where pass 0 marked it
 pub record Putting (flags : List ℕ) (parts : List ℤ) (fills : List ℕ) (room : List ℤ) (mark : ℕ) (off from : List ℕ) (low c : ℕ) (g : Settings) : Type 0 where

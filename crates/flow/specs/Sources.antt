@@ -10,6 +10,7 @@ use Rattle.lattice.specs.Body.{vec}
 use Rattle.lattice.specs.declared.Flow.{Flow}
 use Rattle.grid.specs.State.{byFlag, liquid}
 use Rattle.grid.specs.Passes.{normalAt}
+use Rattle.grid.specs.Fill.{partOf}
 use Rattle.grid.specs.Sight.{Bodied}
 
 -- opposite neighbours lie opposite: the offsets of a pair add up to twice the lowest inner cell, and rest's is that cell
@@ -31,9 +32,9 @@ unfoldable pub leanAt : List ℕ → List ℕ → List ℕ → ℕ → ℕ → �
 leanAt flags fills off low c i = byFlag (getD flags c 3) (pos 0) (dot (d3q19 .e i) (normalAt flags fills off (c - low))) (pos 0) (pos 0)
 
 -- v is the flow of cell c
-pub record Flows (parts : List ℤ) (c : ℕ) (v : Flow) : Type 0 where
-  pub density : v .rho ≡ density d3q19 (λ k. getD parts (19 * c + k) (pos 0))
-  pub momentum : vec v ≡ momentum d3q19 (λ k. getD parts (19 * c + k) (pos 0))
+pub record Flows (part : ℕ → ℕ → ℤ) (c : ℕ) (v : Flow) : Type 0 where
+  pub density : v .rho ≡ density d3q19 (part c)
+  pub momentum : vec v ≡ momentum d3q19 (part c)
 
 -- cell b is the neighbour of a liquid cell c in direction i, with k an own part's number and d = e·j
 pub record Beside (flags : List ℕ) (parts : List ℤ) (c b i k : ℕ) (v : Flow) (d : ℤ) : Type 0 where
@@ -44,7 +45,7 @@ pub record Beside (flags : List ℕ) (parts : List ℤ) (c b i k : ℕ) (v : Flo
   pub some : 0 < i
   pub most : i < 19
   pub part : k < 19
-  pub flows : Flows parts c v
+  pub flows : Flows (partOf parts) c v
   pub along : d ≡ dot (d3q19 .e i) (vec v)
 
 -- names every definition of this file: whoever unfolds this computes with all of them

@@ -11,7 +11,7 @@ use lattice::rules::all_inside;
 use lattice::rules::all_zero;
 ghost use mathlib.Core.Path.{_≡_};
 ghost use mathlib.Core.Bool.{true};
-ghost use mathlib.Core.List.{List};
+ghost use mathlib.Core.List.{List, []};
 ghost use Prim.Native.Nat.{ℕ, _+_, _*_, _≤_};
 ghost use lib.IntN.{ℤ, pos};
 ghost use lib.ListN.{length, getD, replicate};
@@ -22,7 +22,7 @@ ghost use Rattle.grid.specs.State.{liquid};
 ghost use Rattle.grid.specs.Step.{streamed};
 ghost use Rattle.grid.specs.Outcome.{settingsGood};
 ghost use Rattle.grid.specs.Pasted.{pasted};
-ghost use Rattle.grid.specs.Sight.{flowing, noSettings, sight};
+ghost use Rattle.grid.specs.Sight.{noSettings, boxSight};
 ghost use Rattle.flow.specs.PutAt.{PutAt, Putting};
 
 // Whether a cell passed stage 3's test; if so, whether its new parts keep test 6's rules, and its density.
@@ -50,7 +50,7 @@ fn fair(f: [i32; 19]) -> bool
 // Stages 3 and 4 of a liquid cell c into which f streamed.
 fn put_moved(f: [i32; 19], parts2: &mut [i32], c: usize, g: Settings) -> Put
     requires { ⌜ Bounded f 1572864 1572864 × (settingsGood g ≡ true) × (19 * c + 19 ≤ length (now parts2)) ⌝ }
-    ensures { λ r. ⌜ ((flags : List ℕ) (parts : List ℤ) (fills off : List ℕ) (low : ℕ) → liquid (getD flags c 3) ≡ true → f ≡ tab 19 (streamed (sight (flowing flags parts fills) off low noSettings) c) → PutAt (sight (flowing flags parts fills) off low g) c (now (parts2 .entry)) (now (parts2 .exit)) r) ⌝ }
+    ensures { λ r. ⌜ ((flags : List ℕ) (parts : List ℤ) (fills off : List ℕ) (low : ℕ) → liquid (getD flags c 3) ≡ true → f ≡ tab 19 (streamed (boxSight flags parts [] fills off low noSettings) c) → PutAt (boxSight flags parts [] fills off low g) c (now (parts2 .entry)) (now (parts2 .exit)) r) ⌝ }
 {
     let v = pulled(flow_of(f), g);
     if !steady(v) {
@@ -94,7 +94,7 @@ pub(crate) fn put_parts(
     g: Settings,
 ) -> Put
     requires { ⌜ Putting (now flags) (now parts) (now fill) (now parts2) mark (now off) (now from) low c g ⌝ }
-    ensures { λ r. ⌜ PutAt (sight (flowing (now (flags .entry)) (now (parts .entry)) (now (fill .entry))) (now (off .entry)) low g) c (now (parts2 .entry)) (now (parts2 .exit)) r ⌝ }
+    ensures { λ r. ⌜ PutAt (boxSight (now (flags .entry)) (now (parts .entry)) [] (now (fill .entry)) (now (off .entry)) low g) c (now (parts2 .entry)) (now (parts2 .exit)) r ⌝ }
 {
     if wet(flags[c]) {
         return put_moved(

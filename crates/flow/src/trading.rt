@@ -5,9 +5,9 @@ ghost use Prim.Native.Nat.{_+_, _<_};
 ghost use lib.IntN.{pos, _-ℤ_};
 ghost use lib.ListN.{length, getD};
 ghost use Rattle.grid.specs.State.{byFlag};
-ghost use Rattle.grid.specs.Sight.{Bodied, Around, sight, noSettings};
+ghost use Rattle.grid.specs.Fill.{partOf};
+ghost use Rattle.grid.specs.Sight.{Bodied, Around, boxSight, noSettings};
 ghost use Rattle.grid.specs.Step.{tradedMass};
-ghost use Rattle.grid.specs.Between.{uncarried};
 ghost use Rattle.flow.specs.Trade.{Fills, Traders, passed, markFor};
 
 fn difference(a: i32, b: i32) -> i64
@@ -26,7 +26,7 @@ fn both(a: u32, b: u32) -> i64
 // What cell c gains from cell b in direction i, whose opposite is k.
 fn traded(flags: &[u8], parts: &[i32], fill: &[u32], c: usize, b: usize, i: usize, k: usize) -> i64
     requires { ⌜ Bodied (now flags) (now parts) × Fills (now flags) (now fill) × (c < length (now flags)) × (b < length (now flags)) × (i < 19) × (k < 19) ⌝ }
-    ensures { λ r. ⌜ r ≡ passed (now (flags .entry)) (now (parts .entry)) (now (fill .entry)) c b i k ⌝ }
+    ensures { λ r. ⌜ r ≡ passed (now (flags .entry)) (partOf (now (parts .entry))) (now (fill .entry)) c b i k ⌝ }
 {
     let f = flags[b];
     let d = difference(parts[19 * b + k], parts[19 * c + i]);
@@ -50,7 +50,7 @@ fn traded_mass(
     c: usize,
 ) -> i64
     requires { ⌜ Traders (now flags) (now parts) (now mass) (now fill) × Around (length (now flags)) (now off) low c × (getD (now flags) c 3 ≡ 1) ⌝ }
-    ensures { λ r. ⌜ r ≡ tradedMass (sight (uncarried (now (flags .entry)) (now (parts .entry)) (now (mass .entry)) (now (fill .entry))) (now (off .entry)) low noSettings) c ⌝ }
+    ensures { λ r. ⌜ r ≡ tradedMass (boxSight (now (flags .entry)) (now (parts .entry)) (now (mass .entry)) (now (fill .entry)) (now (off .entry)) low noSettings) c ⌝ }
 {
     let k = c - low;
     let mut m = wide(mass[c]);
@@ -75,7 +75,7 @@ pub(crate) fn new_mass(
     rho: i32,
 ) -> i32
     requires { ⌜ Traders (now flags) (now parts) (now mass) (now fill) × (c < length (now flags)) × (getD (now flags) c 3 ≡ 1 → Around (length (now flags)) (now off) low c) ⌝ }
-    ensures { λ r. ⌜ r ≡ byFlag (getD (now (flags .entry)) c 3) rho (tradedMass (sight (uncarried (now (flags .entry)) (now (parts .entry)) (now (mass .entry)) (now (fill .entry))) (now (off .entry)) low noSettings) c) rho rho ⌝ }
+    ensures { λ r. ⌜ r ≡ byFlag (getD (now (flags .entry)) c 3) rho (tradedMass (boxSight (now (flags .entry)) (now (parts .entry)) (now (mass .entry)) (now (fill .entry)) (now (off .entry)) low noSettings) c) rho rho ⌝ }
 {
     if flags[c] == 1 {
         return traded_mass(flags, parts, mass, fill, off, low, c) as i32;

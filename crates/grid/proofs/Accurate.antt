@@ -1,5 +1,5 @@
 -- Accurate: demand 2's bounds over the step's own outcome. After an accepted step, in a cell that stays liquid, each moving part of the second set lies
--- less than one unit from the exact BGK value, the rest part less than eighteen. Assumes nothing.
+-- less than one unit from the exact BGK value, the rest part less than as many as there are directions: eighteen in the box. Assumes nothing.
 use mathlib.Core.Path.{_≡_, refl, sym, ap, ap₂, _∙_, subst}
 use mathlib.Core.Bool.{Bool, true, false, _&&_, _||_, not, cond, false≢true}
 use mathlib.Core.List.{List, [], _∷_}
@@ -17,17 +17,18 @@ use Rattle.whole.specs.Order.{of<, of≤, leZ-true, ltZ-true}
 use Rattle.whole.specs.Parts.{up, down}
 use Rattle.whole.specs.Ring.{quotes}
 use Rattle.whole.specs.Search.{Dir, first-none}
-use Rattle.lattice.specs.Lattice.{V3, dot, d3q19}
+use Rattle.lattice.specs.Lattice.{V3, dot, Lattice, d3q19}
 use Rattle.lattice.specs.Cell.{dense, slow, over, under}
 use Rattle.lattice.specs.declared.Settings.{Settings}
-use Rattle.lattice.proofs.Balanced.{balanced19}
+use Rattle.lattice.proofs.Balanced.{Balanced, balanced19}
 use Rattle.grid.specs.declared.Sides.{Sides}
 use Rattle.grid.specs.declared.Answer.{Answer}
 use Rattle.grid.specs.declared.Answer.the-variants.{Done, Refused}
-use Rattle.grid.specs.Grid.{cellsOf, gridOf, box}
+use Rattle.grid.specs.Grid.{Grid, cellsOf, sidesGood, gridOf, box}
 use Rattle.grid.specs.State.{Lent, State, Scene, byFlag, liquid, stateOf, lentOf}
 use Rattle.grid.specs.Step.{newDensity, newMomentum, tradedMass, tooFast, collided, filled, emptied, besideFilled, besideEmptied, newFlag, flagAfter, newPart, born, next}
-use Rattle.grid.specs.Outcome.{moveAnswer, sceneOf, stepAnswer, stepSecond}
+use Rattle.grid.specs.Outcome.{moveAnswer, lengthsGood, sceneOf, entryAnswer, stepAnswer}
+use Rattle.grid.specs.Ground.{Ground, ground, boxGround, stateOn, sceneOn, stepOn, secondOn}
 use Rattle.grid.specs.Demands.{gridAnswer, Same}
 use Rattle.grid.proofs.Accepted.{none-found, sound}
 use Rattle.grid.proofs.Bgk.{exact, error, error-is, bgk-holds}
@@ -42,12 +43,24 @@ scale S c = natAbs (pos 73728 *ℤ newDensity S c)
 abbrev pub apart : Scene → State → ℕ → ℕ → ℕ
 apart S t c k = natAbs (pos 73728 *ℤ newDensity S c *ℤ t .part c k -ℤ exact S c k)
 
+-- what is claimed of cell c: where it was liquid and still is, the moving parts, and the rest part
+abbrev pub Accurate : Ground → Settings → Lent → Lent → List ℕ → ℕ → Type 0
+Accurate G g a second marks c =
+    liquid (stateOn G a .flag c) ≡ true → liquid (stateOn G (secondOn G g a second marks) .flag c) ≡ true
+    → ((i : ℕ) → Dir (G .directions) i → apart (sceneOn G g a) (stateOn G (secondOn G g a second marks)) c i < scale (sceneOn G g a) c)
+    × (apart (sceneOn G g a) (stateOn G (secondOn G g a second marks)) c 0 < G .directions * scale (sceneOn G g a) c)
+
+-- where the equilibrium of every momentum that stage 3 meets adds up to the density
 abbrev pub Claim : Type 0
 Claim =
-    (s : Sides) (g : Settings) (a second : Lent) (marks : List ℕ) → stepAnswer s g a second marks ≡ Done
-    → (c : ℕ) → c < cellsOf s → liquid (stateOf 18 a .flag c) ≡ true → liquid (stateOf 18 (stepSecond s g a second marks) .flag c) ≡ true
-    → ((i : ℕ) → Dir 18 i → apart (sceneOf s g a) (stateOf 18 (stepSecond s g a second marks)) c i < scale (sceneOf s g a) c)
-    × (apart (sceneOf s g a) (stateOf 18 (stepSecond s g a second marks)) c 0 < 18 * scale (sceneOf s g a) c)
+    (L : Lattice) (M : Grid) (fits : Bool) (g : Settings) (a second : Lent) (marks : List ℕ) → ((c : ℕ) → Balanced L (newMomentum (sceneOn (ground L M fits) g a) c)) → 0 < L .q
+    → stepOn (ground L M fits) g a second marks ≡ Done → (c : ℕ) → c < M .cells → Accurate (ground L M fits) g a second marks c
+
+-- of document 01's grid
+abbrev pub BoxClaim : Type 0
+BoxClaim =
+    (s : Sides) (g : Settings) (a second : Lent) (marks : List ℕ) → stepAnswer s g a second marks ≡ Done → (c : ℕ) → c < cellsOf s
+    → Accurate (boxGround s) g a second marks c
 
 -- ---- a cell with a density in its range is not both filled and emptied
 pub not-both : (m ρ : ℤ) → dense ρ ≡ true → over m ρ ≡ true → under m ρ ≡ true → ⊥
@@ -117,32 +130,42 @@ not-zero : (z : ℤ) → dense z ≡ true → 0 < natAbs z
 unfolding dense
 not-zero z e = let h = abs-above (leZ-true {a = pos 294912} {b = z} (and-left (leZ (pos 294912) z) (leZ z (pos 1179648)) e)) in omega arith
 
-module _ (s : Sides) (g : Settings) (a second : Lent) (marks : List ℕ) (e : stepAnswer s g a second marks ≡ Done) (c : ℕ) (h : c < cellsOf s)
-    (o : liquid (stateOf 18 a .flag c) ≡ true) (l : liquid (stateOf 18 (stepSecond s g a second marks) .flag c) ≡ true) where
-  written : Same 18 (cellsOf s) (next (sceneOf s g a)) (stateOf 18 (stepSecond s g a second marks))
+module _ (L : Lattice) (M : Grid) (fits : Bool) (g : Settings) (a second : Lent) (marks : List ℕ) (e : stepOn (ground L M fits) g a second marks ≡ Done) (c : ℕ) (h : c < M .cells)
+    (o : liquid (stateOf (L .q) a .flag c) ≡ true) (l : liquid (stateOf (L .q) (secondOn (ground L M fits) g a second marks) .flag c) ≡ true) where
+  abbrev S : Scene
+  S = sceneOn (ground L M fits) g a
+
+  abbrev after : State
+  after = stateOf (L .q) (secondOn (ground L M fits) g a second marks)
+
+  written : Same (L .q) (M .cells) (next S) after
   written =
-      subst (λ (x : Lent). Same 18 (cellsOf s) (next (sceneOf s g a)) (stateOf 18 x)) (sym (second-next s g a second marks e)) (same-listed 18 (cellsOf s) (next (sceneOf s g a)))
+      subst (λ (x : Lent). Same (L .q) (M .cells) (next S) (stateOf (L .q) x)) (sym (second-next (ground L M fits) g a second marks e)) (same-listed (L .q) (M .cells) (next S))
 
-  in-range : dense (newDensity (sceneOf s g a) c) ≡ true
-  unfolding sceneOf gridOf box cellsOf gridAnswer
-  in-range = tested (sceneOf s g a) (sound d3q19 (gridOf s) (stateOf 18 a) (moveAnswer (sceneOf s g a)) (step-tells s g a second marks e) .1) c h o
+  in-range : dense (newDensity S c) ≡ true
+  unfolding gridAnswer
+  in-range = tested S (sound L M (stateOf (L .q) a) (moveAnswer S) (step-tells (ground L M fits) g a second marks e) .1) c h o
 
-  held : (k : ℕ) → k ≤ 18 → stateOf 18 (stepSecond s g a second marks) .part c k ≡ collided (sceneOf s g a) c k
-  unfolding next sceneOf
+  held : (k : ℕ) → k ≤ L .q → after .part c k ≡ collided S c k
+  unfolding next
   held k m =
       sym (written .parts c k h m)
-      ∙ stays (sceneOf s g a) c k in-range o (subst (λ (f : ℕ). liquid f ≡ true) (sym (written .flags c h)) l)
+      ∙ stays S c k in-range o (subst (λ (f : ℕ). liquid f ≡ true) (sym (written .flags c h)) l)
 
-  same-error : (k : ℕ) → k ≤ 18 → apart (sceneOf s g a) (stateOf 18 (stepSecond s g a second marks)) c k ≡ natAbs (error (sceneOf s g a) c k)
+  same-error : (k : ℕ) → k ≤ L .q → apart S after c k ≡ natAbs (error S c k)
   same-error k m =
-      ap (λ (x : ℤ). natAbs (pos 73728 *ℤ newDensity (sceneOf s g a) c *ℤ x -ℤ exact (sceneOf s g a) c k)) (held k m)
-      ∙ ap natAbs (error-is (sceneOf s g a) c k)
+      ap (λ (x : ℤ). natAbs (pos 73728 *ℤ newDensity S c *ℤ x -ℤ exact S c k)) (held k m)
+      ∙ ap natAbs (error-is S c k)
 
-pub accurate-holds : Claim
-unfolding sceneOf d3q19
-accurate-holds s g a second marks e c h o l =
-    let S = sceneOf s g a in
-    let b = bgk-holds S c (not-zero (newDensity S c) (in-range s g a second marks e c h o l)) (balanced19 (newMomentum S c)) in (
-      λ i d. subst (λ (n : ℕ). n < scale S c) (sym (same-error s g a second marks e c h o l i (d .most))) (b .0 i d),
-      subst (λ (n : ℕ). n < 18 * scale S c) (sym (same-error s g a second marks e c h o l 0 (omega arith))) (b .1 (omega arith)),
+pub accurate-on : Claim
+accurate-on L M fits g a second marks b some e c h o l =
+    let S = sceneOn (ground L M fits) g a in
+    let t = bgk-holds S c (not-zero (newDensity S c) (in-range L M fits g a second marks e c h o l)) (b c) in (
+      λ i d. subst (λ (n : ℕ). n < scale S c) (sym (same-error L M fits g a second marks e c h o l i (d .most))) (t .0 i d),
+      subst (λ (n : ℕ). n < L .q * scale S c) (sym (same-error L M fits g a second marks e c h o l 0 (omega arith))) (t .1 some),
     )
+
+pub accurate-holds : BoxClaim
+unfolding stepAnswer entryAnswer lengthsGood sceneOf gridOf box cellsOf d3q19
+accurate-holds s g a second marks e c h =
+    accurate-on d3q19 (gridOf s) (sidesGood s) g a second marks (λ d. balanced19 (newMomentum (sceneOn (boxGround s) g a) d)) (omega arith) e c h

@@ -12,18 +12,19 @@ use Rattle.grid.specs.declared.Sides.{Sides}
 use Rattle.grid.specs.declared.Answer.{Answer}
 use Rattle.grid.specs.declared.Answer.the-variants.{Done}
 use Rattle.grid.specs.State.{Lent}
-use Rattle.grid.specs.Outcome.{accepted, stepAnswer, nextOf, ran, runEntry, runCount, runAnswer, runFirst}
+use Rattle.grid.specs.Outcome.{accepted, lengthsGood, sceneOf, entryAnswer, stepAnswer, nextOf, ranBy, ran, runEntry, runCount, runAnswer, runFirst}
+use Rattle.grid.specs.Ground.{Ground, boxGround, stepOn, nextOn, ranOn, runEntryOn, runCountOn, runAnswerOn, runFirstOn}
 use Rattle.grid.proofs.Accepted.{done-accepted}
 
-module _ (s : Sides) (g : Settings) (marks : List ℕ) where
+module _ (G : Ground) (g : Settings) (marks : List ℕ) where
   -- the set after k steps
   unfoldable pub after : ℕ → Lent → Lent
   after zero a = a
-  after (suc k) a = after k (nextOf s g a)
+  after (suc k) a = after k (nextOn G g a)
 
   -- the first k steps are accepted
   abbrev pub Leading : ℕ → Lent → Type 0
-  Leading k a = (j : ℕ) → j < k → accepted (stepAnswer s g (after j a) (after j a) marks) ≡ true
+  Leading k a = (j : ℕ) → j < k → accepted (stepOn G g (after j a) (after j a) marks) ≡ true
 
   -- what is claimed of a run of some steps from a, by its count, its answer and the set that it reached
   pub record Counted (steps : ℕ) (a : Lent) (count : ℕ) (answer : Answer) (reached : Lent) : Type 0 where
@@ -32,33 +33,39 @@ module _ (s : Sides) (g : Settings) (marks : List ℕ) where
     pub largest : (k : ℕ) → k ≤ steps → Leading k a → k ≤ count
     pub reached-is : reached ≡ after count a
     pub all-made : count ≡ steps → answer ≡ Done
-    pub stopped : count < steps → (answer ≡ stepAnswer s g reached reached marks) × (accepted answer ≡ false)
+    pub stopped : count < steps → (answer ≡ stepOn G g reached reached marks) × (accepted answer ≡ false)
 
 -- of every run that is not refused at its entry
 abbrev pub Claim : Type 0
 Claim =
-    (steps : ℕ) (s : Sides) (g : Settings) (a b : Lent) (marks : List ℕ) → runEntry steps s g a b marks ≡ Done
-    → Counted s g marks steps a (runCount steps s g a b marks) (runAnswer steps s g a b marks) (runFirst steps s g a b marks)
+    (G : Ground) (steps : ℕ) (g : Settings) (a b : Lent) (marks : List ℕ) → runEntryOn G steps g a b marks ≡ Done
+    → Counted G g marks steps a (runCountOn G steps g a b marks) (runAnswerOn G steps g a b marks) (runFirstOn G steps g a b marks)
 
-module _ (s : Sides) (g : Settings) (marks : List ℕ) where
-  first-made : (k : ℕ) (a : Lent) → accepted (stepAnswer s g a a marks) ≡ true → Leading s g marks k (nextOf s g a) → Leading s g marks (suc k) a
+-- of document 01's grid
+abbrev pub BoxClaim : Type 0
+BoxClaim =
+    (steps : ℕ) (s : Sides) (g : Settings) (a b : Lent) (marks : List ℕ) → runEntry steps s g a b marks ≡ Done
+    → Counted (boxGround s) g marks steps a (runCount steps s g a b marks) (runAnswer steps s g a b marks) (runFirst steps s g a b marks)
+
+module _ (G : Ground) (g : Settings) (marks : List ℕ) where
+  first-made : (k : ℕ) (a : Lent) → accepted (stepOn G g a a marks) ≡ true → Leading G g marks k (nextOn G g a) → Leading G g marks (suc k) a
   unfolding after
   first-made k a e l zero h = e
   first-made k a e l (suc j) h = l j (le-of-suc-le-suc h)
 
-  first-off : (k : ℕ) (a : Lent) → Leading s g marks (suc k) a → Leading s g marks k (nextOf s g a)
+  first-off : (k : ℕ) (a : Lent) → Leading G g marks (suc k) a → Leading G g marks k (nextOn G g a)
   unfolding after
   first-off k a l j h = l (suc j) (omega arith)
 
   -- the steps themselves
   abbrev Made : ℕ → Lent → Type 0
-  Made steps a = Counted s g marks steps a (ran s g marks steps a .count) (ran s g marks steps a .stop) (ran s g marks steps a .reached)
+  Made steps a = Counted G g marks steps a (ranOn G g marks steps a .count) (ranOn G g marks steps a .stop) (ranOn G g marks steps a .reached)
 
-  more : (steps : ℕ) (a : Lent) (b : Bool) → accepted (stepAnswer s g a a marks) ≡ b → Made steps (nextOf s g a) → Made (suc steps) a
-  unfolding ran after
+  more : (steps : ℕ) (a : Lent) (b : Bool) → accepted (stepOn G g a a marks) ≡ b → Made steps (nextOn G g a) → Made (suc steps) a
+  unfolding after
   more steps a true e c =
-      let r = ran s g marks steps (nextOf s g a) in
-      rw (e, ran)
+      let r = ranOn G g marks steps (nextOn G g a) in
+      rw (e, ranBy)
       (record {
         at-most = omega (arith, c .at-most);
         leading = first-made (r .count) a e (c .leading);
@@ -68,11 +75,11 @@ module _ (s : Sides) (g : Settings) (marks : List ℕ) where
         stopped = λ q. c .stopped (omega arith);
       })
     where
-      largest : (k : ℕ) → k ≤ suc steps → Leading s g marks k a → k ≤ suc (ran s g marks steps (nextOf s g a) .count)
+      largest : (k : ℕ) → k ≤ suc steps → Leading G g marks k a → k ≤ suc (ranOn G g marks steps (nextOn G g a) .count)
       largest zero h l = omega arith
       largest (suc k) h l = let m = c .largest k (le-of-suc-le-suc h) (first-off k a l) in omega arith
   more steps a false e c =
-      rw (e, ran)
+      rw (e, ranBy)
       (record {
         at-most = omega arith;
         leading = λ j h. absurd (omega arith);
@@ -82,12 +89,12 @@ module _ (s : Sides) (g : Settings) (marks : List ℕ) where
         stopped = λ q. (refl, e);
       })
     where
-      none : (k : ℕ) → Leading s g marks k a → k ≤ 0
+      none : (k : ℕ) → Leading G g marks k a → k ≤ 0
       none zero l = omega arith
       none (suc k) l = absurd (false≢true (sym e ∙ l 0 (omega arith)))
 
   made : (steps : ℕ) (a : Lent) → Made steps a
-  unfolding ran after
+  unfolding after
   made zero a = record {
     at-most = omega arith;
     leading = λ j h. absurd (omega arith);
@@ -96,11 +103,14 @@ module _ (s : Sides) (g : Settings) (marks : List ℕ) where
     all-made = λ q. refl;
     stopped = λ q. absurd (omega arith);
   }
-  made (suc steps) a = more steps a (accepted (stepAnswer s g a a marks)) refl (made steps (nextOf s g a))
+  made (suc steps) a = more steps a (accepted (stepOn G g a a marks)) refl (made steps (nextOn G g a))
 
-pub counted-holds : Claim
-unfolding runCount runAnswer runFirst
-counted-holds steps s g a b marks e =
-    let t = done-accepted (runEntry steps s g a b marks) e in
-    let r = ran s g marks steps a in
-    rw (cond-yes (r .count) 0 t, cond-yes (r .stop) (runEntry steps s g a b marks) t, cond-yes (r .reached) a t) (made s g marks steps a)
+pub counted-on : Claim
+counted-on G steps g a b marks e =
+    let t = done-accepted (runEntryOn G steps g a b marks) e in
+    let r = ranOn G g marks steps a in
+    rw (cond-yes (r .count) 0 t, cond-yes (r .stop) (runEntryOn G steps g a b marks) t, cond-yes (r .reached) a t) (made G g marks steps a)
+
+pub counted-holds : BoxClaim
+unfolding lengthsGood sceneOf entryAnswer stepAnswer nextOf ran runEntry runCount runAnswer runFirst
+counted-holds steps s g a b marks e = counted-on (boxGround s) steps g a b marks e

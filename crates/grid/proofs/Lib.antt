@@ -10,6 +10,7 @@ pub mod Accepted
 pub mod Reached
 pub mod Listed
 pub mod Conserved
+pub mod Grounded
 pub mod Bgk
 pub mod Level
 pub mod Accurate

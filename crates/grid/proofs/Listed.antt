@@ -13,7 +13,7 @@ use borrow.Author.Tests.{eq-eqb}
 use Rattle.whole.specs.Fold.{tab}
 use Rattle.whole.specs.Tab.{length-tab, getD-tab}
 use Rattle.grid.specs.State.{Lent, State, stateOf, lentOf}
-use Rattle.grid.specs.Outcome.{lengthsGood}
+use Rattle.grid.specs.Outcome.{lengthsFit, lengthsGood}
 use Rattle.grid.specs.Demands.{Same}
 
 -- part k of cell c stands at (q + 1)c + k
@@ -45,11 +45,15 @@ same-listed q n s = record {
   carries = refl;
 }
 
-pub lengths-listed : (n : ℕ) (s : State) → lengthsGood n (lentOf 18 n s) ≡ true
-unfolding lengthsGood lentOf
-lengths-listed n s =
-    five (eq-eqb _ _ (length-tab n (s .flag))) (eq-eqb _ _ (length-tab (19 * n) (λ m. s .part (m / 19) (m % 19)))) (eq-eqb _ _ (length-tab n (s .mass)))
+pub lengths-fit : (q n : ℕ) (s : State) → lengthsFit (suc q) n (lentOf q n s) ≡ true
+unfolding lentOf
+lengths-fit q n s =
+    five (eq-eqb _ _ (length-tab n (s .flag))) (eq-eqb _ _ (length-tab (suc q * n) (λ m. s .part (m / suc q) (m % suc q)))) (eq-eqb _ _ (length-tab n (s .mass)))
     (eq-eqb _ _ (length-tab n (s .fill))) refl
   where
     five : {a b c d e : Bool} → a ≡ true → b ≡ true → c ≡ true → d ≡ true → e ≡ true → (a && b && c && d && e) ≡ true
     five u v w x y i = u i && v i && w i && x i && y i
+
+pub lengths-listed : (n : ℕ) (s : State) → lengthsGood n (lentOf 18 n s) ≡ true
+unfolding lengthsGood
+lengths-listed n s = lengths-fit 18 n s

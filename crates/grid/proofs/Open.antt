@@ -1,6 +1,6 @@
--- Test 5 by offsets: a fluid cell beside an empty one is where the grid has one, and the lowest such cell is test 5's place. Assumes nothing.
+-- Test 5 by offsets: the lowest fluid cell beside an empty one; and in the box it is test 5's place. Assumes nothing.
 use borrow.Author.Tests.{ne-eqb, eq-eqb, eqb-true}
-use mathlib.Core.Path.{_≡_, refl, sym, ap, ap₂, _∙_}
+use mathlib.Core.Path.{_≡_, refl, sym, ap, ap₂, _∙_, subst}
 use mathlib.Core.Bool.{Bool, true, false, _&&_}
 use mathlib.Core.List.{List}
 use Prim.Native.Nat.{ℕ, suc, _+_, _-_, _≤_, _<_}
@@ -14,14 +14,11 @@ use Rattle.whole.specs.Search.{first-is, first-all, first-cong, any-hit}
 use Rattle.grid.specs.declared.Sides.{Sides}
 use Rattle.grid.specs.Grid.{gridOf, box, cellsOf}
 use Rattle.grid.specs.Good.{badFluid, openFluid}
-use Rattle.grid.specs.Passes.{Flagged, flagOf, besideAt}
+use Rattle.grid.specs.Passes.{Reaching, besideAt, openAt, openPlace, Embedded, Flagged, flagOf}
 use Rattle.grid.proofs.Walls.{inner}
 use Rattle.grid.proofs.Beside.{Offsets, beside-is, any-none}
+use Rattle.grid.proofs.Inside.{reaching, amid-inner}
 use Rattle.grid.proofs.Lists.{getD-there}
-
--- by offsets: a fluid cell beside an empty one
-abbrev pub openAt : List ℕ → List ℕ → ℕ → ℕ → Bool
-openAt flags off low c = eqb (getD flags c 0) 2 && besideAt flags off (c - low) 0
 
 module _ (flags off : List ℕ) (low c : ℕ) where
   pub dry : (getD flags c 0 ≡ 2 → ⊥) → openAt flags off low c ≡ false
@@ -45,7 +42,25 @@ module _ (flags off : List ℕ) (low c : ℕ) where
       (any-hit 18 (λ a. eqb (getD flags (c - low + getD off (suc a) 0) 0) 0) (i - 1) (omega arith)
       (eq-eqb _ 0 (ap (λ (m : ℕ). getD flags (c - low + getD off m 0) 0) same ∙ e)))
 
--- at each cell the test by offsets is the test of test 5
+-- the lowest such cell
+module _ (flags off : List ℕ) (low : ℕ) where
+  pub found : (c : ℕ) → c < length flags → ((j : ℕ) → j < c → openAt flags off low j ≡ false) → openAt flags off low c ≡ true → c ≡ openPlace flags off low
+  unfolding openPlace
+  found c h shut-below t = sym (first-is (length flags) (openAt flags off low) c h shut-below t)
+
+  pub none-found : (c : ℕ) → c ≤ length flags → length flags ≤ c → ((j : ℕ) → j < c → openAt flags off low j ≡ false) → c ≡ openPlace flags off low
+  unfolding openPlace
+  none-found c h g all-shut = sym (first-all (length flags) (openAt flags off low) (λ j k. all-shut j (omega arith)) ∙ omega arith)
+
+  -- a fluid cell has all its neighbours, so no other need be looked at
+  pub none-inside : Embedded flags off low → ((j : ℕ) → j < length flags - low → low ≤ j → openAt flags off low j ≡ false) → length flags ≡ openPlace flags off low
+  none-inside w h = none-found (length flags) (omega arith) (omega arith) (λ j k. by j k (ℕ-discrete (getD flags j 0) 2))
+    where
+      by : (j : ℕ) → j < length flags → Dec (getD flags j 0 ≡ 2) → openAt flags off low j ≡ false
+      by j k (no f) = dry flags off low j f
+      by j k (yes f) = let g = w .fluid j k f in h j (omega (arith, g .to)) (g .from)
+
+-- in the box the test by offsets is test 5's at each cell, and what it asks holds
 module _ {s : Sides} (flags off : List ℕ) (low : ℕ) (w : Flagged s flags) (o : Offsets s off low) where
   test : (c : ℕ) → c < cellsOf s → openAt flags off low c ≡ openFluid 18 (gridOf s) (flagOf flags) c
   unfolding openFluid
@@ -63,23 +78,14 @@ module _ {s : Sides} (flags off : List ℕ) (low : ℕ) (w : Flagged s flags) (o
           ap (λ (b : Bool). b && besideAt flags off (c - low) 0) e
           ∙ sym (ap (λ (b : Bool). b && anyDir 18 (λ i. eqb (flagOf flags (gridOf s .near c i)) 0)) (ap (λ (f : ℕ). eqb f 2) (getD-there flags c 3 0 k) ∙ e))
 
-  same : badFluid 18 (gridOf s) (flagOf flags) ≡ first (cellsOf s) (openAt flags off low)
-  unfolding badFluid gridOf box cellsOf
-  same = sym (first-cong (cellsOf s) 0 (openAt flags off low) (openFluid 18 (gridOf s) (flagOf flags)) (λ a h. test (0 + a) (omega arith)))
+  pub open-box : openPlace flags off low ≡ badFluid 18 (gridOf s) (flagOf flags)
+  unfolding openPlace badFluid gridOf box cellsOf
+  open-box =
+      ap (λ (n : ℕ). first n (openAt flags off low)) (w .count)
+      ∙ first-cong (cellsOf s) 0 (openAt flags off low) (openFluid 18 (gridOf s) (flagOf flags)) (λ a h. test (0 + a) (omega arith))
 
-  pub found : (c : ℕ) → c < length flags → ((j : ℕ) → j < c → openAt flags off low j ≡ false) → openAt flags off low c ≡ true → c ≡ badFluid 18 (gridOf s) (flagOf flags)
-  found c h low-shut t = sym (same ∙ first-is (cellsOf s) (openAt flags off low) c (omega (arith, w .count)) low-shut t)
-
-  pub none-found : (c : ℕ) → c ≤ length flags → length flags ≤ c → ((j : ℕ) → j < c → openAt flags off low j ≡ false) → c ≡ badFluid 18 (gridOf s) (flagOf flags)
-  none-found c h g all-shut =
-      sym (same ∙ first-all (cellsOf s) (openAt flags off low) (λ j k. all-shut j (omega (arith, w .count))) ∙ omega (arith, w .count))
-
-  -- a cell that is fluid is inner, so no other need be looked at
-  pub none-inside : ((j : ℕ) → j < length flags - low → low ≤ j → openAt flags off low j ≡ false) → length flags ≡ badFluid 18 (gridOf s) (flagOf flags)
-  none-inside h = none-found (length flags) (omega arith) (omega arith) (λ j k. by j k (ℕ-discrete (getD flags j 0) 2))
-    where
-      by : (j : ℕ) → j < length flags → Dec (getD flags j 0 ≡ 2) → openAt flags off low j ≡ false
-      by j k (no f) = dry flags off low j f
-      by j k (yes f) =
-          let g = inner w j k (λ t. absurd (omega arith)) in
-          h j (omega (arith, o .lowest, g .high, w .count)) (omega (arith, o .lowest, g .low))
+  pub embedded : Embedded flags off low
+  embedded = record {
+    reaching = subst (λ (n : ℕ). Reaching n off low) (sym (w .count)) (reaching s (w .sides) o);
+    fluid = λ c h e. amid-inner o (w .count) (inner w c h (λ t. absurd (omega arith)));
+  }

@@ -1,5 +1,5 @@
--- Demand 3 in definitions: the closed layer, the water, and "reached by accepted steps", over any lattice and grid; and for document 01's grid over the
--- step's own outcome. Assumes nothing.
+-- Demand 3 in definitions: the closed layer, the water, and "reached by accepted steps", over any lattice and grid; and the same over the step's own
+-- outcome on a ground. Assumes nothing.
 use mathlib.Core.Path.{_≡_}
 use mathlib.Core.Bool.{Bool, true, false, not, _&&_, cond}
 use mathlib.Core.List.{List}
@@ -15,7 +15,8 @@ use Rattle.grid.specs.declared.Answer.the-variants.{Done, Refused}
 use Rattle.grid.specs.Grid.{Grid, cellsOf}
 use Rattle.grid.specs.State.{Lent, State, Scene, byFlag, stateOf}
 use Rattle.grid.specs.Step.{converted, excess, newFlag, next}
-use Rattle.grid.specs.Outcome.{goodAnswer, moveAnswer, sceneOf, stepAnswer, stepSecond}
+use Rattle.grid.specs.Outcome.{goodAnswer, moveAnswer}
+use Rattle.grid.specs.Ground.{Ground, stateOn, sceneOn, stepOn, secondOn}
 
 -- ---- the closed layer
 
@@ -72,17 +73,20 @@ abbrev pub strays : {L : Lattice} {G : Grid} {s t : State} → Reaches L G s t �
 strays start = pos 0
 strays {L = L} {G = G} (then {t} r g p accepted same) = strays r +ℤ strayed (scene L G t g p)
 
--- ---- the same over the step's own outcome, for document 01's grid
+-- ---- the same over the step's own outcome
 
-pub data Reached (s : Sides) (a : Lent) : Lent → Type 0 where
-  start : Reached s a a
-  then : {b : Lent} → Reached s a b → (g : Settings) (second : Lent) (marks : List ℕ) → stepAnswer s g b second marks ≡ Done → Reached s a (stepSecond s g b second marks)
+pub data Reached (G : Ground) (a : Lent) : Lent → Type 0 where
+  start : Reached G a a
+  then : {b : Lent} → Reached G a b → (g : Settings) (second : Lent) (marks : List ℕ) → stepOn G g b second marks ≡ Done → Reached G a (secondOn G g b second marks)
 
-abbrev pub strayedOn : {s : Sides} {a b : Lent} → Reached s a b → ℤ
+abbrev pub strayedOn : {G : Ground} {a b : Lent} → Reached G a b → ℤ
 strayedOn start = pos 0
-strayedOn {s = s} (then {b} r g second marks accepted) = strayedOn r +ℤ strayed (sceneOf s g b)
+strayedOn {G = G} (then {b} r g second marks accepted) = strayedOn r +ℤ strayed (sceneOn G g b)
 
--- the total of a lent set
+-- the total of a lent set, and of document 01's grid
+abbrev pub waterOn : Ground → Lent → ℤ
+waterOn G a = water (G .cells) (stateOn G a)
+
 unfoldable pub waterOf : Sides → Lent → ℤ
 waterOf s a = water (cellsOf s) (stateOf 18 a)
 

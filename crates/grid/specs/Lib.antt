@@ -3,6 +3,7 @@ pub mod State
 pub mod Step
 pub mod Good
 pub mod Outcome
+pub mod Ground
 pub mod Demands
 pub mod Promise
 pub mod Passes

@@ -40,6 +40,16 @@ orRefuse false number place rest = Refused number place
 abbrev pub ifNone : ℕ → ℕ → ℕ → Answer → Answer
 ifNone limit number place rest = orRefuse (leb limit place) number place rest
 
+-- ---- the chains of tests that check, step and run go through, on the box as on the flume
+
+-- tests 1, 2 and then 4 to 6
+abbrev pub checking : Bool → Bool → Answer → Answer
+checking sides lengths good = orRefuse sides 1 0 (orRefuse lengths 2 0 good)
+
+-- tests 1 to 3 and then 4 to 6
+abbrev pub entering : Bool → Bool → Bool → Answer → Answer
+entering sides lengths settings good = orRefuse sides 1 0 (orRefuse lengths 2 0 (orRefuse settings 3 0 good))
+
 -- ---- tests 4 to 8, over any lattice and grid
 
 unfoldable pub goodAnswer : Lattice → Grid → State → Answer → Answer
@@ -55,10 +65,13 @@ moveAnswer S =
 
 -- ---- tests 1 to 3
 
--- a set's slices are of their exact lengths
+-- a set's slices are of their exact lengths: n cells of so many parts, and in the box of 19
+abbrev pub lengthsFit : ℕ → ℕ → Lent → Bool
+lengthsFit parts n a =
+    eqb (length (a .flags)) n && eqb (length (a .parts)) (parts * n) && eqb (length (a .masses)) n && eqb (length (a .fills)) n && eqb (length (a .carry)) 1
+
 unfoldable pub lengthsGood : ℕ → Lent → Bool
-lengthsGood n a =
-    eqb (length (a .flags)) n && eqb (length (a .parts)) (19 * n) && eqb (length (a .masses)) n && eqb (length (a .fills)) n && eqb (length (a .carry)) 1
+lengthsGood n a = lengthsFit 19 n a
 
 -- p and gravity in their ranges
 unfoldable pub settingsGood : Settings → Bool
@@ -67,10 +80,7 @@ settingsGood g = relaxationGood (g .p) && gravityGood (g .gx) (g .gy) (g .gz)
 -- ---- the check: tests 1, 2, 4, 5, 6 of one set
 
 unfoldable pub checkAnswer : Sides → Lent → Answer
-checkAnswer s a =
-    orRefuse (sidesGood s) 1 0
-    (orRefuse (lengthsGood (cellsOf s) a) 2 0
-    (goodAnswer d3q19 (gridOf s) (stateOf 18 a) Done))
+checkAnswer s a = checking (sidesGood s) (lengthsGood (cellsOf s) a) (goodAnswer d3q19 (gridOf s) (stateOf 18 a) Done)
 
 -- ---- the step
 
@@ -87,10 +97,8 @@ sceneOf s g a = record {
 -- tests 1 to 6, and then `rest`
 unfoldable pub entryAnswer : Sides → Settings → Lent → Lent → List ℕ → Answer → Answer
 entryAnswer s g a b marks rest =
-    orRefuse (sidesGood s) 1 0
-    (orRefuse (lengthsGood (cellsOf s) a && lengthsGood (cellsOf s) b && eqb (length marks) (cellsOf s)) 2 0
-    (orRefuse (settingsGood g) 3 0
-    (goodAnswer d3q19 (gridOf s) (stateOf 18 a) rest)))
+    entering (sidesGood s) (lengthsGood (cellsOf s) a && lengthsGood (cellsOf s) b && eqb (length marks) (cellsOf s)) (settingsGood g)
+    (goodAnswer d3q19 (gridOf s) (stateOf 18 a) rest)
 
 unfoldable pub stepAnswer : Sides → Settings → Lent → Lent → List ℕ → Answer
 stepAnswer s g a b marks = entryAnswer s g a b marks (moveAnswer (sceneOf s g a))
@@ -121,14 +129,18 @@ pub record Ran : Type 0 where
   pub stop : Answer
   pub reached : Lent
 
--- step after step, as the step's own outcome has it; it stops at the first refused one
-unfoldable pub ran : Sides → Settings → List ℕ → ℕ → Lent → Ran
-ran s g marks zero a = record { count = 0; stop = Done; reached = a }
-ran s g marks (suc k) a =
-    elim (accepted (stepAnswer s g a a marks)) [
-      | true ↦ let r = ran s g marks k (nextOf s g a) in record { count = suc (r .count); stop = r .stop; reached = r .reached }
-      | false ↦ record { count = 0; stop = stepAnswer s g a a marks; reached = a }
+-- step after step, by what a step answers and leaves; it stops at the first refused one
+abbrev pub ranBy : (Lent → Answer) → (Lent → Lent) → ℕ → Lent → Ran
+ranBy answer onward zero a = record { count = 0; stop = Done; reached = a }
+ranBy answer onward (suc k) a =
+    elim (accepted (answer a)) [
+      | true ↦ let r = ranBy answer onward k (onward a) in record { count = suc (r .count); stop = r .stop; reached = r .reached }
+      | false ↦ record { count = 0; stop = answer a; reached = a }
     ]
+
+-- as the step's own outcome has it
+unfoldable pub ran : Sides → Settings → List ℕ → ℕ → Lent → Ran
+ran s g marks k a = ranBy (λ b. stepAnswer s g b b marks) (nextOf s g) k a
 
 -- 9 first, then 1 to 6, also of a run of no steps
 unfoldable pub runEntry : ℕ → Sides → Settings → Lent → Lent → List ℕ → Answer

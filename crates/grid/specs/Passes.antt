@@ -1,13 +1,13 @@
 -- What the passes of the step and of the check compute on the way, in terms of the definitions: offsets of neighbours, the normal, the
 -- coordinates of a walk, marks. Assumes nothing.
-use Prim.Native.Nat.{ℕ, _+_, _<_, _≤_}
+use Prim.Native.Nat.{ℕ, _+_, _-_, _<_, _≤_}
 use mathlib.Core.Path.{_≡_}
 use mathlib.Core.Bool.{Bool, true, false, _&&_, _||_, not, cond}
 use mathlib.Core.List.{List, [], _∷_}
 use lib.IntN.{ℤ, pos, _-ℤ_}
 use lib.Dec.{leb, ltb, eqb}
 use lib.ListN.{length, getD}
-use Rattle.whole.specs.Fold.{anyDir}
+use Rattle.whole.specs.Fold.{anyDir, first}
 use Rattle.lattice.specs.Lattice.{V3, d3q19}
 use Rattle.grid.specs.declared.Sides.{Sides}
 use Rattle.grid.specs.declared.layer.Place.{Place}
@@ -31,6 +31,35 @@ besideAt bytes off k m = anyDir 18 (λ i. eqb (getD bytes (k + getD off i 0) 0) 
 -- every offset leads to a byte
 pub record Reach (bytes off : List ℕ) (k : ℕ) : Type 0 where
   pub all : (i : ℕ) → i < 19 → k + getD off i 0 < length bytes
+
+-- a range of cells whose neighbours are all cells: those from low on that are low before the end
+pub record Reaching (n : ℕ) (off : List ℕ) (low : ℕ) : Type 0 where
+  pub few : n ≤ 262144
+  pub room : low + low ≤ n
+  pub each : (c i : ℕ) → low ≤ c → c + low < n → i < 19 → c - low + getD off i 0 < n
+
+-- c is one of them
+pub record Amid (n low c : ℕ) : Type 0 where
+  pub from : low ≤ c
+  pub to : c + low < n
+
+abbrev pub amid : ℕ → ℕ → ℕ → Bool
+amid n low c = leb low c && ltb (c + low) n
+
+-- ---- test 5 by offsets
+
+-- a fluid cell beside an empty one
+abbrev pub openAt : List ℕ → List ℕ → ℕ → ℕ → Bool
+openAt flags off low c = eqb (getD flags c 0) 2 && besideAt flags off (c - low) 0
+
+-- the lowest such cell; N if there is none
+unfoldable pub openPlace : List ℕ → List ℕ → ℕ → ℕ
+openPlace flags off low = first (length flags) (openAt flags off low)
+
+-- what it asks: fluid cells have all their neighbours
+pub record Embedded (flags off : List ℕ) (low : ℕ) : Type 0 where
+  pub reaching : Reaching (length flags) off low
+  pub fluid : (c : ℕ) → c < length flags → getD flags c 0 ≡ 2 → Amid (length flags) low c
 
 -- ---- the normal of the cell c with k = c − low, whose own place is k + offset 0
 
@@ -137,10 +166,21 @@ besideIn s bytes m c = anyDir 18 (λ i. eqb (getD bytes (gridOf s .near c i) 0) 
 abbrev pub openMark : ℕ → Bool → ℕ
 openMark f walled = cond (eqb f 2 && not walled) 1 0
 
+-- by offsets
+abbrev pub openedBy : List ℕ → List ℕ → List ℕ → ℕ → ℕ → ℕ
+openedBy flags marks off low c = cond (amid (length flags) low c) (openMark (getD flags c 0) (besideAt flags off (c - low) 3)) (getD marks c 0)
+
 unfoldable pub openedMark : Sides → List ℕ → List ℕ → ℕ → ℕ
 openedMark s flags marks c = cond (inside s c) (openMark (getD flags c 0) (besideIn s flags 3 c)) (getD marks c 0)
 
--- pass 2: 1 filled, 2 would be emptied; beside a filled cell it is not
+-- pass 2: 1 filled, 2 would be emptied; beside a filled cell it is not; by offsets, and what that asks: cells to be emptied have all their neighbours
+abbrev pub keptBy : List ℕ → List ℕ → ℕ → ℕ → ℕ
+keptBy marks off low c = cond (eqb (getD marks c 0) 2) (cond (besideAt marks off (c - low) 1) 0 2) (getD marks c 0)
+
+pub record EmptyingBy (marks off : List ℕ) (low : ℕ) : Type 0 where
+  pub reaching : Reaching (length marks) off low
+  pub inner : (c : ℕ) → c < length marks → getD marks c 0 ≡ 2 → Amid (length marks) low c
+
 unfoldable pub keptMark : Sides → List ℕ → ℕ → ℕ
 keptMark s marks c = cond (eqb (getD marks c 0) 2) (cond (besideIn s marks 1 c) 0 2) (getD marks c 0)
 
@@ -150,7 +190,20 @@ pub record Emptying (s : Sides) (marks : List ℕ) : Type 0 where
   pub count : length marks ≡ cellsOf s
   pub inner : (c : ℕ) → c < length marks → getD marks c 0 ≡ 2 → Inner s c
 
--- pass 3: the new flag, by marks 1 filled, 2 emptied
+-- pass 3: the new flag, by marks 1 filled, 2 emptied; by offsets, and what that asks: only interface cells are marked
+abbrev pub turnedAt : List ℕ → List ℕ → List ℕ → ℕ → ℕ → ℕ
+turnedAt flags marks off low c =
+    flagAfter (getD flags c 0) (besideAt marks off (c - low) 1) (eqb (getD marks c 0) 1) (eqb (getD marks c 0) 2) (besideAt marks off (c - low) 2)
+
+abbrev pub turnedBy : List ℕ → List ℕ → List ℕ → ℕ → ℕ → ℕ
+turnedBy flags marks off low c = cond (amid (length flags) low c) (turnedAt flags marks off low c) (getD flags c 0)
+
+pub record MarkedBy (flags marks off : List ℕ) (low : ℕ) : Type 0 where
+  pub reaching : Reaching (length flags) off low
+  pub count : length marks ≡ length flags
+  pub flagged : (c : ℕ) → c < length flags → getD flags c 0 < 4
+  pub only : (c : ℕ) → c < length flags → (getD flags c 0 ≡ 1 → ⊥) → getD marks c 0 ≡ 0
+
 unfoldable pub turnedFlag : Sides → List ℕ → List ℕ → ℕ → ℕ
 turnedFlag s flags marks c =
     flagAfter (flagOf flags c) (besideIn s marks 1 c) (eqb (getD marks c 0) 1) (eqb (getD marks c 0) 2) (besideIn s marks 2 c)
@@ -169,5 +222,5 @@ carryless flags parts masses fills = record { flags = flags; parts = parts; mass
 
 -- names every definition of this file: whoever unfolds this computes with all of them
 unfoldable pub open-passes : Unit {0}
-unfolding lowOf offsetOf besideAt seenAt normalAt placeAfter outerAt inside besideIn openedMark keptMark turnedFlag
+unfolding lowOf offsetOf besideAt openPlace seenAt normalAt placeAfter outerAt inside besideIn openedMark keptMark turnedFlag
 open-passes = tt

@@ -1,4 +1,4 @@
-// Test 5: no fluid cell has an empty neighbour.
+// Test 5: no fluid cell has an empty neighbour. By offsets, as any grid has them, and for the box's sides.
 use crate::Sides;
 use crate::neighbours;
 ghost use mathlib.Core.Path.{_≡_};
@@ -6,32 +6,28 @@ ghost use mathlib.Core.Bool.{false};
 ghost use lib.ListN.{length};
 ghost use Rattle.grid.specs.Grid.{gridOf};
 ghost use Rattle.grid.specs.Good.{badFluid};
-ghost use Rattle.grid.specs.Passes.{Flagged, flagOf};
+ghost use Rattle.grid.specs.Passes.{Embedded, openPlace, Flagged, flagOf};
 
 // Whether a fluid cell may have an empty neighbour: if not, none has. No way out of the loop, so that it runs many cells at a time.
-fn any_open(flags: &[u8], s: Sides) -> bool
-    requires { ⌜ Flagged s (now flags) ⌝ }
-    ensures { λ r. ⌜ (r ≡ false → length (now (flags .entry)) ≡ badFluid 18 (gridOf s) (flagOf (now (flags .entry)))) ⌝ }
+fn any_open(flags: &[u8], off: &[usize; 19], low: usize) -> bool
+    requires { ⌜ Embedded (now flags) (now off) low ⌝ }
+    ensures { λ r. ⌜ (r ≡ false → length (now (flags .entry)) ≡ openPlace (now (flags .entry)) (now (off .entry)) low) ⌝ }
 {
-    let off = neighbours::offsets(s);
-    let low = neighbours::low_of(s);
     let end = flags.len() - low;
     let mut found = false;
     let mut c = low;
     while c < end {
-        found = found | (flags[c] == 2) & neighbours::beside(flags, &off, c - low, 0);
+        found = found | (flags[c] == 2) & neighbours::beside(flags, off, c - low, 0);
         c += 1;
     }
     found
 }
 
 // The lowest-numbered fluid cell that has an empty neighbour; N if there is none.
-fn lowest_open(flags: &[u8], s: Sides) -> usize
-    requires { ⌜ Flagged s (now flags) ⌝ }
-    ensures { λ r. ⌜ r ≡ badFluid 18 (gridOf s) (flagOf (now (flags .entry))) ⌝ }
+fn lowest_open(flags: &[u8], off: &[usize; 19], low: usize) -> usize
+    requires { ⌜ Embedded (now flags) (now off) low ⌝ }
+    ensures { λ r. ⌜ r ≡ openPlace (now (flags .entry)) (now (off .entry)) low ⌝ }
 {
-    let off = neighbours::offsets(s);
-    let low = neighbours::low_of(s);
     let mut c = 0;
     'cells: while c < flags.len() {
         if flags[c] == 2 {
@@ -50,12 +46,22 @@ fn lowest_open(flags: &[u8], s: Sides) -> usize
 }
 
 // The same, looked for only where there may be one.
+pub fn first_open_by(flags: &[u8], off: &[usize; 19], low: usize) -> usize
+    requires { ⌜ Embedded (now flags) (now off) low ⌝ }
+    ensures { λ r. ⌜ r ≡ openPlace (now (flags .entry)) (now (off .entry)) low ⌝ }
+{
+    if any_open(flags, off, low) {
+        return lowest_open(flags, off, low);
+    }
+    flags.len()
+}
+
+// The same in the box.
 pub fn first_open(flags: &[u8], s: Sides) -> usize
     requires { ⌜ Flagged s (now flags) ⌝ }
     ensures { λ r. ⌜ r ≡ badFluid 18 (gridOf s) (flagOf (now (flags .entry))) ⌝ }
 {
-    if any_open(flags, s) {
-        return lowest_open(flags, s);
-    }
-    flags.len()
+    let off = neighbours::offsets(s);
+    let low = neighbours::low_of(s);
+    first_open_by(flags, &off, low)
 }

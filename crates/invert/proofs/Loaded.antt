@@ -31,11 +31,11 @@ use Rattle.grid.proofs.Accepted.{pass-good}
 use Rattle.pumps.specs.Three.{numberIn, totalsGood, threeLengths, threeGood, threeAnswer}
 use Rattle.record.specs.declared.Head.{Head}
 use Rattle.index.specs.Index.{Index, index, wordsOf, interface, wordOf, surfaceCells, indexSized, indexTrue}
-use Rattle.index.specs.Outcome.{trueAnswer}
+use Rattle.index.specs.Outcome.{trueAnswer, loadAnswer}
 use Rattle.heights.specs.Text.{fromLine}
 use Rattle.invert.specs.Invert.{valueAt, solidAt, invertFlag, invertFlags}
 use Rattle.invert.specs.Outcome.{countOf, setFits, readHead, lengthsOf, dry, dryIndex, setBy, indexBy}
-use Rattle.invert.specs.Demands.{loading, Loads, Loadable}
+use Rattle.invert.specs.Demands.{Loads, Loadable}
 use Rattle.invert.proofs.Tested.{Taken, head-taken}
 use Rattle.invert.proofs.Filled.{set-made, index-made}
 
@@ -165,7 +165,7 @@ module _ (s : Sides) (g : sidesGood s ≡ true) (edge : ℕ) (t : List ℕ) wher
   three rest = good (orRefuse (totalsGood (numberIn A 1) (numberIn A 2)) 6 (cellsOf s) rest)
 
   pub dry-loads : Loads s A (dryIndex (cellsOf s))
-  unfolding threeAnswer trueAnswer dry
+  unfolding threeAnswer loadAnswer trueAnswer dry
   dry-loads =
       record {
         checks = simp (g, lengths) (three Done);

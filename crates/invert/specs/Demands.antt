@@ -1,35 +1,25 @@
 -- What is demanded of the reader of an invert beyond its outcome: what it accepts, loading accepts, and no cell is liquid. Assumes nothing.
 use mathlib.Core.Path.{_≡_}
-use mathlib.Core.Bool.{true, false, _&&_}
+use mathlib.Core.Bool.{true, false}
 use mathlib.Core.List.{List}
 use Prim.Native.Nat.{ℕ}
 use lib.IntN.{ℤ}
 use lib.ListN.{getD}
 use Rattle.lattice.specs.declared.Settings.{Settings}
 use Rattle.grid.specs.declared.Sides.{Sides}
-use Rattle.grid.specs.declared.Answer.{Answer}
 use Rattle.grid.specs.declared.Answer.the-variants.{Done}
-use Rattle.grid.specs.Grid.{cellsOf, sidesGood}
 use Rattle.grid.specs.State.{Lent, liquid}
-use Rattle.grid.specs.Outcome.{accepted, orRefuse}
-use Rattle.pumps.specs.Three.{threeLengths, threeGood, threeAnswer}
+use Rattle.grid.specs.Outcome.{accepted}
+use Rattle.pumps.specs.Three.{threeAnswer}
 use Rattle.record.specs.declared.Head.{Head}
-use Rattle.index.specs.Index.{Index, indexSized}
-use Rattle.index.specs.Outcome.{trueAnswer}
+use Rattle.index.specs.Index.{Index}
+use Rattle.index.specs.Outcome.{loadAnswer}
 use Rattle.invert.specs.Outcome.{readHead, lengthsOf, setBy, indexBy}
-
--- loading: tests 1, 2, 4, 5, 6 of a set with three totals, and 14
-abbrev pub loading : Sides → Lent → Index → Answer
-loading s a x =
-    orRefuse (sidesGood s) 1 0
-    (orRefuse (threeLengths (cellsOf s) a && indexSized (cellsOf s) x) 2 0
-    (threeGood s a
-    (trueAnswer (cellsOf s) (a .flags) x Done)))
 
 -- the check and loading accept the set b and the index y of this grid, and none of its cells is liquid
 pub record Loads (s : Sides) (b : Lent) (y : Index) : Type 0 where
   pub checks : threeAnswer s b ≡ Done
-  pub loads : loading s b y ≡ Done
+  pub loads : loadAnswer s b y ≡ Done
   pub without-water : (c : ℕ) → liquid (getD (b .flags) c 3) ≡ false
 
 -- whatever text, host's numbers, set and index: if the reader accepts, loading accepts what it leaves

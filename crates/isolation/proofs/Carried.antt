@@ -16,13 +16,14 @@ use Rattle.grid.specs.declared.Answer.the-variants.{Done, Refused}
 use Rattle.grid.specs.Grid.{cellsOf, sidesGood, gridOf, box}
 use Rattle.grid.specs.State.{Lent, lent, Scene, stateOf, lentOf}
 use Rattle.grid.specs.Step.{newFlag, flagAfter, besideFilled, filled, emptied, besideEmptied, next}
-use Rattle.grid.specs.Outcome.{accepted, lengthsGood, checkAnswer, sceneOf, stepAnswer, stepSecond, ran, runEntry, runFirst}
+use Rattle.grid.specs.Outcome.{accepted, byAnswer, lengthsGood, checkAnswer, sceneOf, stepAnswer, nextOf, stepSecond, ran, runEntry, runFirst, open-outcome}
+use Rattle.grid.specs.Ground.{boxGround}
 use Rattle.grid.specs.Demands.{Reached}
 use Rattle.grid.specs.Demands as base
 use Rattle.grid.proofs.Accepted.{passed}
 use Rattle.grid.proofs.Arrived.{arrived-holds}
 use Rattle.grid.proofs.Closed.{wall-stays}
-use Rattle.grid.proofs.Conserved.{conserved-holds, second-next}
+use Rattle.grid.proofs.Conserved.{conserved-holds}
 use Rattle.grid.proofs.Prepared.{sized}
 use Rattle.pumps.specs.Three.{headOf, threeAnswer}
 use Rattle.pumps.specs.Acts.{actSet}
@@ -66,10 +67,14 @@ module _ (s : Sides) (map : List ℕ) (b : Lent) (c : ℕ) (k : c < cellsOf s) (
     unfolding sceneOf stateOf
     old-flag = refl
 
+    second-is : stepSecond s g (headOf b) second marks ≡ nextOf s g (headOf b)
+    unfolding stepSecond
+    second-is = ap (λ (x : Answer). byAnswer x (nextOf s g (headOf b)) (headOf b) second) e
+
     step-flag : getD (totalled (stepSecond s g (headOf b) second marks) b .flags) c 3 ≡ newFlag scene c
-    unfolding lentOf next
+    unfolding nextOf lentOf next
     step-flag =
-        ap (λ (y : Lent). getD (y .flags) c 3) (second-next s g (headOf b) second marks e)
+        ap (λ (y : Lent). getD (y .flags) c 3) second-is
         ∙ getD-tab (cellsOf s) (newFlag scene) 3 c k
 
     stays-three : (f : ℕ) → f < 4 → 3 ≤ f → f ≡ 3
@@ -136,7 +141,8 @@ unfolding checkAnswer
 checked-carry s y e = sized (cellsOf s) y (passed (lengthsGood (cellsOf s) y) 2 0 _ (passed (sidesGood s) 1 0 _ e .1) .0) .carry
 
 module _ (s : Sides) (a : Lent) (g : threeAnswer s a ≡ Done) where
-  reached-lived : (y : Lent) → Reached s (headOf a) y → Lived s a (totalled y a)
+  reached-lived : (y : Lent) → Reached (boxGround s) (headOf a) y → Lived s a (totalled y a)
+  unfolding open-outcome
   reached-lived y base.Reached.start = subst (Lived s a) (sym (totalled-head a (carry-three s a (three-tells s a g)))) start
   reached-lived y (base.Reached.then {b = b} r p second marks e) =
       let q : headOf (totalled b a) ≡ b = head-totalled b a (checked-carry s b (conserved-holds s (headOf a) b r (base-accepts s a g) .checked)) in
@@ -144,7 +150,7 @@ module _ (s : Sides) (a : Lent) (g : threeAnswer s a ≡ Done) where
       (stepped (reached-lived b r) p second marks (subst (λ (z : Lent). stepAnswer s p z second marks ≡ Done) (sym q) e))
 
   run-lived : (steps : ℕ) (p : Settings) (second : Lent) (marks : List ℕ) → Lived s a (totalled (runFirst steps s p (headOf a) second marks) a)
-  unfolding runFirst
+  unfolding open-outcome
   run-lived steps p second marks = go (runEntry steps s p (headOf a) second marks) refl
     where
       go : (x : Answer) → runEntry steps s p (headOf a) second marks ≡ x

@@ -11,7 +11,7 @@ use Rattle.grid.specs.declared.Sides.{Sides}
 use Rattle.grid.specs.declared.Answer.the-variants.{Done}
 use Rattle.grid.specs.Grid.{cellsOf, sidesGood, gridOf}
 use Rattle.grid.specs.State.{Lent, State, stateOf}
-use Rattle.grid.specs.Outcome.{goodAnswer, lengthsGood, checkAnswer, sceneOf, stepSecond}
+use Rattle.grid.specs.Outcome.{goodAnswer, lengthsGood, checkAnswer, sceneOf, entryAnswer, stepAnswer, nextOf, stepSecond}
 use Rattle.grid.specs.Demands as base
 use Rattle.grid.specs.Demands.{strayed, waterOf, water}
 use Rattle.grid.proofs.Accepted.{passed}
@@ -58,7 +58,7 @@ unfolding stateOf
 head-carry a s = ap (λ (t : State). t .carry) (head-state s a)
 
 pub lived-holds : (s : Sides) (a b : Lent) → threeAnswer s a ≡ Done → (r : Lived s a b) → Holds s a b r
-unfolding stateOf
+unfolding stateOf checkAnswer lengthsGood sceneOf entryAnswer stepAnswer nextOf stepSecond waterOf
 lived-holds s a b h start =
     record {
       balance-same = refl;

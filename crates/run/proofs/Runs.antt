@@ -18,7 +18,7 @@ use Rattle.grid.specs.declared.Answer.the-variants.{Done, Refused}
 use Rattle.grid.specs.Grid.{cellsOf, box, gridOf}
 use Rattle.grid.specs.State.{Lent, stateOf}
 use Rattle.grid.specs.Step.{next}
-use Rattle.grid.specs.Outcome.{accepted, goodAnswer, moveAnswer, lengthsGood, sceneOf, entryAnswer, stepAnswer, nextOf, Ran, ran, runEntry, runCount, runAnswer, runFirst, runSecond, runMarks}
+use Rattle.grid.specs.Outcome.{accepted, goodAnswer, moveAnswer, lengthsGood, sceneOf, entryAnswer, stepAnswer, nextOf, Ran, ranBy, ran, runEntry, runCount, runAnswer, runFirst, runSecond, runMarks}
 use Rattle.grid.specs.Demands.{gridAnswer}
 use Rattle.grid.specs.Between.{Sized, Ready}
 use Rattle.grid.specs.Halfway.{Alike, Stepping, Advanced}
@@ -78,12 +78,12 @@ module _ (s : Sides) (g : Settings) (marks : List ℕ) where
       → ran s g marks (suc k) a
       ≡ record { count = suc (ran s g marks k (nextOf s g a) .count); stop = ran s g marks k (nextOf s g a) .stop; reached = ran s g marks k (nextOf s g a) .reached }
   unfolding ran
-  ran-made k a e = rw (e, ran) refl
+  ran-made k a e = rw (e, ranBy) refl
 
   ran-stopped : (k : ℕ) (a : Lent) → accepted (stepAnswer s g a a marks) ≡ false
       → ran s g marks (suc k) a ≡ record { count = 0; stop = stepAnswer s g a a marks; reached = a }
   unfolding ran
-  ran-stopped k a e = rw (e, ran) refl
+  ran-stopped k a e = rw (e, ranBy) refl
 
   left-first : (steps : ℕ) (a : Lent) → Left steps 0 a a
   left-first steps a = let z : steps - 0 ≡ steps = omega arith in record { count = rw z (omega arith); stop = rw z refl; reached = rw z refl }

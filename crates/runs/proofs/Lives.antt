@@ -13,7 +13,7 @@ use Rattle.grid.specs.declared.Sides.{Sides}
 use Rattle.grid.specs.declared.Answer.{Answer}
 use Rattle.grid.specs.declared.Answer.the-variants.{Done}
 use Rattle.grid.specs.State.{Lent, lent, lentOf}
-use Rattle.grid.specs.Outcome.{accepted, nextOf, byAnswer, ran}
+use Rattle.grid.specs.Outcome.{accepted, nextOf, byAnswer, ranBy, ran}
 use Rattle.grid.specs.Outcome as base
 use Rattle.grid.proofs.Accepted.{accepted-done}
 use Rattle.pumps.specs.Three.{headOf, threeAnswer}
@@ -60,8 +60,8 @@ module _ (s : Sides) (x : Lent) (g : Settings) (marks : List ℕ) (a : Lent) whe
     where
       go : (t : Bool) → accepted (base.stepAnswer s g d d marks) ≡ t → (Lived s x (totalled (nextOf s g d) a) → Lived s x (totalled (ran s g marks k (nextOf s g d) .reached) a))
           → Lived s x (totalled (ran s g marks (suc k) d .reached) a)
-      go true p f = rw (p, ran) (f (one-more d e (accepted-done _ p) r))
-      go false p f = rw (p, ran) r
+      go true p f = rw (p, ranBy) (f (one-more d e (accepted-done _ p) r))
+      go false p f = rw (p, ranBy) r
 
 -- ---- a run that begins
 module _ (steps : ℕ) (s : Sides) (x : Lent) (g : Settings) (a b : Held) (marks : List ℕ) (e : runEntry steps s g a b marks ≡ Done) where

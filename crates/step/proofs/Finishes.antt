@@ -14,6 +14,7 @@ use Rattle.lattice.specs.declared.Settings.{Settings}
 use Rattle.grid.specs.declared.Sides.{Sides}
 use Rattle.grid.specs.declared.Answer.{Answer}
 use Rattle.grid.specs.declared.Answer.the-variants.{Done, Refused}
+use Rattle.grid.specs.Fill.{partOf}
 use Rattle.grid.specs.Grid.{cellsOf, gridOf, box}
 use Rattle.grid.specs.State.{Lent, Scene, liquid, stateOf, lentOf}
 use Rattle.grid.specs.Step.{flagAt, flagAfter, newDensity, tooFast, collided, filled, emptied, besideFilled, besideEmptied, newFlag, newPart, newMass, newFill, next}
@@ -38,6 +39,7 @@ use Rattle.flow.specs.Flowed.{Flowable, Went, stopped, through, Flowed}
 use Rattle.flow.proofs.Poise.{poised}
 use Rattle.turn.specs.Filled.{Fillable, Refilled}
 use Rattle.turn.proofs.Amounts.{new-dense}
+use Rattle.turn.proofs.Field.{fieldOf, standing}
 use Rattle.turn.proofs.Converts.{ready-poised}
 use Rattle.step.specs.Finished.{Finishing, Finished, Tried}
 use Rattle.step.proofs.Opened.{open-fluid, open-near}
@@ -146,15 +148,15 @@ module _ (s : Sides) (g : Settings) (a : Lent) where
       poise = ready-poised s g a r
 
       dense-now : (c : ℕ) → c < cellsOf s → liquid (flagAt S c) ≡ true → dense (newDensity S c) ≡ true
-      unfolding sceneOf
-      dense-now c h l = new-dense s g a poise t c h l
+      unfolding sceneOf stateOf
+      dense-now c h l = new-dense (fieldOf s g a) (standing s g a poise) t c h l
 
       -- after the conversion
       pub fills-asked : Fillable flags2 parts2 masses2
       fills-asked = fillable s g (a .flags) (a .parts) (a .masses) (a .fills) (a .carry) poise t flags2 parts2 masses2 (w .flags-are) (w .parts-are) (w .masses-are)
 
       -- after the fills: the next state
-      module _ {fills2 : List ℕ} {weighed : Bool} (f : Refilled flags2 parts2 masses2 fills2 weighed) where
+      module _ {fills2 : List ℕ} {weighed : Bool} (f : Refilled flags2 (partOf parts2) masses2 fills2 weighed) where
         fills-are : fills2 ≡ tab (cellsOf s) (newFill S)
         fills-are = fills-next s g (a .flags) (a .parts) (a .masses) (a .fills) (a .carry) poise t flags2 parts2 masses2 (w .flags-are) (w .parts-are) (w .masses-are) f
 
@@ -285,7 +287,7 @@ module _ {s : Sides} {g : Settings} {a : Lent} where
     pub filling : Fillable flags2 parts2 masses2 × (length (b .fills) ≡ length flags2)
     filling = (fills-asked s g a (f .ready) (f .moved .steady) w, f .fills-room ∙ sym flags-count)
 
-    module _ {fills2 : List ℕ} {weighed : Bool} (r : Refilled flags2 parts2 masses2 fills2 weighed) where
+    module _ {fills2 : List ℕ} {weighed : Bool} (r : Refilled flags2 (partOf parts2) masses2 fills2 weighed) where
       abbrev set : Lent
       set = record { flags = flags2; parts = parts2; masses = masses2; fills = fills2; carry = carry2 }
 

@@ -29,18 +29,18 @@ module _ {ρ : ℤ} (low : pos 294912 ≤ℤ ρ) (high : Within ρ 1179648) wher
   far : (k : ℕ) → k * 294912 ≤ natAbs (pos k *ℤ ρ)
   far k = omega (arith, abs-mul (pos k) ρ, mul-le-mul-left k (abs-above low))
 
-  cut-still : {w q : ℤ} → Within w 2 → Within q 26000000000000 → Within (quotZ (w *ℤ q) (pos 72 *ℤ ρ)) 33554432
+  cut-still : {w q : ℤ} → Within w 4 → Within q 26000000000000 → Within (quotZ (w *ℤ q) (pos 72 *ℤ ρ)) 33554432
   cut-still {w} {q} hw hq = let d = is-least (pos 72 *ℤ ρ) 21233664 (far 72) in within-by (search reading depth 20) tt
 
-  pub still-in : {w : ℕ} {q : ℤ} → w ≤ 2 → Within q 26000000000000 → Within (still w q ρ) 33554432
+  pub still-in : {w : ℕ} {q : ℤ} → w ≤ 4 → Within q 26000000000000 → Within (still w q ρ) 33554432
   unfolding still
   still-in {w} {q} hw hq = cut-still {w = pos w} (record { abs = hw }) hq
 
-  cut-relaxed : {p f q w : ℤ} → Within p 2037 → Within w 2 → Within q 26000000000000 → Within f 1572864
+  cut-relaxed : {p f q w : ℤ} → Within p 2037 → Within w 4 → Within q 26000000000000 → Within f 1572864
       → Within (f +ℤ quotZ (p *ℤ (w *ℤ q -ℤ pos 72 *ℤ (ρ *ℤ f))) (pos 73728 *ℤ ρ)) 33554432
   cut-relaxed {p} {f} {q} {w} hp hw hq hf = let d = is-least (pos 73728 *ℤ ρ) 21743271936 (far 73728) in within-by (search reading depth 30 fits 5000) tt
 
-  pub relaxed-in : {p f q : ℤ} {w : ℕ} → Within p 2037 → w ≤ 2 → Within q 26000000000000 → Within f 1572864 → Within (relaxed p w q ρ f) 33554432
+  pub relaxed-in : {p f q : ℤ} {w : ℕ} → Within p 2037 → w ≤ 4 → Within q 26000000000000 → Within f 1572864 → Within (relaxed p w q ρ f) 33554432
   unfolding relaxed
   relaxed-in {w = w} hp hw hq hf = cut-relaxed {w = pos w} hp (record { abs = hw }) hq hf
 

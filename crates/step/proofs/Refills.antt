@@ -1,7 +1,7 @@
 -- From the next state's flags, parts and masses to what the fills pass asks, and from what it leaves to the next state's fills. Assumes nothing.
 use mathlib.Core.Path.{_≡_, refl, sym, ap, ap₂, _∙_, subst}
 use mathlib.Core.Bool.{Bool, true, false, _||_, not, cond}
-use mathlib.Core.List.{List}
+use mathlib.Core.List.{List, []}
 use Prim.Native.Nat.{ℕ, zero, suc, _+_, _-_, _*_, _/_, _%_, _≤_, _<_}
 use native.Mathlib.Omega.{arith}
 use lib.Dec.{eqb}
@@ -13,7 +13,7 @@ use Rattle.whole.specs.Fold.{tab, first}
 use Rattle.whole.specs.Machine.{Within}
 use Rattle.whole.specs.Search.{all-at}
 use Rattle.whole.specs.Tab.{getD-tab, length-tab, tab-cong}
-use Rattle.lattice.specs.Lattice.{dot, d3q19}
+use Rattle.lattice.specs.Lattice.{dot, d3q19, density}
 use Rattle.lattice.specs.Cell.{dense, slow, massGood, relaxationGood}
 use Rattle.lattice.specs.Body.{Tame, steadyFlow}
 use Rattle.lattice.specs.declared.Flow.{Flow}
@@ -21,7 +21,7 @@ use Rattle.lattice.specs.declared.Settings.{Settings}
 use Rattle.lattice.proofs.Ranges.{relaxation-in}
 use Rattle.lattice.proofs.Tame.{steady-tame}
 use Rattle.grid.specs.declared.Sides.{Sides}
-use Rattle.grid.specs.Grid.{cellsOf}
+use Rattle.grid.specs.Grid.{cellsOf, gridOf}
 use Rattle.grid.specs.State.{Scene, byFlag, liquid, stateOf}
 use Rattle.grid.specs.Step.{flagAt, newDensity, newMomentum, tooFast, collidedDir, collided, filled, emptied, besideFilled, besideEmptied, flagAfter, newFlag, liquidNear, bornDensity, bornMomentum, bornDir, born, newPart, newMass, fillFor, newFill}
 use Rattle.grid.specs.Outcome.{sceneOf}
@@ -34,19 +34,19 @@ use Rattle.grid.proofs.Moved.{density-collided, density-born}
 use Rattle.grid.proofs.Same.{density-same}
 use Rattle.flow.proofs.Collisions.{relaxation-of}
 use Rattle.flow.proofs.Onward.{collided-seen}
-use Rattle.flow.proofs.Spans.{streamed-in, weight-low}
-use Rattle.turn.specs.Born.{Tested, flowSight}
+use Rattle.flow.proofs.Spans.{Light, light19, light-low, streamed-in}
+use Rattle.turn.specs.Born.{Tested, TestedOn, testedOf, flowSight}
 use Rattle.grid.specs.Fill.{Weighty, partOf}
 use Rattle.turn.specs.Filled.{Fillable, Refilled, fillAt, fairMass, fairAt}
 use Rattle.turn.proofs.Births.{wet-low}
 use Rattle.turn.proofs.Means.{born-tame}
-use Rattle.turn.proofs.Offspring.{tested, within, born-seen, fed, is-born}
+use Rattle.turn.proofs.Offspring.{near-of, tested, within, born-seen, fed, is-born}
 use Rattle.step.proofs.Heavy.{still-in, relaxed-in, weighty, weighty-same, quad-of}
 
 -- ---- one cell, as a function of one cell sees it
-module _ (flags : List ℕ) (parts : List ℤ) (fills off : List ℕ) (low : ℕ) (g : Settings) (t : Tested flags parts fills off low g) (relax : relaxationGood (g .p) ≡ true) (c : ℕ) where
+module _ (weights : ℕ → ℕ) (light : Light weights) (flags : List ℕ) (part : ℕ → ℕ → ℤ) (fills off : List ℕ) (low : ℕ) (g : Settings) (t : TestedOn weights flags part fills off low g) (relax : relaxationGood (g .p) ≡ true) (c : ℕ) where
   abbrev S : Scene
-  S = flowSight flags parts fills off low g
+  S = sight weights flags part [] fills off low g
 
   module _ (h : c < length flags) (l : liquid (getD flags c 3) ≡ true) where
     abbrev flow : Flow
@@ -59,11 +59,11 @@ module _ (flags : List ℕ) (parts : List ℤ) (fills off : List ℕ) (low : ℕ
     moved-in : (i : ℕ) → 1 ≤ i → i < 19 → Within (collidedDir S c i) 33554432
     unfolding collidedDir sight
     moved-in i z k =
-        relaxed-in (tame .low) (tame .rho) (relaxation-in (g .p) relax) (weight-low i z k) (quad-of flow tame i k)
-        (streamed-in flags parts fills off low g (t .bodies) c (t .around c h (wet-low (getD flags c 3) l)) l i (omega arith))
+        relaxed-in (tame .low) (tame .rho) (relaxation-in (g .p) relax) (light-low light i z k) (quad-of flow tame i k)
+        (streamed-in weights light flags part fills off low g (t .bodies) c (t .around c h (wet-low (getD flags c 3) l)) l i (omega arith))
 
     pub collided-weighty : Weighty (collided S c)
-    unfolding collided sight d3q19
+    unfolding collided sight d3q19 density
     collided-weighty =
         weighty (newDensity S c) (collidedDir S c) (collided S c) refl (λ a. refl) (tame .low) (tame .rho) moved-in (density-collided S c)
 
@@ -72,14 +72,14 @@ module _ (flags : List ℕ) (parts : List ℤ) (fills off : List ℕ) (low : ℕ
     beginning = record { rho = bornDensity S c; x = bornMomentum S c .x; y = bornMomentum S c .y; z = bornMomentum S c .z }
 
     begun : Tame beginning
-    begun = born-tame flags parts fills off low g c t a (record { rho = refl; momentum = refl }) some
+    begun = born-tame weights flags part fills off low g c t a (record { rho = refl; momentum = refl }) some
 
     born-in : (i : ℕ) → 1 ≤ i → i < 19 → Within (bornDir S c i) 33554432
     unfolding bornDir sight
-    born-in i z k = still-in (begun .low) (begun .rho) (weight-low i z k) (quad-of beginning begun i k)
+    born-in i z k = still-in (begun .low) (begun .rho) (light-low light i z k) (quad-of beginning begun i k)
 
     pub born-weighty : Weighty (born S c)
-    unfolding born sight d3q19
+    unfolding born sight d3q19 density
     born-weighty = weighty (bornDensity S c) (bornDir S c) (born S c) refl (λ b. refl) (begun .low) (begun .rho) born-in (density-born S c)
 
 -- ---- the next state
@@ -99,10 +99,11 @@ module _ (s : Sides) (g : Settings) (flags : List ℕ) (parts masses : List ℤ)
 
   -- a cell that stays liquid, and a new interface cell
   wet-weighty : (c : ℕ) → c < cellsOf s → liquid (getD flags c 3) ≡ true → Weighty (collided step c)
+  unfolding sceneOf stateOf
   wet-weighty c h l =
       weighty-same (collided seen c) (collided step c)
-      (λ k m. collided-seen s g flags parts masses fills carry p (tab 19 (offsetOf s)) (lowOf s) (record { table = refl; lowest = refl }) c h l k m)
-      (collided-weighty flags parts fills (tab 19 (offsetOf s)) (lowOf s) g calm (relaxation-of g (p .settings)) c (listed h) l)
+      (λ k m. collided-seen (d3q19 .weight) (gridOf s) g flags (partOf parts) masses fills (getD carry 0 (pos 0)) (tab 19 (offsetOf s)) (lowOf s) c (near-of s g flags parts masses fills carry p c h) l k m)
+      (collided-weighty (d3q19 .weight) light19 flags (partOf parts) fills (tab 19 (offsetOf s)) (lowOf s) g (testedOf calm) (relaxation-of g (p .settings)) c (listed h) l)
 
   new-weighty : (c : ℕ) → c < cellsOf s → flagAt step c ≡ 0 → newFlag step c ≡ 1 → Weighty (newPart step c)
   unfolding sceneOf stateOf
@@ -110,7 +111,7 @@ module _ (s : Sides) (g : Settings) (flags : List ℕ) (parts masses : List ℤ)
       let inside = within s g flags parts masses fills carry p c h (omega arith) in
       weighty-same (born seen c) (newPart step c)
       (λ k m. born-seen s g flags parts masses fills carry p c inside k ∙ sym (born-part step c z n k))
-      (born-weighty flags parts fills (tab 19 (offsetOf s)) (lowOf s) g calm (relaxation-of g (p .settings)) c (calm .around c (listed h) (omega arith))
+      (born-weighty (d3q19 .weight) light19 flags (partOf parts) fills (tab 19 (offsetOf s)) (lowOf s) g (testedOf calm) (relaxation-of g (p .settings)) c (calm .around c (listed h) (omega arith))
       (fed s g flags parts masses fills carry p (tab (cellsOf s) (newFlag step)) refl c h (is-born s g flags parts masses fills carry p (tab (cellsOf s) (newFlag step)) refl c h z n)))
 
   kept : (fi em : Bool) → _≡_ {A = ℕ} (cond fi 2 (cond em 0 1)) 1 → em ≡ false
@@ -162,16 +163,16 @@ module _ (s : Sides) (g : Settings) (flags : List ℕ) (parts masses : List ℤ)
     }
 
     -- what the pass leaves is the next state's
-    module _ {fills2 : List ℕ} {fair : Bool} (r : Refilled flags2 parts2 masses2 fills2 fair) where
-      fill-at : (c : ℕ) → c < cellsOf s → fillAt flags2 parts2 masses2 c ≡ newFill step c
+    module _ {fills2 : List ℕ} {fair : Bool} (r : Refilled flags2 (partOf parts2) masses2 fills2 fair) where
+      fill-at : (c : ℕ) → c < cellsOf s → fillAt flags2 (partOf parts2) masses2 c ≡ newFill step c
       unfolding fillAt newFill sceneOf d3q19
       fill-at c h i =
           fillFor (flag-at c h i) (mass-at c h i) (density-same d3q19 (partOf parts2 c) (newPart step c) (λ k l. new-part-at c k h l) i)
 
       pub fills-next : fills2 ≡ tab (cellsOf s) (newFill step)
       fills-next =
-          r .fills-are ∙ ap (λ (n : ℕ). tab n (fillAt flags2 parts2 masses2)) count
-          ∙ tab-cong (cellsOf s) (fillAt flags2 parts2 masses2) (newFill step) 0 fill-at
+          r .fills-are ∙ ap (λ (n : ℕ). tab n (fillAt flags2 (partOf parts2) masses2)) count
+          ∙ tab-cong (cellsOf s) (fillAt flags2 (partOf parts2) masses2) (newFill step) 0 fill-at
 
       pub masses-fair : fair ≡ true → (c : ℕ) → c < cellsOf s → newFlag step c ≡ 1 → massGood (newMass step c) ≡ true
       unfolding fairAt fairMass

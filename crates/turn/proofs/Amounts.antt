@@ -6,6 +6,7 @@ use native.Mathlib.Nat.{div-le-of-le-mul, mul-le-mul-right}
 use native.Mathlib.Omega.{arith}
 use lib.IntN.{ℤ, pos, natAbs, _-ℤ_, _*ℤ_}
 use lib.Signed.{leZ}
+use lib.ListN.{getD}
 use borrow.Author.Tests.{not-false}
 use Rattle.whole.specs.Bools.{and-left, and-right}
 use Rattle.whole.specs.Bounds.{abs-add, abs-sub, abs-mul, abs-quot, abs-below}
@@ -16,18 +17,12 @@ use Rattle.whole.specs.Search.{Dir, as-dir, first-none}
 use Rattle.whole.specs.Sums.{sum-abs}
 use Rattle.lattice.specs.Lattice.{dot, d3q19, density}
 use Rattle.lattice.specs.Cell.{dense, slow, exchange, over, under}
-use Rattle.lattice.specs.declared.Settings.{Settings}
 use Rattle.lattice.proofs.Paired.{paired19}
-use Rattle.grid.specs.declared.Sides.{Sides}
-use Rattle.grid.specs.Grid.{cellsOf, gridOf, box}
-use Rattle.grid.specs.State.{Lent, Scene, byFlag, liquid, stateOf}
+use Rattle.grid.specs.State.{Scene, byFlag, liquid}
 use Rattle.grid.specs.Step.{flagAt, difference, traded, tradedMass, newDensity, newMomentum, tooFast, filled, emptied, besideFilled, besideEmptied, newFlag, flagAfter, fillFor}
-use Rattle.grid.specs.Outcome.{sceneOf}
-use Rattle.grid.specs.Between.{Poised, movedMass, settledMark}
-use Rattle.grid.specs.Passes.{Inner}
-use Rattle.grid.proofs.Laid.{inner}
-use Rattle.grid.proofs.Offsets.{near-below}
-use Rattle.flow.proofs.Poise.{poised-body, poised-mass, fill-in, poised-inner}
+use Rattle.grid.specs.Between.{movedMass, settledMark}
+use Rattle.grid.specs.Passes.{Amid}
+use Rattle.turn.proofs.Field.{Field, sceneIn, Standing}
 
 -- ---- by cases on flags and tests alone
 
@@ -89,62 +84,65 @@ module _ (S : Scene) where
       giver-cases (flagAt S c) (over (tradedMass S c) (newDensity S c)) (under (tradedMass S c) (newDensity S c) && not (besideFilled S c)) h
 
 -- ---- a good state
-module _ (s : Sides) (g : Settings) (a : Lent) (r : Poised s g a) where
+module _ (F : Field) (r : Standing F) where
   abbrev pub S : Scene
-  S = sceneOf s g a
+  S = sceneIn F
 
   abbrev pub flag : ℕ → ℕ
-  flag c = stateOf 18 a .flag c
+  flag c = getD (F .flags) c 3
 
-  pub outer-not : (c : ℕ) → c < cellsOf s → (flag c ≡ 3 → ⊥) → gridOf s .outer c ≡ false
-  unfolding gridOf box cellsOf
-  outer-not c h n = inner (gridOf s) (stateOf 18 a .flag) (r .walled) c h n
+  pub outer-not : (c : ℕ) → c < F .cells → (flag c ≡ 3 → ⊥) → F .grid .outer c ≡ false
+  outer-not c h n = go (F .grid .outer c) refl
+    where
+      go : (b : Bool) → F .grid .outer c ≡ b → F .grid .outer c ≡ false
+      go true e = absurd (n (r .walled c h e))
+      go false e = e
 
-  pub inner-cell : (c : ℕ) → c < cellsOf s → (flag c ≡ 3 → ⊥) → Inner s c
-  inner-cell c h n = poised-inner s g a r c h n
+  pub inner-cell : (c : ℕ) → c < F .cells → (flag c ≡ 3 → ⊥) → Amid (F .cells) (F .low) c
+  inner-cell c h n = r .inner c h (outer-not c h n)
 
-  pub near-cell : (c i : ℕ) → c < cellsOf s → (flag c ≡ 3 → ⊥) → i < 19 → gridOf s .near c i < cellsOf s
-  near-cell c i h n l = near-below s i l c (inner-cell c h n)
+  pub near-cell : (c i : ℕ) → c < F .cells → (flag c ≡ 3 → ⊥) → i < 19 → F .grid .near c i < F .cells
+  near-cell c i h n l = r .near-low c i (inner-cell c h n) l
 
-  difference-in : (c i : ℕ) → c < cellsOf s → flag c ≡ 1 → Dir 18 i → liquid (flag (gridOf s .near c i)) ≡ true
-      → natAbs (stateOf 18 a .part (gridOf s .near c i) (d3q19 .opp i) -ℤ stateOf 18 a .part c i) ≤ 2359296
+  difference-in : (c i : ℕ) → c < F .cells → flag c ≡ 1 → Dir 18 i → liquid (flag (F .grid .near c i)) ≡ true
+      → natAbs (F .part (F .grid .near c i) (d3q19 .opp i) -ℤ F .part c i) ≤ 2359296
   unfolding d3q19
   difference-in c i h f d l =
-      let n : gridOf s .near c i < cellsOf s = near-cell c i h (λ e. omega arith) (omega (arith, d .most)) in
+      let n : F .grid .near c i < F .cells = near-cell c i h (λ e. omega arith) (omega (arith, d .most)) in
       omega (
         arith,
-        abs-sub (stateOf 18 a .part (gridOf s .near c i) (d3q19 .opp i)) (stateOf 18 a .part c i),
-        poised-body s g a r (gridOf s .near c i) n l .parts (d3q19 .opp i) (paired19 .dir i d .most) .abs,
-        poised-body s g a r c h (ap liquid f) .parts i (d .most) .abs,
+        abs-sub (F .part (F .grid .near c i) (d3q19 .opp i)) (F .part c i),
+        r .body (F .grid .near c i) n l .parts (d3q19 .opp i) (paired19 .dir i d .most) .abs,
+        r .body c h (ap liquid f) .parts i (d .most) .abs,
       )
 
-  pub traded-mass-in : (c : ℕ) → c < cellsOf s → flag c ≡ 1 → Within (tradedMass S c) 44826624
-  unfolding tradedMass traded difference sceneOf d3q19
+  pub traded-mass-in : (c : ℕ) → c < F .cells → flag c ≡ 1 → Within (tradedMass S c) 44826624
+  unfolding tradedMass traded difference d3q19
   traded-mass-in c h f =
       record {
         abs = omega (
           arith,
           abs-add (S .old .mass c) (dirs 18 (traded S c)),
-          poised-mass s g a r c h f .abs,
+          r .mass c h f .abs,
           sum-abs 18 (λ b. traded S c (suc b)) 2359296 (λ b k. each (suc b) (as-dir k)),
         );
       }
     where
       each : (i : ℕ) → Dir 18 i → natAbs (traded S c i) ≤ 2359296
       each i d =
-          let n : gridOf s .near c i < cellsOf s = near-cell c i h (λ e. omega arith) (omega (arith, d .most)) in
-          traded-le (flag (gridOf s .near c i)) (stateOf 18 a .fill c + stateOf 18 a .fill (gridOf s .near c i)) _
-          (omega (arith, fill-in s g a r c h, fill-in s g a r (gridOf s .near c i) n)) (λ l. difference-in c i h f d l)
+          let n : F .grid .near c i < F .cells = near-cell c i h (λ e. omega arith) (omega (arith, d .most)) in
+          traded-le (flag (F .grid .near c i)) (getD (F .fills) c 0 + getD (F .fills) (F .grid .near c i) 0) _
+          (omega (arith, r .fill c h, r .fill (F .grid .near c i) n)) (λ l. difference-in c i h f d l)
 
   -- ---- that passed test 7
-  module _ (t : cellsOf s ≤ first (cellsOf s) (tooFast S)) where
-    pub new-dense : (c : ℕ) → c < cellsOf s → liquid (flag c) ≡ true → dense (newDensity S c) ≡ true
-    unfolding tooFast sceneOf
+  module _ (t : F .cells ≤ first (F .cells) (tooFast S)) where
+    pub new-dense : (c : ℕ) → c < F .cells → liquid (flag c) ≡ true → dense (newDensity S c) ≡ true
+    unfolding tooFast
     new-dense c h l =
         not-dense (liquid (flag c)) (dense (newDensity S c)) (slow (newDensity S c) (dot (newMomentum S c) (newMomentum S c))) l
-        (first-none (cellsOf s) (tooFast S) t c h)
+        (first-none (F .cells) (tooFast S) t c h)
 
-    pub new-density-in : (c : ℕ) → c < cellsOf s → liquid (flag c) ≡ true → Within (newDensity S c) 1179648
+    pub new-density-in : (c : ℕ) → c < F .cells → liquid (flag c) ≡ true → Within (newDensity S c) 1179648
     unfolding dense
     new-density-in c h l =
         let e = new-dense c h l in
@@ -153,7 +151,7 @@ module _ (s : Sides) (g : Settings) (a : Lent) (r : Poised s g a) where
               (leZ-true (and-right (leZ (pos 294912) (newDensity S c)) (leZ (newDensity S c) (pos 1179648)) e));
         }
 
-    pub moved-mass-in : (c : ℕ) → c < cellsOf s → Within (movedMass S c) 44826624
-    unfolding movedMass sceneOf
+    pub moved-mass-in : (c : ℕ) → c < F .cells → Within (movedMass S c) 44826624
+    unfolding movedMass
     moved-mass-in c h =
         record { abs = moved-le (flag c) (tradedMass S c) (newDensity S c) (λ f. traded-mass-in c h f .abs) (λ l. new-density-in c h l .abs) }

@@ -26,13 +26,16 @@ use Rattle.grid.specs.Outcome.{sceneOf, goodAnswer}
 use Rattle.grid.specs.Between.{Ready, Poised, carried, movedPart, movedMass, firstMark, settledMark, bornPart, gatheredMass}
 use Rattle.grid.specs.Halfway.{Moved, Turning, Turned}
 use Rattle.grid.specs.Passes.{lowOf, offsetOf, flagOf, Flagged, Emptying, Marked, keptMark, turnedFlag}
+use Rattle.grid.specs.Fill.{partOf}
+use Rattle.grid.proofs.Listed.{part-at}
 use Rattle.grid.proofs.Accepted.{none-found}
 use Rattle.grid.proofs.Accurate.{not-both, both-tests, steady-dense}
 use Rattle.grid.proofs.Prepared.{ready-sound, ready-cell, ready-carry}
-use Rattle.excess.specs.Gifts.{Midway, Gathering, Straying, Settling, Settled, gatheredAt, strayAt}
+use Rattle.excess.specs.Gifts.{Gathering, Straying, Settling, Settled, gatheredAt, strayAt}
 use Rattle.turn.specs.Born.{flowSight, newlyBorn, Fertile, Peopled}
-use Rattle.turn.proofs.Given.{gathered-is, carry-is}
-use Rattle.turn.proofs.Handed.{grid-offsets, gathering, straying, settling, settled-is}
+use Rattle.turn.proofs.Field.{fieldOf, standing}
+use Rattle.turn.proofs.Given.{Midway, gathered-is, carry-is}
+use Rattle.turn.proofs.Handed.{Listed, gathering, straying, settling, settled-is}
 use Rattle.turn.proofs.Offspring.{fertile, parts-later, newborn-fair}
 use Rattle.turn.proofs.Settled.{emptying, settled-marks, settled-marked, turned-flags}
 
@@ -104,13 +107,25 @@ module _ (s : Sides) (g : Settings) (a : Lent) (r : Ready s g a) (steady : cells
 
     -- passes 5 to 7
     module _ (parts masses : List ℤ) (marks : List ℕ) (ep : parts ≡ tab (19 * n) (λ m. bornPart S (m / 19) (m % 19))) (em : masses ≡ tab n (movedMass S)) (ek : marks ≡ tab n (settledMark S)) where
-      pub midway : Midway s g a flags (a .fills) parts masses marks
-      midway = record { poised = ready-poised s g a r; steady = steady; fills-are = refl; flags-are = ef; parts-are = ep; masses-are = em; marks-are = ek }
+      middle : Midway (fieldOf s g a) flags (a .fills) (partOf parts) masses marks
+      unfolding sceneOf stateOf
+      middle = record {
+        stands = standing s g a (ready-poised s g a r);
+        steady = steady;
+        fills-are = refl;
+        flags-are = ef;
+        part-is = λ c k h l. ap (λ (x : List ℤ). partOf x c k) ep ∙ part-at 18 n c k h l (bornPart S);
+        masses-are = em;
+        marks-are = ek;
+      }
 
-      pub carry-told : (k z : ℤ) → z ≡ getD (a .carry) 0 (pos 0) → k ≡ z +ℤ sum n (strayAt flags parts masses marks (tab 19 (offsetOf s)) (lowOf s)) → k ≡ newCarry S
-      unfolding stateOf
+      pub midway : Listed s g a flags (a .fills) parts masses marks
+      midway = record { midway = middle; sides = r .sides; count = ap length ep ∙ length-tab (19 * n) _ }
+
+      pub carry-told : (k z : ℤ) → z ≡ getD (a .carry) 0 (pos 0) → k ≡ z +ℤ sum n (strayAt flags (partOf parts) masses marks (tab 19 (offsetOf s)) (lowOf s)) → k ≡ newCarry S
+      unfolding sceneOf stateOf
       carry-told k z e f =
-          f ∙ ap (λ (x : ℤ). x +ℤ sum n (strayAt flags parts masses marks (tab 19 (offsetOf s)) (lowOf s))) e ∙ carry-is midway (grid-offsets s)
+          f ∙ ap (λ (x : ℤ). x +ℤ sum n (strayAt flags (partOf parts) masses marks (tab 19 (offsetOf s)) (lowOf s))) e ∙ carry-is middle
 
   pub carry-within : Within (getD (a .carry) 0 (pos 0)) 1000000000000
   carry-within = record { abs = leb-true (natAbs (getD (a .carry) 0 (pos 0))) 1000000000000 (ready-carry s g a r) }

@@ -9,33 +9,27 @@ use lib.Dec.{eqb}
 use lib.ListN.{getD}
 use borrow.Author.Tests.{eq-eqb, eqb-true}
 use Rattle.whole.specs.Bools.{cond-yes}
-use Rattle.whole.specs.Fold.{sum, anyDir, tab}
+use Rattle.whole.specs.Fold.{sum, anyDir, first, tab}
 use Rattle.whole.specs.Ring.{ring-by, quotes}
 use Rattle.whole.specs.Search.{Dir, as-dir, any-dir}
 use Rattle.whole.specs.Sums.{sum-cong}
 use Rattle.whole.specs.Tab.{getD-tab, tab-cong}
 use Rattle.lattice.specs.Lattice.{V3, dot, d3q19, density}
 use Rattle.lattice.specs.Cell.{positive, isPositive, share, over}
-use Rattle.lattice.specs.declared.Settings.{Settings}
 use Rattle.lattice.proofs.Paired.{paired19}
-use Rattle.grid.specs.declared.Sides.{Sides}
-use Rattle.grid.specs.Grid.{cellsOf, gridOf, box}
-use Rattle.grid.specs.State.{Lent, Scene, byFlag, stateOf}
-use Rattle.grid.specs.Step.{flagAt, tradedMass, newDensity, collided, filled, besideFilled, emptied, besideEmptied, flagAfter, newFlag, seen, normal, target, anyTarget, lean, leanWeight, shareWeight, excess, converted, gift, toCarry, received, newCarry}
-use Rattle.grid.specs.Outcome.{sceneOf}
+use Rattle.grid.specs.State.{Scene, byFlag}
+use Rattle.grid.specs.Step.{flagAt, tooFast, tradedMass, newDensity, collided, filled, besideFilled, emptied, besideEmptied, flagAfter, newFlag, seen, normal, target, anyTarget, lean, leanWeight, shareWeight, excess, converted, gift, toCarry, received, newCarry}
 use Rattle.grid.specs.Between.{movedMass, settledMark, bornPart, gatheredMass}
-use Rattle.grid.specs.Passes.{seenAt, seenBeside, normalAt, Inner}
-use Rattle.grid.proofs.Beside.{Offsets, any-cong, place-is}
-use Rattle.grid.proofs.Box.{grid-laid}
+use Rattle.grid.specs.Passes.{seenAt, seenBeside, normalAt, Amid}
+use Rattle.grid.proofs.Beside.{any-cong}
 use Rattle.grid.proofs.Closed.{wall-stays}
-use Rattle.grid.proofs.Listed.{part-at}
 use Rattle.grid.proofs.Moved.{density-collided}
-use Rattle.grid.proofs.Offsets.{near-below, near-self}
 use Rattle.grid.proofs.Same.{density-same}
 use Rattle.grid.proofs.Slopes.{dot-turn}
-use Rattle.excess.specs.Gifts.{back, leaningAt, targetAt, leanWeightAt, evenAt, weightAt, densityAt, excessAt, giftAt, giftFrom, receivedAt, gatheredAt, lostAt, strayAt, Midway}
+use Rattle.excess.specs.Gifts.{back, leaningAt, targetAt, leanWeightAt, evenAt, weightAt, densityAt, excessAt, giftAt, giftFrom, receivedAt, gatheredAt, lostAt, strayAt}
 use Rattle.excess.proofs.Portions.{share-cong}
 use Rattle.turn.proofs.Amounts.{marked-interface, outer-not, inner-cell}
+use Rattle.turn.proofs.Field.{Field, sceneIn, Standing}
 
 -- ---- by cases on marks alone
 
@@ -91,37 +85,47 @@ gathered-cases : (b : Bool) (m x y : ℤ) → (b ≡ true → x ≡ y) → cond 
 gathered-cases true m x y e = ap (λ (z : ℤ). m +ℤ z) (e refl)
 gathered-cases false m x y e = sym (+ℤ-idr m)
 
+-- ---- where stage 6 begins: from a good state that passed test 7, with flags, newborn parts, masses and settled marks in their places
+pub record Midway (F : Field) (flags fills : List ℕ) (part : ℕ → ℕ → ℤ) (masses : List ℤ) (marks : List ℕ) : Type 0 where
+  pub stands : Standing F
+  pub steady : F .cells ≤ first (F .cells) (tooFast (sceneIn F))
+  pub fills-are : fills ≡ F .fills
+  pub flags-are : flags ≡ tab (F .cells) (newFlag (sceneIn F))
+  pub part-is : (c k : ℕ) → c < F .cells → k ≤ 18 → part c k ≡ bornPart (sceneIn F) c k
+  pub masses-are : masses ≡ tab (F .cells) (movedMass (sceneIn F))
+  pub marks-are : marks ≡ tab (F .cells) (settledMark (sceneIn F))
+
 -- ---- what the lists hold
-module _ {s : Sides} {g : Settings} {a : Lent} {flags fills : List ℕ} {parts masses : List ℤ} {marks : List ℕ} (w : Midway s g a flags fills parts masses marks) where
+module _ {F : Field} {flags fills : List ℕ} {part : ℕ → ℕ → ℤ} {masses : List ℤ} {marks : List ℕ} (w : Midway F flags fills part masses marks) where
   abbrev S : Scene
-  S = sceneOf s g a
+  S = sceneIn F
 
-  pub flag-is : (c : ℕ) → c < cellsOf s → getD flags c 0 ≡ newFlag S c
-  flag-is c h = rw (w .flags-are) (getD-tab (cellsOf s) (newFlag S) 0 c h)
+  pub flag-is : (c : ℕ) → c < F .cells → getD flags c 0 ≡ newFlag S c
+  flag-is c h = rw (w .flags-are) (getD-tab (F .cells) (newFlag S) 0 c h)
 
-  flag-there : (c : ℕ) → c < cellsOf s → getD flags c 3 ≡ newFlag S c
-  flag-there c h = rw (w .flags-are) (getD-tab (cellsOf s) (newFlag S) 3 c h)
+  flag-there : (c : ℕ) → c < F .cells → getD flags c 3 ≡ newFlag S c
+  flag-there c h = rw (w .flags-are) (getD-tab (F .cells) (newFlag S) 3 c h)
 
-  pub mark-is : (c : ℕ) → c < cellsOf s → getD marks c 0 ≡ settledMark S c
-  mark-is c h = rw (w .marks-are) (getD-tab (cellsOf s) (settledMark S) 0 c h)
+  pub mark-is : (c : ℕ) → c < F .cells → getD marks c 0 ≡ settledMark S c
+  mark-is c h = rw (w .marks-are) (getD-tab (F .cells) (settledMark S) 0 c h)
 
-  pub mass-is : (c : ℕ) → c < cellsOf s → getD masses c (pos 0) ≡ movedMass S c
-  mass-is c h = rw (w .masses-are) (getD-tab (cellsOf s) (movedMass S) (pos 0) c h)
+  pub mass-is : (c : ℕ) → c < F .cells → getD masses c (pos 0) ≡ movedMass S c
+  mass-is c h = rw (w .masses-are) (getD-tab (F .cells) (movedMass S) (pos 0) c h)
 
-  pub part-is : (c k : ℕ) → c < cellsOf s → k ≤ 18 → getD parts (19 * c + k) (pos 0) ≡ bornPart S c k
-  part-is c k h l = rw (w .parts-are) (part-at 18 (cellsOf s) c k h l (bornPart S))
+  pub part-is : (c k : ℕ) → c < F .cells → k ≤ 18 → part c k ≡ bornPart S c k
+  part-is = w .part-is
 
   -- ---- marks
-  pub filled-is : (c : ℕ) → c < cellsOf s → eqb (getD marks c 0) 1 ≡ filled S c
+  pub filled-is : (c : ℕ) → c < F .cells → eqb (getD marks c 0) 1 ≡ filled S c
   unfolding settledMark
   filled-is c h = ap (λ (m : ℕ). eqb m 1) (mark-is c h) ∙ mark-filled (filled S c) (emptied S c)
 
-  pub none-is : (c : ℕ) → c < cellsOf s → eqb (getD marks c 0) 0 ≡ not (converted S c)
+  pub none-is : (c : ℕ) → c < F .cells → eqb (getD marks c 0) 0 ≡ not (converted S c)
   unfolding settledMark
   none-is c h = ap (λ (m : ℕ). eqb m 0) (mark-is c h) ∙ mark-none (filled S c) (emptied S c)
 
-  pub converted-interface : (c : ℕ) → converted S c ≡ true → stateOf 18 a .flag c ≡ 1
-  unfolding settledMark sceneOf
+  pub converted-interface : (c : ℕ) → converted S c ≡ true → getD (F .flags) c 3 ≡ 1
+  unfolding settledMark
   converted-interface c h = marked-interface S c (λ e. marked (filled S c) (emptied S c) h e)
     where
       marked : (fi em : Bool) → (fi || em) ≡ true → mark fi em ≡ 0 → ⊥
@@ -129,7 +133,7 @@ module _ {s : Sides} {g : Settings} {a : Lent} {flags fills : List ℕ} {parts m
       marked false true h e = omega arith
       marked false false h e = false≢true h
 
-  pub marked-converted : (c : ℕ) → c < cellsOf s → (getD marks c 0 ≡ 0 → ⊥) → converted S c ≡ true
+  pub marked-converted : (c : ℕ) → c < F .cells → (getD marks c 0 ≡ 0 → ⊥) → converted S c ≡ true
   marked-converted c h n = go (converted S c) refl
     where
       go : (b : Bool) → converted S c ≡ b → converted S c ≡ true
@@ -137,43 +141,49 @@ module _ {s : Sides} {g : Settings} {a : Lent} {flags fills : List ℕ} {parts m
       go false e = absurd (n (eqb-true (getD marks c 0) 0 (none-is c h ∙ ap not e)))
 
   -- ---- a cell that is inner
-  module _ {off : List ℕ} {low : ℕ} (o : Offsets s off low) (c : ℕ) (n : Inner s c) where
-    near-low : (i : ℕ) → i < 19 → gridOf s .near c i < cellsOf s
-    near-low i h = near-below s i h c n
+  abbrev off : List ℕ
+  off = F .off
+
+  abbrev low : ℕ
+  low = F .low
+
+  module _ (c : ℕ) (n : Amid (F .cells) (F .low) c) where
+    near-low : (i : ℕ) → i < 19 → F .grid .near c i < F .cells
+    near-low i h = w .stands .near-low c i n h
 
     pub target-is : (k : ℕ) → k < 19 → targetAt flags off (c - low) k ≡ target S c k
-    unfolding targetAt target sceneOf
-    target-is k h = ap (λ (x : ℕ). eqb x 1) (ap (λ (j : ℕ). getD flags j 0) (place-is o c n k h) ∙ flag-is (gridOf s .near c k) (near-low k h))
+    unfolding targetAt target
+    target-is k h = ap (λ (x : ℕ). eqb x 1) (ap (λ (j : ℕ). getD flags j 0) (w .stands .place c k n h) ∙ flag-is (F .grid .near c k) (near-low k h))
 
     pub any-target-is : anyDir 18 (targetAt flags off (c - low)) ≡ anyTarget S c
-    unfolding anyTarget sceneOf d3q19
+    unfolding anyTarget d3q19
     any-target-is = any-cong 18 (λ b. targetAt flags off (c - low) (suc b)) (λ b. target S c (suc b)) (λ b k. target-is (suc b) (omega arith))
 
     own-place : c - low + getD off 0 0 ≡ c
-    own-place = place-is o c n 0 (omega arith) ∙ near-self s c
+    own-place = w .stands .place c 0 n (omega arith) ∙ w .stands .self c
 
-    fill-seen : (i : ℕ) → i < 19 → seenBeside flags fills off (c - low) i ≡ seen S c (gridOf s .near c i)
-    unfolding seenAt seen newFlag sceneOf stateOf
+    fill-seen : (i : ℕ) → i < 19 → seenBeside flags fills off (c - low) i ≡ seen S c (F .grid .near c i)
+    unfolding seenAt seen newFlag
     fill-seen i h =
-        let d = gridOf s .near c i in
-        ap₂ (λ (j m : ℕ). pos (getD fills (seenAt flags m j) 0)) (place-is o c n i h) own-place
+        let d = F .grid .near c i in
+        ap₂ (λ (j m : ℕ). pos (getD fills (seenAt flags m j) 0)) (w .stands .place c i n h) own-place
         ∙ ap₂ (λ (f : ℕ) (l : List ℕ). pos (getD l (byFlag f d d d c) 0)) (flag-there d (near-low i h)) (w .fills-are)
-        ∙ wall-cases (flagAt S d) (besideFilled S d) (filled S d) (emptied S d) (besideEmptied S d) (λ j. getD (a .fills) j 0) d c
+        ∙ wall-cases (flagAt S d) (besideFilled S d) (filled S d) (emptied S d) (besideEmptied S d) (λ j. getD (F .fills) j 0) d c
 
     normal-is : normalAt flags fills off (c - low) ≡ normal S c
-    unfolding normalAt normal sceneOf d3q19
+    unfolding normalAt normal d3q19
     normal-is i = record {
       x = fill-seen 2 (omega arith) i -ℤ fill-seen 1 (omega arith) i;
       y = fill-seen 4 (omega arith) i -ℤ fill-seen 3 (omega arith) i;
       z = fill-seen 6 (omega arith) i -ℤ fill-seen 5 (omega arith) i;
     }
 
-    module _ (h : c < cellsOf s) where
+    module _ (h : c < F .cells) where
       abbrev m : ℕ
       m = getD marks c 0
 
       lean-is : (k : ℕ) → dot (d3q19 .e k) (leaningAt flags fills off (c - low) m) ≡ lean S c k
-      unfolding leaningAt lean sceneOf
+      unfolding leaningAt lean
       lean-is k =
           ap₂ (λ (b : Bool) (v : V3). dot (d3q19 .e k) (cond b v (back v))) (filled-is c h) normal-is
           ∙ lean-cases (filled S c) (d3q19 .e k) (normal S c)
@@ -183,111 +193,108 @@ module _ {s : Sides} {g : Settings} {a : Lent} {flags fills : List ℕ} {parts m
       lean-weight-is k l = ap₂ (λ (b : Bool) (z : ℤ). cond b (positive z) (pos 0)) (target-is k l) (lean-is k)
 
       pub weight-is : (k : ℕ) → k < 19 → weightAt flags fills off (c - low) m k ≡ shareWeight S c k
-      unfolding weightAt shareWeight evenAt sceneOf d3q19
+      unfolding weightAt shareWeight evenAt d3q19
       weight-is k l i =
           cond (isPositive (sum-cong 18 (λ b. leanWeightAt flags (leaningAt flags fills off (c - low) m) off (c - low) (suc b)) (λ b. leanWeight S c (suc b)) (λ b j. lean-weight-is (suc b) (omega arith)) i))
           (lean-weight-is k l i) (cond (target-is k l i) (pos 1) (pos 0))
 
   -- ---- a converted cell's density, mass and excess
-  module _ (c : ℕ) (h : c < cellsOf s) (t : converted S c ≡ true) where
+  module _ (c : ℕ) (h : c < F .cells) (t : converted S c ≡ true) where
     pub born-is : (k : ℕ) → bornPart S c k ≡ collided S c k
-    unfolding bornPart sceneOf
+    unfolding bornPart
     born-is k = rw (converted-interface c t) refl
 
-    pub density-is : densityAt parts c ≡ newDensity S c
-    unfolding densityAt sceneOf d3q19
-    density-is = density-same d3q19 (λ k. getD parts (19 * c + k) (pos 0)) (collided S c) (λ k l. part-is c k h l ∙ born-is k) ∙ density-collided S c
+    pub density-is : densityAt part c ≡ newDensity S c
+    unfolding densityAt d3q19 density
+    density-is = density-same d3q19 (part c) (collided S c) (λ k l. part-is c k h l ∙ born-is k) ∙ density-collided S c
 
     moved-is : movedMass S c ≡ tradedMass S c
-    unfolding movedMass sceneOf
+    unfolding movedMass
     moved-is = rw (converted-interface c t) refl
 
     traded-is : getD masses c (pos 0) ≡ tradedMass S c
     traded-is = mass-is c h ∙ moved-is
 
-    pub excess-is : excessAt parts masses (getD marks c 0) c ≡ excess S c
+    pub excess-is : excessAt part masses (getD marks c 0) c ≡ excess S c
     unfolding excessAt excess
     excess-is =
         (λ i. cond (filled-is c h i) (traded-is i -ℤ density-is i) (traded-is i))
         ∙ mark-excess (filled S c) (emptied S c) (tradedMass S c) (newDensity S c) t
 
   -- ---- what cell b gives in direction k, where the neighbour is a target
-  module _ {off : List ℕ} {low : ℕ} (o : Offsets s off low) where
-    some-target : (b k : ℕ) → Dir 18 k → target S b k ≡ true → anyTarget S b ≡ true
-    unfolding anyTarget sceneOf d3q19
-    some-target b k d e = any-dir 18 (target S b) k d e
+  some-target : (b k : ℕ) → Dir 18 k → target S b k ≡ true → anyTarget S b ≡ true
+  unfolding anyTarget d3q19
+  some-target b k d e = any-dir 18 (target S b) k d e
 
-    given-is : (b k : ℕ) → b < cellsOf s → converted S b ≡ true → Dir 18 k
-        → giftAt flags fills parts masses off low b (getD marks b 0) k ≡ share 18 (excess S b) (shareWeight S b) k
-    unfolding giftAt
-    given-is b zero h t d = absurd (omega (arith, d .some))
-    given-is b (suc j) h t d =
-        let n : Inner s b = inner-cell s g a (w .poised) b h (λ f. omega (arith, converted-interface b t)) in
-        ap (λ (x : ℤ). share 18 x (weightAt flags fills off (b - low) (getD marks b 0)) (suc j)) (excess-is b h t)
-        ∙ share-cong 18 (excess S b) (weightAt flags fills off (b - low) (getD marks b 0)) (shareWeight S b) (λ i l. weight-is o b n h (suc i) (omega arith)) j (d .most)
+  given-is : (b k : ℕ) → b < F .cells → converted S b ≡ true → Dir 18 k
+      → giftAt flags fills part masses off low b (getD marks b 0) k ≡ share 18 (excess S b) (shareWeight S b) k
+  unfolding giftAt
+  given-is b zero h t d = absurd (omega (arith, d .some))
+  given-is b (suc j) h t d =
+      let n : Amid (F .cells) (F .low) b = inner-cell F (w .stands) b h (λ f. omega (arith, converted-interface b t)) in
+      ap (λ (x : ℤ). share 18 x (weightAt flags fills off (b - low) (getD marks b 0)) (suc j)) (excess-is b h t)
+      ∙ share-cong 18 (excess S b) (weightAt flags fills off (b - low) (getD marks b 0)) (shareWeight S b) (λ i l. weight-is b n h (suc i) (omega arith)) j (d .most)
 
-    pub gift-is : (b k : ℕ) → b < cellsOf s → Dir 18 k → target S b k ≡ true → giftFrom flags fills parts masses marks off low b k ≡ gift S b k
-    unfolding giftFrom gift sceneOf d3q19
-    gift-is b k h d e =
-        ap (λ (x : Bool). cond x (pos 0) (giftAt flags fills parts masses off low b (getD marks b 0) k)) (none-is b h)
-        ∙ given-cases (converted S b) (anyTarget S b) (giftAt flags fills parts masses off low b (getD marks b 0) k) (share 18 (excess S b) (shareWeight S b) k)
-        (some-target b k d e) (λ t. given-is b k h t d)
+  pub gift-is : (b k : ℕ) → b < F .cells → Dir 18 k → target S b k ≡ true → giftFrom flags fills part masses marks off low b k ≡ gift S b k
+  unfolding giftFrom gift d3q19
+  gift-is b k h d e =
+      ap (λ (x : Bool). cond x (pos 0) (giftAt flags fills part masses off low b (getD marks b 0) k)) (none-is b h)
+      ∙ given-cases (converted S b) (anyTarget S b) (giftAt flags fills part masses off low b (getD marks b 0) k) (share 18 (excess S b) (shareWeight S b) k)
+      (some-target b k d e) (λ t. given-is b k h t d)
 
-    pub taker-inner : (c : ℕ) → newFlag S c ≡ 1 → stateOf 18 a .flag c ≡ 3 → ⊥
-    unfolding sceneOf
-    taker-inner c e f = absurd (omega (arith, wall-stays S c f))
+  pub taker-inner : (c : ℕ) → newFlag S c ≡ 1 → getD (F .flags) c 3 ≡ 3 → ⊥
+  taker-inner c e f = absurd (omega (arith, wall-stays S c f))
 
-    opp-dir : (i : ℕ) → Dir 18 i → Dir 18 (d3q19 .opp i)
-    unfolding d3q19
-    opp-dir i d = paired19 .dir i d
+  opp-dir : (i : ℕ) → Dir 18 i → Dir 18 (d3q19 .opp i)
+  unfolding d3q19
+  opp-dir i d = paired19 .dir i d
 
-    pub there-back : (c i : ℕ) → c < cellsOf s → newFlag S c ≡ 1 → Dir 18 i → gridOf s .near (gridOf s .near c i) (d3q19 .opp i) ≡ c
-    unfolding d3q19 gridOf box cellsOf
-    there-back c i h e d = grid-laid s .back c i h (outer-not s g a (w .poised) c h (taker-inner c e)) d
+  pub there-back : (c i : ℕ) → c < F .cells → newFlag S c ≡ 1 → Dir 18 i → F .grid .near (F .grid .near c i) (d3q19 .opp i) ≡ c
+  there-back c i h e d = w .stands .back c i h (outer-not F (w .stands) c h (taker-inner c e)) d
 
-    comes-back : (c i : ℕ) → c < cellsOf s → newFlag S c ≡ 1 → Dir 18 i → target S (gridOf s .near c i) (d3q19 .opp i) ≡ true
-    unfolding target sceneOf
-    comes-back c i h e d = ap (λ (b : ℕ). eqb (newFlag S b) 1) (there-back c i h e d) ∙ eq-eqb (newFlag S c) 1 e
+  comes-back : (c i : ℕ) → c < F .cells → newFlag S c ≡ 1 → Dir 18 i → target S (F .grid .near c i) (d3q19 .opp i) ≡ true
+  unfolding target
+  comes-back c i h e d = ap (λ (b : ℕ). eqb (newFlag S b) 1) (there-back c i h e d) ∙ eq-eqb (newFlag S c) 1 e
 
-    pub received-is : (c : ℕ) → c < cellsOf s → newFlag S c ≡ 1 → receivedAt flags fills parts masses marks off low c ≡ received S c
-    unfolding receivedAt received sceneOf d3q19
-    received-is c h e =
-        sum-cong 18 (λ b. giftFrom flags fills parts masses marks off low (c - low + getD off (suc b) 0) (d3q19 .opp (suc b)))
-        (λ b. gift S (gridOf s .near c (suc b)) (d3q19 .opp (suc b))) (λ b k. one (suc b) (as-dir k))
-      where
-        n : Inner s c
-        n = inner-cell s g a (w .poised) c h (taker-inner c e)
+  pub received-is : (c : ℕ) → c < F .cells → newFlag S c ≡ 1 → receivedAt flags fills part masses marks off low c ≡ received S c
+  unfolding receivedAt received d3q19
+  received-is c h e =
+      sum-cong 18 (λ b. giftFrom flags fills part masses marks off low (c - low + getD off (suc b) 0) (d3q19 .opp (suc b)))
+      (λ b. gift S (F .grid .near c (suc b)) (d3q19 .opp (suc b))) (λ b k. one (suc b) (as-dir k))
+    where
+      n : Amid (F .cells) (F .low) c
+      n = inner-cell F (w .stands) c h (taker-inner c e)
 
-        one : (i : ℕ) → Dir 18 i → giftFrom flags fills parts masses marks off low (c - low + getD off i 0) (d3q19 .opp i) ≡ gift S (gridOf s .near c i) (d3q19 .opp i)
-        one i d =
-            let l : i < 19 = omega (arith, d .most) in
-            ap (λ (b : ℕ). giftFrom flags fills parts masses marks off low b (d3q19 .opp i)) (place-is o c n i l)
-            ∙ gift-is (gridOf s .near c i) (d3q19 .opp i) (near-below s i l c n) (opp-dir i d) (comes-back c i h e d)
+      one : (i : ℕ) → Dir 18 i → giftFrom flags fills part masses marks off low (c - low + getD off i 0) (d3q19 .opp i) ≡ gift S (F .grid .near c i) (d3q19 .opp i)
+      one i d =
+          let l : i < 19 = omega (arith, d .most) in
+          ap (λ (b : ℕ). giftFrom flags fills part masses marks off low b (d3q19 .opp i)) (w .stands .place c i n l)
+          ∙ gift-is (F .grid .near c i) (d3q19 .opp i) (w .stands .near-low c i n l) (opp-dir i d) (comes-back c i h e d)
 
-    gathered-at : (c : ℕ) → c < cellsOf s → gatheredAt flags fills parts masses marks off low c ≡ gatheredMass S c
-    unfolding gatheredAt gatheredMass
-    gathered-at c h =
-        (λ i. cond (eqb (flag-is c h i) 1) (mass-is c h i +ℤ receivedAt flags fills parts masses marks off low c) (mass-is c h i))
-        ∙ gathered-cases (eqb (newFlag S c) 1) (movedMass S c) _ _ (λ e. received-is c h (eqb-true (newFlag S c) 1 e))
+  gathered-at : (c : ℕ) → c < F .cells → gatheredAt flags fills part masses marks off low c ≡ gatheredMass S c
+  unfolding gatheredAt gatheredMass
+  gathered-at c h =
+      (λ i. cond (eqb (flag-is c h i) 1) (mass-is c h i +ℤ receivedAt flags fills part masses marks off low c) (mass-is c h i))
+      ∙ gathered-cases (eqb (newFlag S c) 1) (movedMass S c) _ _ (λ e. received-is c h (eqb-true (newFlag S c) 1 e))
 
-    -- stage 6's masses
-    pub gathered-is : tab (cellsOf s) (gatheredAt flags fills parts masses marks off low) ≡ tab (cellsOf s) (gatheredMass S)
-    gathered-is = tab-cong (cellsOf s) (gatheredAt flags fills parts masses marks off low) (gatheredMass S) (pos 0) gathered-at
+  -- stage 6's masses
+  pub gathered-is : tab (F .cells) (gatheredAt flags fills part masses marks off low) ≡ tab (F .cells) (gatheredMass S)
+  gathered-is = tab-cong (F .cells) (gatheredAt flags fills part masses marks off low) (gatheredMass S) (pos 0) gathered-at
 
-    pub stray-is : (c : ℕ) → c < cellsOf s → strayAt flags parts masses marks off low c ≡ toCarry S c
-    unfolding strayAt lostAt toCarry
-    stray-is c h =
-        ap (λ (x : Bool). cond x (pos 0) (lostAt flags parts masses off low c (getD marks c 0))) (none-is c h)
-        ∙ by (converted S c) refl
-      where
-        by : (b : Bool) → converted S c ≡ b
-            → cond (not b) (pos 0) (cond (anyDir 18 (targetAt flags off (c - low))) (pos 0) (excessAt parts masses (getD marks c 0) c)) ≡ cond (b && not (anyTarget S c)) (excess S c) (pos 0)
-        by true t =
-            let n : Inner s c = inner-cell s g a (w .poised) c h (λ f. omega (arith, converted-interface c t)) in
-            ap₂ (λ (x : Bool) (y : ℤ). cond x (pos 0) y) (any-target-is o c n) (excess-is c h t) ∙ stray-cases true (anyTarget S c) (excess S c) (excess S c) (λ e. refl)
-        by false t = refl
+  pub stray-is : (c : ℕ) → c < F .cells → strayAt flags part masses marks off low c ≡ toCarry S c
+  unfolding strayAt lostAt toCarry
+  stray-is c h =
+      ap (λ (x : Bool). cond x (pos 0) (lostAt flags part masses off low c (getD marks c 0))) (none-is c h)
+      ∙ by (converted S c) refl
+    where
+      by : (b : Bool) → converted S c ≡ b
+          → cond (not b) (pos 0) (cond (anyDir 18 (targetAt flags off (c - low))) (pos 0) (excessAt part masses (getD marks c 0) c)) ≡ cond (b && not (anyTarget S c)) (excess S c) (pos 0)
+      by true t =
+          let n : Amid (F .cells) (F .low) c = inner-cell F (w .stands) c h (λ f. omega (arith, converted-interface c t)) in
+          ap₂ (λ (x : Bool) (y : ℤ). cond x (pos 0) y) (any-target-is c n) (excess-is c h t) ∙ stray-cases true (anyTarget S c) (excess S c) (excess S c) (λ e. refl)
+      by false t = refl
 
-    -- the new carry
-    pub carry-is : stateOf 18 a .carry +ℤ sum (cellsOf s) (strayAt flags parts masses marks off low) ≡ newCarry S
-    unfolding newCarry sceneOf gridOf box cellsOf
-    carry-is = ap (λ (x : ℤ). stateOf 18 a .carry +ℤ x) (sum-cong (cellsOf s) (strayAt flags parts masses marks off low) (toCarry S) stray-is)
+  -- the new carry
+  pub carry-is : F .carry +ℤ sum (F .cells) (strayAt flags part masses marks off low) ≡ newCarry S
+  unfolding newCarry
+  carry-is = ap (λ (x : ℤ). F .carry +ℤ x) (sum-cong (F .cells) (strayAt flags part masses marks off low) (toCarry S) stray-is ∙ ap (λ (m : ℕ). sum m (toCarry S)) (sym (w .stands .cells-are)))

@@ -4,7 +4,7 @@ use mathlib.Core.Bool.{Bool, true, false, _&&_, _||_, not, cond, false≢true}
 use mathlib.Core.List.{List, [], _∷_}
 use Prim.Native.Nat.{ℕ, zero, suc, _+_, _-_, _*_, _/_, _%_, _≤_, _<_}
 use native.Mathlib.Decide.{decLt}
-use native.Mathlib.Nat.{add-zero, mod-lt, div-add-mod, le-of-suc-le-suc, not-suc-le-zero}
+use native.Mathlib.Nat.{mod-lt, div-add-mod, le-of-suc-le-suc, not-suc-le-zero}
 use native.Mathlib.Omega.{arith}
 use lib.IntN.{ℤ, pos, negℤ, _+ℤ_, _*ℤ_, +ℤ-idr}
 use lib.Signed.{_≤ℤ_, leZ}
@@ -23,22 +23,19 @@ use Rattle.lattice.specs.Cell.{over, under, dense}
 use Rattle.lattice.specs.declared.Settings.{Settings}
 use Rattle.lattice.proofs.Paired.{paired19}
 use Rattle.grid.specs.declared.Sides.{Sides}
-use Rattle.grid.specs.Grid.{cellsOf, sidesGood, gridOf}
+use Rattle.grid.specs.Grid.{cellsOf, sidesGood}
 use Rattle.grid.specs.State.{Lent, Scene, byFlag, liquid, stateOf}
 use Rattle.grid.specs.Step.{tradedMass, newDensity, collided, filled, emptied, besideFilled, besideEmptied, newFlag, flagAfter, converted, received, baseMass, newMass, newPart}
 use Rattle.grid.specs.Outcome.{sceneOf}
 use Rattle.grid.specs.Between.{movedMass, bornPart, gatheredMass}
-use Rattle.grid.specs.Passes.{Inner, lowOf, offsetOf}
+use Rattle.grid.specs.Passes.{Amid, lowOf, offsetOf}
+use Rattle.grid.specs.Fill.{partOf}
 use Rattle.grid.specs.Sight.{Around}
-use Rattle.grid.proofs.Beside.{Offsets, place-is}
-use Rattle.grid.proofs.GoodSides.{good-sides}
-use Rattle.grid.proofs.Offsets.{near-below}
-use Rattle.excess.specs.Gifts.{densityAt, settledMass, settledPart, Filled, Parts, Weighed, Gathering, Straying, Settling, Settled, Midway}
-use Rattle.flow.proofs.Mirrored.{around as inner-around}
-use Rattle.flow.proofs.Poise.{fill-in}
+use Rattle.excess.specs.Gifts.{densityAt, gatheredAt, settledMass, settledPart, Filled, Parts, roomOf, Weighed, Giving, Gathering, Straying, Settling, Settled}
 use Rattle.turn.proofs.Amounts.{taker-unmarked, inner-cell, moved-mass-in, new-density-in, new-dense}
-use Rattle.turn.proofs.Given.{flag-is, mark-is, mass-is, part-is, none-is, filled-is, converted-interface, marked-converted, born-is, density-is, taker-inner, there-back}
+use Rattle.turn.proofs.Given.{Midway, flag-is, mark-is, mass-is, part-is, none-is, filled-is, converted-interface, marked-converted, born-is, density-is, taker-inner, there-back, gathered-is}
 use Rattle.turn.proofs.Impacts.{collided-rest, collided-at}
+use Rattle.turn.proofs.Field.{Field, sceneIn, fieldOf}
 
 -- past its end a list has nothing
 getD-past : (xs : List ℕ) (j d : ℕ) → length xs ≤ j → getD xs j d ≡ d
@@ -50,17 +47,9 @@ dense-up : (ρ : ℤ) → dense ρ ≡ true → pos 0 ≤ℤ ρ
 unfolding dense
 dense-up ρ e = parts-≤ (omega (arith, ≤-parts (leZ-true {a = pos 294912} {b = ρ} (and-left (leZ (pos 294912) ρ) (leZ ρ (pos 1179648)) e))))
 
-few : (s : Sides) → sidesGood s ≡ true → cellsOf s ≤ 262144
-unfolding cellsOf
-few s h = good-sides s h .all
-
 opp-low : (i : ℕ) → Dir 18 i → d3q19 .opp i < 19
 unfolding d3q19
 opp-low i d = omega (arith, paired19 .dir i d .most)
-
--- the grid's offsets
-pub grid-offsets : (s : Sides) → Offsets s (tab 19 (offsetOf s)) (lowOf s)
-grid-offsets s = record { table = refl; lowest = refl }
 
 -- ---- by cases on flags and tests alone
 
@@ -124,169 +113,199 @@ module _ (S : Scene) (c : ℕ) where
   settled-part k h =
       part-cases (S .old .flag c) (over (tradedMass S c) (newDensity S c)) (under (tradedMass S c) (newDensity S c) && not (besideFilled S c)) _ (collided S c k) h
 
-module _ {s : Sides} {g : Settings} {a : Lent} {flags fills : List ℕ} {parts masses : List ℤ} {marks : List ℕ} (w : Midway s g a flags fills parts masses marks) where
+module _ {F : Field} {flags fills : List ℕ} {part : ℕ → ℕ → ℤ} {masses : List ℤ} {marks : List ℕ} (w : Midway F flags fills part masses marks) where
   abbrev S : Scene
-  S = sceneOf s g a
-
-  o : Offsets s (tab 19 (offsetOf s)) (lowOf s)
-  o = grid-offsets s
+  S = sceneIn F
 
   -- ---- lengths
-  flags-count : length flags ≡ cellsOf s
-  flags-count = ap length (w .flags-are) ∙ length-tab (cellsOf s) _
+  flags-count : length flags ≡ F .cells
+  flags-count = ap length (w .flags-are) ∙ length-tab (F .cells) _
 
-  marks-count : length marks ≡ cellsOf s
-  marks-count = ap length (w .marks-are) ∙ length-tab (cellsOf s) _
+  marks-count : length marks ≡ F .cells
+  marks-count = ap length (w .marks-are) ∙ length-tab (F .cells) _
 
-  masses-count : length masses ≡ cellsOf s
-  masses-count = ap length (w .masses-are) ∙ length-tab (cellsOf s) _
+  masses-count : length masses ≡ F .cells
+  masses-count = ap length (w .masses-are) ∙ length-tab (F .cells) _
 
-  parts-count : length parts ≡ 19 * cellsOf s
-  parts-count = ap length (w .parts-are) ∙ length-tab (19 * cellsOf s) _
-
-  cell : {c : ℕ} → c < length flags → c < cellsOf s
+  cell : {c : ℕ} → c < length flags → c < F .cells
   cell {c} h = subst (λ (n : ℕ). c < n) flags-count h
 
   -- ---- cells that convert and cells that take are inner
-  around : (c : ℕ) → Inner s c → c < cellsOf s → Around (length flags) (tab 19 (offsetOf s)) (lowOf s) c
+  around : (c : ℕ) → Amid (F .cells) (F .low) c → c < F .cells → Around (length flags) (F .off) (F .low) c
   around c n h =
-      subst (λ (m : ℕ). Around m (tab 19 (offsetOf s)) (lowOf s) c) (sym flags-count) (inner-around o c n)
+      subst (λ (m : ℕ). Around m (F .off) (F .low) c) (sym flags-count)
+      (record {
+        is-cell = h;
+        from = n .from;
+        each = λ i k. subst (λ (m : ℕ). m < F .cells) (sym (w .stands .place c i n k)) (w .stands .near-low c i n k);
+        self = w .stands .place c 0 n (omega arith) ∙ w .stands .self c;
+      })
 
-  giver-inner : (c : ℕ) → c < cellsOf s → (getD marks c 0 ≡ 0 → ⊥) → Inner s c
-  giver-inner c h m = inner-cell s g a (w .poised) c h (λ f. omega (arith, converted-interface w c (marked-converted w c h m)))
+  giver-inner : (c : ℕ) → c < F .cells → (getD marks c 0 ≡ 0 → ⊥) → Amid (F .cells) (F .low) c
+  giver-inner c h m = inner-cell F (w .stands) c h (λ f. omega (arith, converted-interface w c (marked-converted w c h m)))
 
-  taker-cell : (c : ℕ) → c < cellsOf s → getD flags c 0 ≡ 1 → Inner s c
-  taker-cell c h f = inner-cell s g a (w .poised) c h (taker-inner w o c (sym (flag-is w c h) ∙ f))
+  taker-cell : (c : ℕ) → c < F .cells → getD flags c 0 ≡ 1 → Amid (F .cells) (F .low) c
+  taker-cell c h f = inner-cell F (w .stands) c h (taker-inner w c (sym (flag-is w c h) ∙ f))
 
   -- ---- a marked cell's amounts
-  module _ (c : ℕ) (h : c < cellsOf s) (m : getD marks c 0 ≡ 0 → ⊥) where
+  module _ (c : ℕ) (h : c < F .cells) (m : getD marks c 0 ≡ 0 → ⊥) where
     t : converted S c ≡ true
     t = marked-converted w c h m
 
-    wet : liquid (stateOf 18 a .flag c) ≡ true
+    wet : liquid (getD (F .flags) c 3) ≡ true
     wet = ap liquid (converted-interface w c t)
 
-    part-kept : (k : ℕ) → k ≤ 18 → getD parts (19 * c + k) (pos 0) ≡ collided S c k
+    part-kept : (k : ℕ) → k ≤ 18 → part c k ≡ collided S c k
     part-kept k l = part-is w c k h l ∙ born-is w c h t k
 
-    parts-of : Parts parts c
-    parts-of = record {
-      there = omega (arith, parts-count);
-      rest = subst (λ (z : ℤ). Within z 1073741824) (sym (ap (λ (j : ℕ). getD parts j (pos 0)) (sym (add-zero (19 * c))) ∙ part-kept 0 (omega arith)))
-          (collided-rest s g a (w .poised) (w .steady) c h wet);
-      at = λ k z l. subst (λ (x : ℤ). Within x 33554432) (sym (part-kept k (omega arith))) (collided-at s g a (w .poised) (w .steady) c h wet k z l);
+    parts-of : {Room : ℕ → Type 0} → Room c → Parts Room part c
+    parts-of room = record {
+      there = room;
+      rest = subst (λ (z : ℤ). Within z 1073741824) (sym (part-kept 0 (omega arith)))
+          (collided-rest F (w .stands) (w .steady) c h wet);
+      at = λ k z l. subst (λ (x : ℤ). Within x 33554432) (sym (part-kept k (omega arith))) (collided-at F (w .stands) (w .steady) c h wet k z l);
     }
 
-    weighed-of : Weighed parts masses c
-    weighed-of = record {
+    weighed-of : {Room : ℕ → Type 0} → Room c → Weighed Room part masses c
+    weighed-of room = record {
       there = omega (arith, masses-count);
-      parts-in = parts-of;
-      mass-in = subst (λ (z : ℤ). Within z 44826624) (sym (mass-is w c h)) (moved-mass-in s g a (w .poised) (w .steady) c h);
-      density-in = subst (λ (z : ℤ). Within z 1179648) (sym (density-is w c h t)) (new-density-in s g a (w .poised) (w .steady) c h wet);
+      parts-in = parts-of room;
+      mass-in = subst (λ (z : ℤ). Within z 44826624) (sym (mass-is w c h)) (moved-mass-in F (w .stands) (w .steady) c h);
+      density-in = subst (λ (z : ℤ). Within z 1179648) (sym (density-is w c h t)) (new-density-in F (w .stands) (w .steady) c h wet);
     }
-
-  filled-in : (j : ℕ) → j < cellsOf s → getD (a .fills) j 0 ≤ 65536
-  unfolding stateOf
-  filled-in j h = fill-in s g a (w .poised) j h
 
   fills-of : Filled fills
-  fills-of j = go (decLt j (cellsOf s))
+  fills-of j = go (decLt j (F .cells))
     where
-      same : getD fills j 0 ≡ getD (a .fills) j 0
+      same : getD fills j 0 ≡ getD (F .fills) j 0
       same = ap (λ (l : List ℕ). getD l j 0) (w .fills-are)
 
-      go : Dec (j < cellsOf s) → getD fills j 0 ≤ 65536
-      go (yes h) = omega (arith, same, filled-in j h)
-      go (no n) = omega (arith, same, getD-past (a .fills) j 0 (omega (arith, w .poised .fills)))
+      go : Dec (j < F .cells) → getD fills j 0 ≤ 65536
+      go (yes h) = omega (arith, same, w .stands .fill j h)
+      go (no n) = omega (arith, same, getD-past (F .fills) j 0 (omega (arith, w .stands .fills-count)))
 
   -- ---- what the passes ask
   -- there and back again
-  returning : (c i : ℕ) → c < cellsOf s → getD flags c 0 ≡ 1 → Dir 18 i → (getD marks (c - lowOf s + getD (tab 19 (offsetOf s)) i 0) 0 ≡ 0 → ⊥)
-      → c - lowOf s + getD (tab 19 (offsetOf s)) i 0 - lowOf s + getD (tab 19 (offsetOf s)) (d3q19 .opp i) 0 ≡ c
+  returning : (c i : ℕ) → c < F .cells → getD flags c 0 ≡ 1 → Dir 18 i → (getD marks (c - F .low + getD (F .off) i 0) 0 ≡ 0 → ⊥)
+      → c - F .low + getD (F .off) i 0 - F .low + getD (F .off) (d3q19 .opp i) 0 ≡ c
   returning c i h f d m =
       let l : i < 19 = omega (arith, d .most) in
-      let p = place-is o c (taker-cell c h f) i l in
-      let b = gridOf s .near c i in
-      let n : Inner s b = giver-inner b (near-below s i l c (taker-cell c h f)) (λ e. m (ap (λ (j : ℕ). getD marks j 0) p ∙ e)) in
-      ap (λ (j : ℕ). j - lowOf s + getD (tab 19 (offsetOf s)) (d3q19 .opp i) 0) p
-      ∙ place-is o b n (d3q19 .opp i) (opp-low i d)
-      ∙ there-back w o c i h (sym (flag-is w c h) ∙ f) d
+      let p = w .stands .place c i (taker-cell c h f) l in
+      let b = F .grid .near c i in
+      let n : Amid (F .cells) (F .low) b = giver-inner b (w .stands .near-low c i (taker-cell c h f) l) (λ e. m (ap (λ (j : ℕ). getD marks j 0) p ∙ e)) in
+      ap (λ (j : ℕ). j - F .low + getD (F .off) (d3q19 .opp i) 0) p
+      ∙ w .stands .place b (d3q19 .opp i) n (opp-low i d)
+      ∙ there-back w c i h (sym (flag-is w c h) ∙ f) d
 
-  pub gathering : Gathering s flags fills parts masses marks
-  gathering = record {
-    sides = w .poised .sides;
-    count = flags-count;
+  -- what the passes that gather, stray and settle ask; Room says that a list holds a cell's part
+  module _ {Room : ℕ → Type 0} (room : (c : ℕ) → c < F .cells → Room c) where
+    pub giving : Giving flags fills Room part masses marks (F .off) (F .low)
     giving = record {
       masses-there = masses-count ∙ sym flags-count;
       marks-there = marks-count ∙ sym flags-count;
       giver = λ c h m. record {
         around = around c (giver-inner c (cell h) m) (cell h);
-        fills-there = ap length (w .fills-are) ∙ w .poised .fills ∙ sym flags-count;
+        fills-there = ap length (w .fills-are) ∙ w .stands .fills-count ∙ sym flags-count;
         fills-in = fills-of;
-        weighed = weighed-of c (cell h) m;
+        weighed = weighed-of c (cell h) m (room c (cell h));
       };
       taker = λ c h f. around c (taker-cell c (cell h) f) (cell h);
       apart = λ c h f. mark-is w c (cell h) ∙ taker-unmarked S c (sym (flag-is w c (cell h)) ∙ f);
       returns = λ c i h f d m. returning c i (cell h) f d m;
-    };
-    taken = λ c h f. subst (λ (z : ℤ). Within z 44826624) (sym (mass-is w c (cell h))) (moved-mass-in s g a (w .poised) (w .steady) c (cell h));
-  }
+    }
 
-  pub straying : Straying s flags parts masses marks
-  straying = record {
-    sides = w .poised .sides;
-    count = flags-count;
-    marks-there = marks-count ∙ sym flags-count;
-    around = λ c h m. around c (giver-inner c (cell h) m) (cell h);
-    weighed = λ c h m. weighed-of c (cell h) m;
-  }
+    pub weighed : (c : ℕ) → c < length flags → (getD marks c 0 ≡ 0 → ⊥) → Weighed Room part masses c
+    weighed c h m = weighed-of c (cell h) m (room c (cell h))
 
-  -- after the gifts are gathered
-  pub settling : (masses′ : List ℤ) → length masses′ ≡ cellsOf s → Settling parts masses′ marks
-  settling masses′ e = record {
-    few = subst (λ (n : ℕ). n ≤ 262144) (sym marks-count) (few s (w .poised .sides));
-    parts-there = parts-count ∙ ap (λ (n : ℕ). 19 * n) (sym marks-count);
-    masses-there = e ∙ sym marks-count;
-    each = λ c h m. parts-of c (subst (λ (n : ℕ). c < n) marks-count h) m;
-  }
+    pub countable : (c : ℕ) → c < length marks → (getD marks c 0 ≡ 0 → ⊥) → Parts Room part c
+    countable c h m = let k = subst (λ (n : ℕ). c < n) marks-count h in parts-of c k m (room c k)
 
   -- ---- what pass 7 leaves
-  mass-after : (masses′ : List ℤ) → masses′ ≡ tab (cellsOf s) (gatheredMass S) → (c : ℕ) → c < cellsOf s → settledMass parts masses′ marks c ≡ newMass S c
+  pub mass-after : (masses′ : List ℤ) → masses′ ≡ tab (F .cells) (gatheredMass S) → (c : ℕ) → c < F .cells → settledMass part masses′ marks c ≡ newMass S c
   unfolding settledMass
   mass-after masses′ e c h =
-      (λ i. cond (none-is w c h i) (gathered i) (cond (filled-is w c h i) (densityAt parts c) (pos 0)))
+      (λ i. cond (none-is w c h i) (gathered i) (cond (filled-is w c h i) (densityAt part c) (pos 0)))
       ∙ by (converted S c) refl ∙ settled-mass S c
     where
       gathered : getD masses′ c (pos 0) ≡ gatheredMass S c
-      gathered = ap (λ (l : List ℤ). getD l c (pos 0)) e ∙ getD-tab (cellsOf s) (gatheredMass S) (pos 0) c h
+      gathered = ap (λ (l : List ℤ). getD l c (pos 0)) e ∙ getD-tab (F .cells) (gatheredMass S) (pos 0) c h
 
       by : (b : Bool) → converted S c ≡ b
-          → cond (not (converted S c)) (gatheredMass S c) (cond (filled S c) (densityAt parts c) (pos 0)) ≡ cond (not (converted S c)) (gatheredMass S c) (cond (filled S c) (newDensity S c) (pos 0))
+          → cond (not (converted S c)) (gatheredMass S c) (cond (filled S c) (densityAt part c) (pos 0)) ≡ cond (not (converted S c)) (gatheredMass S c) (cond (filled S c) (newDensity S c) (pos 0))
       by true t = ap (λ (z : ℤ). cond (not (converted S c)) (gatheredMass S c) (cond (filled S c) z (pos 0))) (density-is w c h t)
       by false t = ap₂ (λ (x : Bool) (y : ℤ). cond (not x) (gatheredMass S c) y) t refl ∙ sym (ap (λ (x : Bool). cond (not x) (gatheredMass S c) (cond (filled S c) (newDensity S c) (pos 0))) t)
 
   -- no cell is both filled and emptied: its density is positive
-  one-way : (c : ℕ) → c < cellsOf s → filled S c ≡ true → emptied S c ≡ false
-  unfolding filled emptied sceneOf
+  one-way : (c : ℕ) → c < F .cells → filled S c ≡ true → emptied S c ≡ false
+  unfolding filled emptied
   one-way c h e =
-      one-or-other (stateOf 18 a .flag c) (tradedMass S c) (newDensity S c) (not (besideFilled S c)) (λ f. dense-up (newDensity S c) (new-dense s g a (w .poised) (w .steady) c h (ap liquid f))) e
+      one-or-other (getD (F .flags) c 3) (tradedMass S c) (newDensity S c) (not (besideFilled S c)) (λ f. dense-up (newDensity S c) (new-dense F (w .stands) (w .steady) c h (ap liquid f))) e
 
-  part-after : (c k : ℕ) → c < cellsOf s → k ≤ 18 → settledPart parts marks c k ≡ newPart S c k
+  pub part-after : (c k : ℕ) → c < F .cells → k ≤ 18 → settledPart part marks c k ≡ newPart S c k
   unfolding settledPart
   part-after c k h l =
       (λ i. cond (none-is w c h i) (part-is w c k h l i) (cond (filled-is w c h i) (part-is w c k h l i) (pos 0)))
       ∙ settled-part S c k (one-way c h)
 
-  parts-after : tab (19 * cellsOf s) (λ m. settledPart parts marks (m / 19) (m % 19)) ≡ tab (19 * cellsOf s) (λ m. newPart S (m / 19) (m % 19))
+-- ---- in the box's list
+pub record Listed (s : Sides) (g : Settings) (a : Lent) (flags fills : List ℕ) (parts masses : List ℤ) (marks : List ℕ) : Type 0 where
+  pub midway : Midway (fieldOf s g a) flags fills (partOf parts) masses marks
+  pub sides : sidesGood s ≡ true
+  pub count : length parts ≡ 19 * cellsOf s
+
+module _ {s : Sides} {g : Settings} {a : Lent} {flags fills : List ℕ} {parts masses : List ℤ} {marks : List ℕ} (v : Listed s g a flags fills parts masses marks) where
+  abbrev w : Midway (fieldOf s g a) flags fills (partOf parts) masses marks
+  w = v .midway
+
+  abbrev scene : Scene
+  scene = sceneOf s g a
+
+  room : (c : ℕ) → c < cellsOf s → roomOf parts c
+  room c h = omega (arith, v .count)
+
+  pub gathering : Gathering s flags fills parts masses marks
+  gathering = record {
+    sides = v .sides;
+    count = flags-count w;
+    giving = giving w room;
+    taken = λ c h f. subst (λ (z : ℤ). Within z 44826624) (sym (mass-is w c (cell w h))) (moved-mass-in (fieldOf s g a) (w .stands) (w .steady) c (cell w h));
+  }
+
+  pub straying : Straying s flags parts masses marks
+  straying = record {
+    sides = v .sides;
+    count = flags-count w;
+    marks-there = marks-count w ∙ sym (flags-count w);
+    around = λ c h m. around w c (giver-inner w c (cell w h) m) (cell w h);
+    weighed = weighed w room;
+  }
+
+  -- the gifts gathered, in the step's own scene
+  pub gathered-box : tab (cellsOf s) (gatheredAt flags fills (partOf parts) masses marks (tab 19 (offsetOf s)) (lowOf s)) ≡ tab (cellsOf s) (gatheredMass scene)
+  unfolding sceneOf stateOf
+  gathered-box = gathered-is w
+
+  -- after the gifts are gathered
+  pub settling : (masses′ : List ℤ) → length masses′ ≡ cellsOf s → Settling parts masses′ marks
+  settling masses′ e = record {
+    few = subst (λ (n : ℕ). n ≤ 262144) (sym (marks-count w)) (w .stands .few);
+    parts-there = v .count ∙ ap (λ (n : ℕ). 19 * n) (sym (marks-count w));
+    masses-there = e ∙ sym (marks-count w);
+    each = countable w room;
+  }
+
+  parts-after : tab (19 * cellsOf s) (λ m. settledPart (partOf parts) marks (m / 19) (m % 19)) ≡ tab (19 * cellsOf s) (λ m. newPart scene (m / 19) (m % 19))
+  unfolding sceneOf stateOf
   parts-after =
-      tab-cong (19 * cellsOf s) (λ m. settledPart parts marks (m / 19) (m % 19)) (λ m. newPart S (m / 19) (m % 19)) (pos 0)
-      (λ m h. let r : m % 19 < 19 = mod-lt m (omega arith) in part-after (m / 19) (m % 19) (omega (arith, div-add-mod m 19)) (omega arith))
+      tab-cong (19 * cellsOf s) (λ m. settledPart (partOf parts) marks (m / 19) (m % 19)) (λ m. newPart scene (m / 19) (m % 19)) (pos 0)
+      (λ m h. let r : m % 19 < 19 = mod-lt m (omega arith) in part-after w (m / 19) (m % 19) (omega (arith, div-add-mod m 19)) (omega arith))
 
   -- masses, parts and marks of the next state
-  pub settled-is : {masses′ parts″ masses″ : List ℤ} {marks″ : List ℕ} → masses′ ≡ tab (cellsOf s) (gatheredMass S) → Settled parts masses′ marks parts″ masses″ marks″
-      → (parts″ ≡ tab (19 * cellsOf s) (λ m. newPart S (m / 19) (m % 19))) × (masses″ ≡ tab (cellsOf s) (newMass S)) × (marks″ ≡ replicate (cellsOf s) 0)
+  pub settled-is : {masses′ parts″ masses″ : List ℤ} {marks″ : List ℕ} → masses′ ≡ tab (cellsOf s) (gatheredMass scene) → Settled parts masses′ marks parts″ masses″ marks″
+      → (parts″ ≡ tab (19 * cellsOf s) (λ m. newPart scene (m / 19) (m % 19))) × (masses″ ≡ tab (cellsOf s) (newMass scene)) × (marks″ ≡ replicate (cellsOf s) 0)
+  unfolding sceneOf stateOf
   settled-is {masses′} e r = (
-    r .parts-are ∙ ap (λ (n : ℕ). tab (19 * n) (λ m. settledPart parts marks (m / 19) (m % 19))) marks-count ∙ parts-after,
-    r .masses-are ∙ ap (λ (n : ℕ). tab n (settledMass parts masses′ marks)) marks-count ∙ tab-cong (cellsOf s) (settledMass parts masses′ marks) (newMass S) (pos 0) (mass-after masses′ e),
-    r .marks-are ∙ ap (λ (n : ℕ). replicate n 0) marks-count,
+    r .parts-are ∙ ap (λ (n : ℕ). tab (19 * n) (λ m. settledPart (partOf parts) marks (m / 19) (m % 19))) (marks-count w) ∙ parts-after,
+    r .masses-are ∙ ap (λ (n : ℕ). tab n (settledMass (partOf parts) masses′ marks)) (marks-count w) ∙ tab-cong (cellsOf s) (settledMass (partOf parts) masses′ marks) (newMass scene) (pos 0) (mass-after w masses′ e),
+    r .marks-are ∙ ap (λ (n : ℕ). replicate n 0) (marks-count w),
   )

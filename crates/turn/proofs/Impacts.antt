@@ -1,14 +1,16 @@
 -- What a collision leaves of a cell that passed test 7 is in range: each part of a direction far below 2^25, and part 0 far below 2^30. Assumes nothing.
-use mathlib.Core.Path.{_≡_, refl, sym, subst}
-use mathlib.Core.Bool.{Bool, true, false, _&&_, not}
-use Prim.Native.Nat.{ℕ, zero, suc, _*_, _≤_, _<_}
+use mathlib.Core.Path.{_≡_, refl, sym, ap, _∙_, subst}
+use mathlib.Core.List.{[]}
+use mathlib.Core.Bool.{Bool, true, false, _&&_, not, false≢true}
+use Prim.Native.Nat.{ℕ, zero, suc, _-_, _+_, _*_, _≤_, _<_}
 use native.Mathlib.Nat.{mul-le-mul}
 use native.Mathlib.Omega.{arith}
 use lib.IntN.{ℤ, pos, natAbs, _+ℤ_, _-ℤ_, _*ℤ_}
 use lib.Signed.{quotZ}
+use lib.ListN.{length, getD}
 use borrow.Author.Tests.{not-false}
 use Rattle.whole.specs.Bounds.{abs-add, abs-sub, abs-mul, abs-above}
-use Rattle.whole.specs.Fold.{dirs, first, tab}
+use Rattle.whole.specs.Fold.{dirs, first}
 use Rattle.whole.specs.Machine.{Within}
 use Rattle.whole.specs.Search.{Dir, as-dir, first-none}
 use Rattle.whole.specs.Sums.{sum-abs}
@@ -16,25 +18,19 @@ use Rattle.lattice.specs.Lattice.{V3, dot, d3q19}
 use Rattle.lattice.specs.Cell.{dense, slow, quad, relaxed}
 use Rattle.lattice.specs.Body.{Tame, steadyFlow}
 use Rattle.lattice.specs.declared.Flow.{Flow}
-use Rattle.lattice.specs.declared.Settings.{Settings}
 use Rattle.lattice.proofs.Ranges.{relaxation-in}
 use Rattle.lattice.proofs.Paired.{paired19}
 use Rattle.lattice.proofs.Reading.{quot-abs}
 use Rattle.lattice.proofs.Tame.{steady-tame}
-use Rattle.grid.specs.declared.Sides.{Sides}
-use Rattle.grid.specs.Grid.{cellsOf}
-use Rattle.grid.specs.State.{Lent, Scene, liquid, stateOf}
+use Rattle.grid.specs.State.{Scene, liquid}
 use Rattle.grid.specs.Step.{streamed, newDensity, newMomentum, tooFast, collidedDir, collided}
-use Rattle.grid.specs.Outcome.{sceneOf}
-use Rattle.grid.specs.Between.{Poised}
-use Rattle.grid.specs.Passes.{Inner, lowOf, offsetOf}
-use Rattle.grid.specs.Sight.{Around, flowing, sight}
-use Rattle.grid.proofs.Beside.{Offsets, place-is}
+use Rattle.grid.specs.Passes.{Amid}
+use Rattle.grid.specs.Sight.{weighing, Around, Bodies, sight}
 use Rattle.flow.proofs.Collisions.{relaxation-of}
-use Rattle.flow.proofs.Mirrored.{around}
 use Rattle.flow.proofs.Plain.{axial19, streamed-same}
-use Rattle.flow.proofs.Poise.{poised-bodied, liquid-inner}
-use Rattle.flow.proofs.Spans.{weight-low, streamed-in}
+use Rattle.flow.proofs.Spans.{light-low, streamed-in}
+use Rattle.turn.proofs.Amounts.{inner-cell}
+use Rattle.turn.proofs.Field.{Field, sceneIn, Standing}
 
 -- a product of two numbers in range
 times-in : (a b : ℤ) (m n : ℕ) → natAbs a ≤ m → natAbs b ≤ n → natAbs (a *ℤ b) ≤ m * n
@@ -58,16 +54,16 @@ quad-in ρ ej jj h k l =
       times-in ej ej 1179648 1179648 k k,
     )
 
-relaxed-in : (p : ℤ) (w : ℕ) (Q ρ f : ℤ) → natAbs p ≤ 2037 → w ≤ 2 → natAbs Q ≤ 26000000000000 → 294912 ≤ natAbs ρ → natAbs ρ ≤ 1179648 → natAbs f ≤ 1572864
+relaxed-in : (p : ℤ) (w : ℕ) (Q ρ f : ℤ) → natAbs p ≤ 2037 → w ≤ 4 → natAbs Q ≤ 26000000000000 → 294912 ≤ natAbs ρ → natAbs ρ ≤ 1179648 → natAbs f ≤ 1572864
     → natAbs (relaxed p w Q ρ f) ≤ 33554432
 unfolding relaxed
 relaxed-in p w Q ρ f hp hw hQ low hρ hf =
     let n = pos w *ℤ Q -ℤ pos 72 *ℤ (ρ *ℤ f) in
-    let inner : natAbs n ≤ 230120883699712 =
-    omega (arith, abs-sub (pos w *ℤ Q) (pos 72 *ℤ (ρ *ℤ f)), times-in (pos w) Q 2 26000000000000 hw hQ, abs-mul (pos 72) (ρ *ℤ f), times-in ρ f 1179648 1572864 hρ hf) in
-    let top : natAbs (p *ℤ n) ≤ 468756240096313344 = omega (arith, times-in p n 2037 230120883699712 hp inner) in
+    let inner : natAbs n ≤ 282120883699712 =
+    omega (arith, abs-sub (pos w *ℤ Q) (pos 72 *ℤ (ρ *ℤ f)), times-in (pos w) Q 4 26000000000000 hw hQ, abs-mul (pos 72) (ρ *ℤ f), times-in ρ f 1179648 1572864 hρ hf) in
+    let top : natAbs (p *ℤ n) ≤ 574680240096313344 = omega (arith, times-in p n 2037 282120883699712 hp inner) in
     let bottom : 21743271936 ≤ natAbs (pos 73728 *ℤ ρ) = omega (arith, abs-mul (pos 73728) ρ) in
-    let q : natAbs (quotZ (p *ℤ n) (pos 73728 *ℤ ρ)) ≤ 21558679 = quot-abs (p *ℤ n) (pos 73728 *ℤ ρ) 468756240096313344 21743271936 top (omega arith) bottom in
+    let q : natAbs (quotZ (p *ℤ n) (pos 73728 *ℤ ρ)) ≤ 26430255 = quot-abs (p *ℤ n) (pos 73728 *ℤ ρ) 574680240096313344 21743271936 top (omega arith) bottom in
     omega (arith, abs-add f (quotZ (p *ℤ n) (pos 73728 *ℤ ρ)))
 
 -- e·j, of a direction
@@ -98,54 +94,63 @@ square-in j hx hy hz =
 passes : (l d s : Bool) → l ≡ true → (l && not (d && s)) ≡ false → (d && s) ≡ true
 passes l d s h e = not-false (d && s) (subst (λ (b : Bool). (b && not (d && s)) ≡ false) h e)
 
--- ---- a liquid cell of a set that is poised and passed test 7
-module _ (s : Sides) (g : Settings) (a : Lent) (r : Poised s g a) (t : cellsOf s ≤ first (cellsOf s) (tooFast (sceneOf s g a)))
-    (c : ℕ) (h : c < cellsOf s) (l : liquid (stateOf 18 a .flag c) ≡ true) where
+-- ---- a liquid cell of a good state that passed test 7
+module _ (F : Field) (r : Standing F) (t : F .cells ≤ first (F .cells) (tooFast (sceneIn F))) (c : ℕ) (h : c < F .cells) (l : liquid (getD (F .flags) c 3) ≡ true) where
   abbrev S : Scene
-  S = sceneOf s g a
+  S = sceneIn F
 
-  o : Offsets s (tab 19 (offsetOf s)) (lowOf s)
-  o = record { table = refl; lowest = refl }
-
-  inside : Inner s c
-  inside = liquid-inner s g a r c h l
+  inside : Amid (F .cells) (F .low) c
+  inside = inner-cell F r c h (λ e. false≢true (sym (ap liquid e) ∙ l))
 
   abbrev seen : Scene
-  seen = sight (flowing (a .flags) (a .parts) (a .fills)) (tab 19 (offsetOf s)) (lowOf s) g
+  seen = sight (F .weights) (F .flags) (F .part) [] (F .fills) (F .off) (F .low) (F .g)
 
   near : (i : ℕ) → i ≤ d3q19 .q → S .grid .near c i ≡ seen .grid .near c i
-  unfolding sight sceneOf d3q19
-  near i d = sym (place-is o c inside i (omega arith))
+  unfolding sight d3q19
+  near i d = sym (r .place c i inside (omega arith))
+
+  around : Around (length (F .flags)) (F .off) (F .low) c
+  around =
+      subst (λ (n : ℕ). Around n (F .off) (F .low) c) (sym (r .count))
+      (record {
+        is-cell = h;
+        from = inside .from;
+        each = λ i k. subst (λ (m : ℕ). m < F .cells) (sym (r .place c i inside k)) (r .near-low c i inside k);
+        self = r .place c 0 inside (omega arith) ∙ r .self c;
+      })
+
+  bodies : Bodies (F .flags) (F .part)
+  bodies = record { few = subst (λ (n : ℕ). n ≤ 262144) (sym (r .count)) (r .few); body = λ d k. r .body d (subst (λ (n : ℕ). d < n) (r .count) k) }
 
   stream-in : (k : ℕ) → k ≤ 18 → Within (streamed S c k) 1572864
-  unfolding sight sceneOf stateOf d3q19
+  unfolding sight d3q19
   stream-in k m =
       subst (λ (z : ℤ). Within z 1572864)
-      (sym (streamed-same d3q19 paired19 axial19 (S .grid) (seen .grid) (S .old .flag) (S .old .part) (S .old .fill) c near
+      (sym (streamed-same (weighing (F .weights)) (paired19 .dir) axial19 (S .grid) (seen .grid) (S .old .flag) (S .old .part) (S .old .fill) c near
       (S .old .mass) (seen .old .mass) (S .old .carry) (seen .old .carry) (S .g) (seen .g) (S .relax) (seen .relax) k m))
-      (streamed-in (a .flags) (a .parts) (a .fills) (tab 19 (offsetOf s)) (lowOf s) g (poised-bodied s g a r) c (subst (λ (n : ℕ). Around n (tab 19 (offsetOf s)) (lowOf s) c) (sym (r .flags)) (around o c inside)) l k m)
+      (streamed-in (F .weights) (r .light) (F .flags) (F .part) (F .fills) (F .off) (F .low) (F .g) bodies c around l k m)
 
   -- density and momentum as a flow
   flow : Flow
   flow = record { rho = newDensity S c; x = newMomentum S c .x; y = newMomentum S c .y; z = newMomentum S c .z }
 
   tame : Tame flow
-  unfolding flow steadyFlow tooFast sceneOf
+  unfolding flow steadyFlow tooFast
   tame =
       steady-tame flow
-      (passes (liquid (stateOf 18 a .flag c)) (dense (newDensity S c)) (slow (newDensity S c) (dot (newMomentum S c) (newMomentum S c))) l
-      (first-none (cellsOf s) (tooFast S) t c h))
+      (passes (liquid (getD (F .flags) c 3)) (dense (newDensity S c)) (slow (newDensity S c) (dot (newMomentum S c) (newMomentum S c))) l
+      (first-none (F .cells) (tooFast S) t c h))
 
   dir-in : (i : ℕ) → Dir 18 i → natAbs (collidedDir S c i) ≤ 33554432
-  unfolding collidedDir flow sceneOf
+  unfolding collidedDir flow
   dir-in i d =
-      relaxed-in (g .p) (d3q19 .weight i) _ (newDensity S c) (streamed S c i) (relaxation-in (g .p) (relaxation-of g (r .settings)) .abs) (weight-low i (d .some) (omega (arith, d .most)))
+      relaxed-in (F .g .p) (F .weights i) _ (newDensity S c) (streamed S c i) (relaxation-in (F .g .p) (relaxation-of (F .g) (r .settings)) .abs) (light-low (r .light) i (d .some) (omega (arith, d .most)))
       (quad-in (newDensity S c) (dot (d3q19 .e i) (newMomentum S c)) (dot (newMomentum S c) (newMomentum S c)) (tame .rho .abs)
       (along-in (newMomentum S c) i d (tame .x .abs) (tame .y .abs) (tame .z .abs)) (square-in (newMomentum S c) (tame .x .abs) (tame .y .abs) (tame .z .abs)))
       (abs-above (tame .low)) (tame .rho .abs) (stream-in i (d .most) .abs)
 
   pub collided-rest : Within (collided S c 0) 1073741824
-  unfolding collided flow sceneOf d3q19
+  unfolding collided flow d3q19
   collided-rest =
       record {
         abs = omega (arith, abs-sub (newDensity S c) (dirs 18 (collidedDir S c)), tame .rho .abs, sum-abs 18 (λ b. collidedDir S c (suc b)) 33554432 (λ b k. dir-in (suc b) (as-dir k)));

@@ -1,3 +1,4 @@
+pub mod Field
 pub mod Weighed
 pub mod Fills
 pub mod Births

@@ -2,7 +2,7 @@
 -- collisions can take. Assumes nothing.
 use mathlib.Core.Path.{_≡_, refl, sym, ap, ap₂, _∙_, subst}
 use mathlib.Core.Bool.{Bool, true, cond}
-use mathlib.Core.List.{List}
+use mathlib.Core.List.{List, []}
 use Prim.Native.Nat.{ℕ, zero, suc, _+_, _-_, _*_, _<_, _≤_}
 use native.Mathlib.Nat.{div-le-of-le-mul, le-trans, le-of-eq}
 use native.Mathlib.Omega.{arith}
@@ -20,16 +20,16 @@ use Rattle.lattice.specs.Body.{Tame, steadyFlow}
 use Rattle.lattice.specs.declared.Flow.{Flow}
 use Rattle.lattice.specs.declared.Settings.{Settings}
 use Rattle.lattice.proofs.Tame.{steady-tame}
-use Rattle.grid.specs.State.{Scene, liquid, stateOf}
+use Rattle.grid.specs.State.{Scene, liquid}
 use Rattle.grid.specs.Step.{newDensity, newMomentum, liquidNear, nearSum, bornDensity, bornMomentum}
 use Rattle.grid.specs.Sight.{Around, sight}
 use Rattle.grid.proofs.Picked.{count-le, count-more, picked, picked-more, picked-abs, picked-low, floor-low, floor-abs}
 use Rattle.turn.specs.declared.birth.Sum.{Sum}
-use Rattle.turn.specs.Born.{Tested, Roomy, Added, Countable, Meant, Begins, flowSight}
+use Rattle.turn.specs.Born.{TestedOn, Roomy, Added, Countable, Meant, Begins}
 
-module _ (flags : List ℕ) (parts : List ℤ) (fills off : List ℕ) (low : ℕ) (g : Settings) (c : ℕ) where
+module _ (weights : ℕ → ℕ) (flags : List ℕ) (part : ℕ → ℕ → ℤ) (fills off : List ℕ) (low : ℕ) (g : Settings) (c : ℕ) where
   abbrev S : Scene
-  S = flowSight flags parts fills off low g
+  S = sight weights flags part [] fills off low g
 
   -- the neighbour in direction a + 1, and whether it is liquid
   abbrev next-to : ℕ → ℕ
@@ -51,7 +51,7 @@ module _ (flags : List ℕ) (parts : List ℤ) (fills off : List ℕ) (low : ℕ
   summed-none = record { n = refl; rho = refl; x = refl; y = refl; z = refl }
 
   summed-next : (n : ℕ) {t r : Sum} → Summed n t → Added S t (next-to n) r → Summed (n + 1) r
-  unfolding sight stateOf
+  unfolding sight
   summed-next n {t} s a = record {
     n = a .n ∙ ap (λ (k : ℤ). k +ℤ cond (wet n) (pos 1) (pos 0)) (s .n) ∙ count-more wet n;
     rho = a .rho ∙ ap (λ (k : ℤ). k +ℤ cond (wet n) (newDensity S (next-to n)) (pos 0)) (s .rho) ∙ picked-more wet (λ a. newDensity S (next-to a)) n;
@@ -69,7 +69,7 @@ module _ (flags : List ℕ) (parts : List ℤ) (fills off : List ℕ) (low : ℕ
       subst (λ (m : ℕ). Summed m r) (sym u) (summed-next n (subst (λ (m : ℕ). Summed m t) d s) a)
 
   -- ---- bounds: stage 3 has passed, and every neighbour is a cell
-  module _ (t : Tested flags parts fills off low g) (around : Around (length flags) off low c) where
+  module _ (t : TestedOn weights flags part fills off low g) (around : Around (length flags) off low c) where
     tame : (a : ℕ) → a < 18 → wet a ≡ true
         → Tame (record { rho = newDensity S (next-to a); x = newMomentum S (next-to a) .x; y = newMomentum S (next-to a) .y; z = newMomentum S (next-to a) .z })
     unfolding steadyFlow
@@ -126,7 +126,7 @@ module _ (flags : List ℕ) (parts : List ℤ) (fills off : List ℕ) (low : ℕ
       }
 
     pub countable-all : {s : Sum} → Summed 18 s → 0 < liquidNear S c → Countable s
-    unfolding liquidNear sight stateOf d3q19
+    unfolding liquidNear sight d3q19
     countable-all e k = countable 18 (omega arith) e k
 
     -- ---- the flow of a new interface cell
@@ -137,7 +137,7 @@ module _ (flags : List ℕ) (parts : List ℤ) (fills off : List ℕ) (low : ℕ
     cut-floor (negsuc m) b n h = absurd (omega (arith, ≤-parts h))
 
     pub begins : {s : Sum} {r : Flow} → Summed 18 s → Meant s r → Begins S c r
-    unfolding bornDensity bornMomentum nearSum liquidNear sight stateOf picked d3q19
+    unfolding bornDensity bornMomentum nearSum liquidNear sight picked d3q19
     begins {s} {r} e m = record {
       rho = m .rho ∙ ap₂ quotZ (e .rho) (e .n) ∙ cut-floor (picked wet (λ a. newDensity S (next-to a)) 18) (count 18 wet * 294912) (count 18 wet) (rho-low 18 (omega arith));
       momentum = λ i. record {
@@ -152,7 +152,7 @@ module _ (flags : List ℕ) (parts : List ℤ) (fills off : List ℕ) (low : ℕ
     cut-abs s k b l = record { abs = le-trans (le-of-eq (abs-quot s (pos k))) (div-le-of-le-mul k l) }
 
     pub born-tame : {r : Flow} → Begins S c r → 0 < liquidNear S c → Tame r
-    unfolding bornDensity bornMomentum nearSum liquidNear sight stateOf picked d3q19
+    unfolding bornDensity bornMomentum nearSum liquidNear sight picked d3q19
     born-tame {r} e k = record {
       low = subst (λ (z : ℤ). pos 294912 ≤ℤ z) (sym (e .rho)) (floor-low (picked wet (λ a. newDensity S (next-to a)) 18) (count 18 wet) 294912 k (rho-low 18 (omega arith)));
       rho = subst (λ (z : ℤ). Within z 1179648) (sym (e .rho))

@@ -1,9 +1,10 @@
 -- The pass over new interface cells: which cells those are, and what one visit after another makes of the parts. Assumes nothing.
 use mathlib.Core.Path.{_≡_, refl, sym, ap, ap₂, _∙_, subst}
-use mathlib.Core.Bool.{Bool, true, false, _&&_}
+use mathlib.Core.Bool.{Bool, true, false, _&&_, cond}
 use mathlib.Core.List.{List}
 use Prim.Native.Nat.{ℕ, _+_, _-_, _*_, _<_, _≤_}
-use native.Mathlib.Decide.{ℕ-discrete}
+use native.Mathlib.Decide.{ℕ-discrete, decLt}
+use native.Mathlib.Nat.{not-suc-le-zero}
 use native.Mathlib.Omega.{arith}
 use lib.Arith.{lt-of-le-ne}
 use lib.Dec.{eqb}
@@ -12,15 +13,16 @@ use lib.ListN.{length, getD}
 use borrow.Author.Tests.{eqb-true, ne-eqb}
 use Rattle.whole.specs.Bools.{and-left, cond-yes, cond-no}
 use Rattle.whole.specs.Fold.{tab, all}
-use Rattle.whole.specs.Tab.{length-tab, tab-cong}
+use Rattle.whole.specs.Tab.{length-tab, getD-tab}
 use Rattle.lattice.specs.Lattice.{d3q19}
 use Rattle.grid.specs.State.{Scene}
 use Rattle.grid.specs.Step.{born}
 use Rattle.lattice.specs.Body.{bodyGood}
+use Rattle.grid.specs.Fill.{partOf}
 use Rattle.grid.specs.Pasted.{pasted}
 use Rattle.grid.proofs.Lists.{getD-there}
 use Rattle.grid.proofs.Ranges.{over-gap}
-use Rattle.grid.proofs.Blocks.{Blocks, blocks-zero, blocks-more, blocks-all, length-pasted, pasted-after}
+use Rattle.grid.proofs.Blocks.{blocks-all, length-pasted, pasted-inside, pasted-before, pasted-after}
 use Rattle.turn.proofs.Weighed.{all-past}
 use Rattle.turn.specs.Born.{Placed, Visited, Peopled, newlyBorn, laterPart, laterFair}
 
@@ -59,62 +61,79 @@ visited-no {S} {w} {c} before e = record {
 }
 
 -- ---- all visits
-module _ (S : Scene) (w : ℕ → Bool) (before : List ℤ) where
+
+-- one visit, over any parts: no other cell changes
+pub record VisitedTo (S : Scene) (w : ℕ → Bool) (c : ℕ) (before after : ℕ → ℕ → ℤ) : Type 0 where
+  pub others : (j k : ℕ) → (j ≡ c → ⊥) → k < 19 → after j k ≡ before j k
+  pub here : (k : ℕ) → k < 19 → after c k ≡ cond (w c) (born S c k) (before c k)
+
+module _ (S : Scene) (w : ℕ → Bool) (before : ℕ → ℕ → ℤ) where
   -- the first c cells are visited, the others are as they were
-  pub record Reached (after : List ℤ) (c : ℕ) : Type 0 where
-    pub long : length after ≡ length before
-    pub done : Blocks (laterPart S w before) after c
-    pub rest : (j : ℕ) → 19 * c ≤ j → getD after j (pos 0) ≡ getD before j (pos 0)
+  pub record Reached (after : ℕ → ℕ → ℤ) (c : ℕ) : Type 0 where
+    pub done : (j k : ℕ) → j < c → k < 19 → after j k ≡ laterPart S w before j k
+    pub rest : (j k : ℕ) → c ≤ j → k < 19 → after j k ≡ before j k
 
   pub reached-zero : Reached before 0
-  reached-zero = record { long = refl; done = blocks-zero (laterPart S w before) before; rest = λ j h. refl }
+  reached-zero = record { done = λ j k h. absurd (not-suc-le-zero h); rest = λ j k h l. refl }
 
-  module _ (after later : List ℤ) (c : ℕ) (fits : 19 * c + 19 ≤ length before) (r : Reached after c) where
-    put : w c ≡ true → later ≡ pasted after (19 * c) (tab 19 (born S c)) → Reached later (c + 1)
-    unfolding laterPart
-    put e p = subst (λ (l : List ℤ). Reached l (c + 1)) (sym p) (record {
-      long = length-pasted after (19 * c) (tab 19 (born S c)) room (length-tab 19 (born S c)) ∙ r .long;
-      done = blocks-more (laterPart S w before) after (tab 19 (born S c)) c room
-          (tab-cong 19 (born S c) (laterPart S w before c) (pos 0) (λ k h. sym (cond-yes (born S c k) (getD before (19 * c + k) (pos 0)) e))) (r .done);
-      rest = λ j h. pasted-after after (19 * c) (tab 19 (born S c)) room (length-tab 19 (born S c)) j (omega arith) ∙ r .rest j (omega arith);
-    })
-      where
-        room : 19 * c + 19 ≤ length after
-        room = omega (arith, r .long)
-
-    left : w c ≡ false → later ≡ after → Reached later (c + 1)
-    unfolding laterPart
-    left e p = subst (λ (l : List ℤ). Reached l (c + 1)) (sym p) (record {
-      long = r .long;
-      done = λ j k h l. go j k l h (ℕ-discrete j c);
-      rest = λ j h. r .rest j (omega arith);
-    })
-      where
-        go : (j k : ℕ) → k < 19 → j < c + 1 → Dec (j ≡ c) → getD after (19 * j + k) (pos 0) ≡ laterPart S w before j k
-        go j k l h (yes q) =
-            ap (λ (i : ℕ). getD after (19 * i + k) (pos 0)) q ∙ r .rest (19 * c + k) (omega arith)
-            ∙ sym (ap (λ (i : ℕ). laterPart S w before i k) q ∙ cond-no (born S c k) (getD before (19 * c + k) (pos 0)) e)
-        go j k l h (no q) = r .done j k (lt-of-le-ne (omega arith) q) l
-
-    pub reached-more : {fair : Bool} → Visited S w c after later fair → Reached later (c + 1)
-    reached-more v = go (w c) refl
-      where
-        go : (b : Bool) → w c ≡ b → Reached later (c + 1)
-        go true e = put e (v .parts ∙ cond-yes (pasted after (19 * c) (tab 19 (born S c))) after e)
-        go false e = left e (v .parts ∙ cond-no (pasted after (19 * c) (tab 19 (born S c))) after e)
+  pub reached-more : (after later : ℕ → ℕ → ℤ) (c : ℕ) → Reached after c → VisitedTo S w c after later → Reached later (c + 1)
+  unfolding laterPart
+  reached-more after later c r v = record {
+    done = λ j k h l. go j k l h (ℕ-discrete j c);
+    rest = λ j k h l. v .others j k (λ e. omega arith) l ∙ r .rest j k (omega arith) l;
+  }
+    where
+      go : (j k : ℕ) → k < 19 → j < c + 1 → Dec (j ≡ c) → later j k ≡ laterPart S w before j k
+      go j k l h (yes q) =
+          ap (λ (i : ℕ). later i k) q ∙ v .here k l ∙ ap (λ (x : ℤ). cond (w c) (born S c k) x) (r .rest c k (omega arith) l)
+          ∙ sym (ap (λ (i : ℕ). laterPart S w before i k) q)
+      go j k l h (no q) = v .others j k q l ∙ r .done j k (lt-of-le-ne (omega arith) q) l
 
   pub visited-fair : {c : ℕ} {after later : List ℤ} {fair : Bool} → Visited S w c after later fair → fair ≡ laterFair S w c
   unfolding laterFair
   visited-fair v = v .fair-is
 
   -- cells that are not born are as good as visited
-  pub reached-past : (after : List ℤ) (n a b : ℕ) (fair : Bool) → length before ≡ 19 * n → a ≤ b → b ≤ n → ((j : ℕ) → a ≤ j → j < b → w j ≡ false)
+  pub reached-past : (after : ℕ → ℕ → ℤ) (a b : ℕ) (fair : Bool) → a ≤ b → ((j : ℕ) → a ≤ j → j < b → w j ≡ false)
       → Reached after a × (fair ≡ all a (laterFair S w)) → Reached after b × (fair ≡ all b (laterFair S w))
-  reached-past after n a b fair e h k none =
+  unfolding laterFair
+  reached-past after a b fair h none =
       over-gap (λ j. Reached after j × (fair ≡ all j (laterFair S w))) a b h
-      (λ j l m r.
-      let v : Visited S w j after after true = visited-no after (none j l m) in
-      (reached-more after after j (omega arith) (r .0) v, all-past j (laterFair S w) (r .1) (visited-fair v)))
+      (λ j l m r. (
+        reached-more after after j (r .0) (record { others = λ i k n z. refl; here = λ k z. sym (cond-no (born S j k) (after j k) (none j l m)) }),
+        all-past j (laterFair S w) (r .1) (sym (cond-no (bodyGood d3q19 (born S j)) true (none j l m))),
+      ))
 
-  pub peopled : (after : List ℤ) (n : ℕ) (fair : Bool) → length before ≡ 19 * n → Reached after n → fair ≡ all n (laterFair S w) → Peopled S w n before after fair
-  peopled after n fair e r f = record { parts = blocks-all (laterPart S w before) after n (r .long ∙ e) (r .done); fair-is = f }
+-- ---- in the box's list
+module _ (S : Scene) (w : ℕ → Bool) (parts : List ℤ) (c : ℕ) (f : 19 * c + 19 ≤ length parts) where
+  abbrev put : Bool → List ℤ
+  put b = cond b (pasted parts (19 * c) (tab 19 (born S c))) parts
+
+  size-cases : (b : Bool) → length (put b) ≡ length parts
+  size-cases true = length-pasted parts (19 * c) (tab 19 (born S c)) f (length-tab 19 (born S c))
+  size-cases false = refl
+
+  here-cases : (b : Bool) (k : ℕ) → k < 19 → partOf (put b) c k ≡ cond b (born S c k) (partOf parts c k)
+  here-cases true k l = pasted-inside parts (19 * c) (tab 19 (born S c)) f (length-tab 19 (born S c)) k l ∙ getD-tab 19 (born S c) (pos 0) k l
+  here-cases false k l = refl
+
+  other-cases : (b : Bool) (j k : ℕ) → (j ≡ c → ⊥) → k < 19 → partOf (put b) j k ≡ partOf parts j k
+  other-cases false j k n l = refl
+  other-cases true j k n l = go (decLt j c)
+    where
+      go : Dec (j < c) → partOf (put true) j k ≡ partOf parts j k
+      go (yes h) = pasted-before parts (19 * c) (tab 19 (born S c)) f (length-tab 19 (born S c)) (19 * j + k) (omega arith)
+      go (no h) = pasted-after parts (19 * c) (tab 19 (born S c)) f (length-tab 19 (born S c)) (19 * j + k) (omega arith)
+
+  pub visited-size : {after : List ℤ} {fair : Bool} → Visited S w c parts after fair → length after ≡ length parts
+  visited-size v = ap length (v .parts) ∙ size-cases (w c)
+
+  pub visited-list : {after : List ℤ} {fair : Bool} → Visited S w c parts after fair → VisitedTo S w c (partOf parts) (partOf after)
+  visited-list v = record {
+    others = λ j k n l. ap (λ (x : List ℤ). partOf x j k) (v .parts) ∙ other-cases (w c) j k n l;
+    here = λ k l. ap (λ (x : List ℤ). partOf x c k) (v .parts) ∙ here-cases (w c) k l;
+  }
+
+pub peopled : (S : Scene) (w : ℕ → Bool) (before after : List ℤ) (n : ℕ) (fair : Bool) → length after ≡ 19 * n → Reached S w (partOf before) (partOf after) n → fair ≡ all n (laterFair S w)
+    → Peopled S w n before after fair
+peopled S w before after n fair e r f = record { parts = blocks-all (laterPart S w (partOf before)) after n e (r .done); fair-is = f }

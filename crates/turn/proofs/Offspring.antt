@@ -21,7 +21,8 @@ use Rattle.lattice.specs.Body.{stillDir, stillPart, bodyGood}
 use Rattle.lattice.specs.declared.Settings.{Settings}
 use Rattle.lattice.proofs.Paired.{paired19}
 use Rattle.grid.specs.declared.Sides.{Sides}
-use Rattle.grid.specs.Grid.{cellsOf}
+use Rattle.grid.specs.Fill.{partOf}
+use Rattle.grid.specs.Grid.{cellsOf, gridOf}
 use Rattle.grid.specs.State.{Scene, byFlag, liquid, stateOf}
 use Rattle.grid.specs.Step.{flagAt, newDensity, newMomentum, tooFast, filled, besideFilled, emptied, besideEmptied, flagAfter, newFlag, liquidNear, nearSum, bornDensity, bornMomentum, bornDir, born, newPart, collided}
 use Rattle.grid.specs.Outcome.{settingsGood, sceneOf}
@@ -35,7 +36,7 @@ use Rattle.grid.proofs.Same.{body-same}
 use Rattle.flow.proofs.Mirrored.{around}
 use Rattle.flow.proofs.Onward.{density-seen, fast-seen}
 use Rattle.flow.proofs.Plain.{axial19, new-momentum-same}
-use Rattle.flow.proofs.Poise.{poised-bodied, poised-fills, poised-inner, liquid-inner}
+use Rattle.flow.proofs.Poise.{poised-bodied, poised-fills, poised-inner, liquid-inner, placed}
 use Rattle.turn.specs.Born.{Tested, Fertile, Peopled, flowSight, newlyBorn, laterPart, laterFair}
 
 -- ---- counts
@@ -64,6 +65,10 @@ module _ (s : Sides) (g : Settings) (flags : List ℕ) (parts masses : List ℤ)
   is-cell : {c : ℕ} → c < length flags → c < cellsOf s
   is-cell {c} h = subst (λ (n : ℕ). c < n) (p .flags) h
 
+  pub near-of : (c : ℕ) → c < cellsOf s → liquid (getD flags c 3) ≡ true → (i : ℕ) → i < 19 → c - lowOf s + getD (tab 19 (offsetOf s)) i 0 ≡ gridOf s .near c i
+  unfolding stateOf
+  near-of c h l i k = placed s g (carried flags parts masses fills carry) p offs c h l i k
+
   -- no wall, so inner
   pub within : (c : ℕ) → c < cellsOf s → getD flags c 3 < 3 → Inner s c
   unfolding stateOf
@@ -72,10 +77,10 @@ module _ (s : Sides) (g : Settings) (flags : List ℕ) (parts masses : List ℤ)
   module _ (fast : cellsOf s ≤ first (cellsOf s) (tooFast step)) where
     steady : (c : ℕ) → c < cellsOf s → liquid (getD flags c 3) ≡ true
         → (dense (newDensity seen c) ≡ true) × (slow (newDensity seen c) (dot (newMomentum seen c) (newMomentum seen c)) ≡ true)
-    unfolding tooFast sight stateOf
+    unfolding tooFast sight sceneOf stateOf
     steady c h l =
         steady-both (liquid (getD flags c 3)) (dense (newDensity seen c)) (slow (newDensity seen c) (dot (newMomentum seen c) (newMomentum seen c))) l
-        (fast-seen s g flags parts masses fills carry p (tab 19 (offsetOf s)) (lowOf s) offs c h ∙ first-none (cellsOf s) (tooFast step) fast c h)
+        (fast-seen (d3q19 .weight) (gridOf s) g flags (partOf parts) masses fills (getD carry 0 (pos 0)) (tab 19 (offsetOf s)) (lowOf s) c (near-of c h) ∙ first-none (cellsOf s) (tooFast step) fast c h)
 
     pub tested : Tested flags parts fills (tab 19 (offsetOf s)) (lowOf s) g
     unfolding settingsGood
@@ -92,7 +97,7 @@ module _ (s : Sides) (g : Settings) (flags : List ℕ) (parts masses : List ℤ)
   momentum-seen : (c : ℕ) → c < cellsOf s → liquid (getD flags c 3) ≡ true → newMomentum seen c ≡ newMomentum step c
   unfolding sight sceneOf stateOf d3q19
   momentum-seen c h l =
-      new-momentum-same d3q19 paired19 axial19 (seen .grid) (step .grid) (step .old .flag) (step .old .part) (step .old .fill) c
+      new-momentum-same d3q19 (paired19 .dir) axial19 (seen .grid) (step .grid) (step .old .flag) (step .old .part) (step .old .fill) c
       (λ i d. place-is offs c (liquid-inner s g (carried flags parts masses fills carry) p c h l) i (omega arith))
       (seen .old .mass) (step .old .mass) (seen .old .carry) (step .old .carry) (step .g) (step .relax)
 
@@ -131,10 +136,10 @@ module _ (s : Sides) (g : Settings) (flags : List ℕ) (parts masses : List ℤ)
             ∙ ap (λ (n : ℕ). cond (liquid (getD flags n 3)) (h n) (pos 0)) (place a k)
 
     density-born-seen : bornDensity seen c ≡ bornDensity step c
-    unfolding bornDensity
+    unfolding bornDensity sceneOf stateOf
     density-born-seen =
         ap₂ (λ (z : ℤ) (k : ℕ). floor z k)
-        (sum-seen (newDensity seen) (newDensity step) (λ d h l. density-seen s g flags parts masses fills carry p (tab 19 (offsetOf s)) (lowOf s) offs d h l)) liquid-seen
+        (sum-seen (newDensity seen) (newDensity step) (λ d h l. density-seen (d3q19 .weight) (gridOf s) g flags (partOf parts) masses fills (getD carry 0 (pos 0)) (tab 19 (offsetOf s)) (lowOf s) d (near-of d h) l)) liquid-seen
 
     part-of-mean : (e : V3 → ℤ) → cut (nearSum seen c (λ d. e (newMomentum seen d))) (pos (liquidNear seen c)) ≡ cut (nearSum step c (λ d. e (newMomentum step d))) (pos (liquidNear step c))
     part-of-mean e =
@@ -202,7 +207,7 @@ module _ (s : Sides) (g : Settings) (flags : List ℕ) (parts masses : List ℤ)
     is-born c h z n = born-test c h ∙ and-true (eqb (getD flags c 3) 0) (eqb (newFlag step c) 1) (eq-eqb (getD flags c 3) 0 z) (eq-eqb (newFlag step c) 1 n)
 
     module _ (before : List ℤ) (moved : before ≡ tab (19 * cellsOf s) (λ m. movedPart step (m / 19) (m % 19))) where
-      later-is : (c k : ℕ) → c < cellsOf s → k ≤ 18 → laterPart seen (newlyBorn flags flags2) before c k ≡ bornPart step c k
+      later-is : (c k : ℕ) → c < cellsOf s → k ≤ 18 → laterPart seen (newlyBorn flags flags2) (partOf before) c k ≡ bornPart step c k
       unfolding laterPart bornPart movedPart newFlag sceneOf stateOf
       later-is c k h l =
           pick (newlyBorn flags flags2 c) (born seen c k) (born step c k) (getD before (19 * c + k) (pos 0)) (λ e. born-seen c (within c h (omega (arith, was-empty c e))) k)
@@ -213,8 +218,8 @@ module _ (s : Sides) (g : Settings) (flags : List ℕ) (parts masses : List ℤ)
       module _ {after : List ℤ} {fair : Bool} (r : Peopled seen (newlyBorn flags flags2) (length flags) before after fair) where
         pub parts-later : after ≡ tab (19 * cellsOf s) (λ m. bornPart step (m / 19) (m % 19))
         parts-later =
-            r .parts ∙ ap (λ (n : ℕ). tab (19 * n) (λ m. laterPart seen (newlyBorn flags flags2) before (m / 19) (m % 19))) (p .flags)
-            ∙ tab-cong (19 * cellsOf s) (λ m. laterPart seen (newlyBorn flags flags2) before (m / 19) (m % 19)) (λ m. bornPart step (m / 19) (m % 19)) (pos 0)
+            r .parts ∙ ap (λ (n : ℕ). tab (19 * n) (λ m. laterPart seen (newlyBorn flags flags2) (partOf before) (m / 19) (m % 19))) (p .flags)
+            ∙ tab-cong (19 * cellsOf s) (λ m. laterPart seen (newlyBorn flags flags2) (partOf before) (m / 19) (m % 19)) (λ m. bornPart step (m / 19) (m % 19)) (pos 0)
             (λ m h. let z : m % 19 < 19 = mod-lt m (omega arith) in let d = div-add-mod m 19 in later-is (m / 19) (m % 19) (omega arith) (omega arith))
 
         -- where all are fair, each new interface cell keeps the rules of a liquid cell

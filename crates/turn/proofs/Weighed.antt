@@ -13,7 +13,6 @@ use Rattle.lattice.specs.Cell.{fillOf, massGood}
 use Rattle.lattice.specs.Lattice.{d3q19, density}
 use Rattle.grid.specs.Step.{fillFor}
 use Rattle.grid.proofs.Lists.{getD-there}
-use Rattle.grid.specs.Fill.{partOf}
 use Rattle.turn.specs.Filled.{fillAt, plainFill, plainAt, fairMass, fairAt}
 
 -- ---- by the flag
@@ -48,16 +47,16 @@ unfolding fairMass
 fair-interface f m e = rw e refl
 
 -- ---- of the flag as the code reads it
-module _ (flags : List ℕ) (parts masses : List ℤ) (c : ℕ) (h : c < length flags) where
-  pub fill-elsewhere : (getD flags c 0 ≡ 1 → ⊥) → plainAt flags c ≡ fillAt flags parts masses c
+module _ (flags : List ℕ) (part : ℕ → ℕ → ℤ) (masses : List ℤ) (c : ℕ) (h : c < length flags) where
+  pub fill-elsewhere : (getD flags c 0 ≡ 1 → ⊥) → plainAt flags c ≡ fillAt flags part masses c
   unfolding plainAt fillAt
   fill-elsewhere n =
       ap plainFill (getD-there flags c 0 3 h)
-      ∙ fill-plain (getD flags c 3) (getD masses c (pos 0)) (density d3q19 (partOf parts c)) (λ e. n (getD-there flags c 0 3 h ∙ e))
+      ∙ fill-plain (getD flags c 3) (getD masses c (pos 0)) (density d3q19 (part c)) (λ e. n (getD-there flags c 0 3 h ∙ e))
 
-  pub fill-here : getD flags c 0 ≡ 1 → fillOf (getD masses c (pos 0)) (density d3q19 (partOf parts c)) ≡ fillAt flags parts masses c
+  pub fill-here : getD flags c 0 ≡ 1 → fillOf (getD masses c (pos 0)) (density d3q19 (part c)) ≡ fillAt flags part masses c
   unfolding fillAt
-  fill-here e = fill-interface (getD flags c 3) (getD masses c (pos 0)) (density d3q19 (partOf parts c)) (getD-there flags c 3 0 h ∙ e)
+  fill-here e = fill-interface (getD flags c 3) (getD masses c (pos 0)) (density d3q19 (part c)) (getD-there flags c 3 0 h ∙ e)
 
   pub fair-elsewhere : (getD flags c 0 ≡ 1 → ⊥) → true ≡ fairAt flags masses c
   unfolding fairAt

@@ -1,7 +1,7 @@
 -- Stage 5's new interface cells over lent lists: what the means over neighbours ask, and what they are on the way. Assumes nothing.
 use mathlib.Core.Path.{_≡_}
 use mathlib.Core.Bool.{Bool, true, _&&_, cond}
-use mathlib.Core.List.{List}
+use mathlib.Core.List.{List, []}
 use Prim.Native.Nat.{ℕ, _+_, _*_, _/_, _%_, _<_}
 use lib.IntN.{ℤ, pos, _+ℤ_}
 use lib.Signed.{_<ℤ_, quotZ}
@@ -16,14 +16,15 @@ use Rattle.lattice.specs.declared.Flow.{Flow}
 use Rattle.lattice.specs.declared.Settings.{Settings}
 use Rattle.grid.specs.State.{Scene, liquid}
 use Rattle.grid.specs.Step.{flagAt, newDensity, newMomentum, liquidNear, bornDensity, bornMomentum, born}
+use Rattle.grid.specs.Fill.{partOf}
 use Rattle.grid.specs.Pasted.{pasted}
-use Rattle.grid.specs.Sight.{Bodied, Around, flowing, sight}
+use Rattle.grid.specs.Sight.{Bodies, Bodied, bodiesOf, Around, sight, boxSight}
 use Rattle.flow.specs.Trade.{Fills}
 use Rattle.turn.specs.declared.birth.Sum.{Sum}
 
--- the scene of flags, parts and fills under settings g
+-- the box's scene of flags, parts and fills under settings g
 abbrev pub flowSight : List ℕ → List ℤ → List ℕ → List ℕ → ℕ → Settings → Scene
-flowSight flags parts fills off low g = sight (flowing flags parts fills) off low g
+flowSight flags parts fills off low g = boxSight flags parts [] fills off low g
 
 -- stage 3 has passed: every liquid cell's ρ' and j' are in their ranges; and whatever is no wall has all its neighbours
 pub record Tested (flags : List ℕ) (parts : List ℤ) (fills off : List ℕ) (low : ℕ) (g : Settings) : Type 0 where
@@ -34,6 +35,18 @@ pub record Tested (flags : List ℕ) (parts : List ℤ) (fills off : List ℕ) (
   pub is-dense : (c : ℕ) → c < length flags → liquid (getD flags c 3) ≡ true → dense (newDensity (flowSight flags parts fills off low g) c) ≡ true
   pub is-slow : (c : ℕ) → c < length flags → liquid (getD flags c 3) ≡ true
       → slow (newDensity (flowSight flags parts fills off low g) c) (dot (newMomentum (flowSight flags parts fills off low g) c) (newMomentum (flowSight flags parts fills off low g) c)) ≡ true
+
+-- the same over any parts and weights
+pub record TestedOn (weights : ℕ → ℕ) (flags : List ℕ) (part : ℕ → ℕ → ℤ) (fills off : List ℕ) (low : ℕ) (g : Settings) : Type 0 where
+  pub bodies : Bodies flags part
+  pub around : (c : ℕ) → c < length flags → getD flags c 3 < 3 → Around (length flags) off low c
+  pub is-dense : (c : ℕ) → c < length flags → liquid (getD flags c 3) ≡ true → dense (newDensity (sight weights flags part [] fills off low g) c) ≡ true
+  pub is-slow : (c : ℕ) → c < length flags → liquid (getD flags c 3) ≡ true
+      → slow (newDensity (sight weights flags part [] fills off low g) c)
+      (dot (newMomentum (sight weights flags part [] fills off low g) c) (newMomentum (sight weights flags part [] fills off low g) c)) ≡ true
+
+abbrev pub testedOf : {flags : List ℕ} {parts : List ℤ} {fills off : List ℕ} {low : ℕ} {g : Settings} → Tested flags parts fills off low g → TestedOn (d3q19 .weight) flags (partOf parts) fills off low g
+testedOf t = record { bodies = bodiesOf (t .bodies); around = t .around; is-dense = t .is-dense; is-slow = t .is-slow }
 
 -- sums that one more cell cannot overflow
 pub record Roomy (t : Sum) : Type 0 where
@@ -109,15 +122,15 @@ pub record Visited (S : Scene) (w : ℕ → Bool) (c : ℕ) (before after : List
   pub fair-is : fair ≡ cond (w c) (bodyGood d3q19 (born S c)) true
 
 -- a cell's parts after the pass, and whether it is fair
-unfoldable pub laterPart : Scene → (ℕ → Bool) → List ℤ → ℕ → ℕ → ℤ
-laterPart S w before c k = cond (w c) (born S c k) (getD before (19 * c + k) (pos 0))
+unfoldable pub laterPart : Scene → (ℕ → Bool) → (ℕ → ℕ → ℤ) → ℕ → ℕ → ℤ
+laterPart S w before c k = cond (w c) (born S c k) (before c k)
 
 unfoldable pub laterFair : Scene → (ℕ → Bool) → ℕ → Bool
 laterFair S w c = cond (w c) (bodyGood d3q19 (born S c)) true
 
--- what the pass leaves of n cells
+-- what the pass leaves of n cells of the box
 pub record Peopled (S : Scene) (w : ℕ → Bool) (n : ℕ) (before after : List ℤ) (fair : Bool) : Type 0 where
-  pub parts : after ≡ tab (19 * n) (λ m. laterPart S w before (m / 19) (m % 19))
+  pub parts : after ≡ tab (19 * n) (λ m. laterPart S w (partOf before) (m / 19) (m % 19))
   pub fair-is : fair ≡ all n (laterFair S w)
 
 -- names every definition of this file: whoever unfolds this computes with all of them

@@ -21,8 +21,8 @@ pub record Fillable (flags : List ℕ) (parts masses : List ℤ) : Type 0 where
   pub weighty : (c : ℕ) → c < length flags → getD flags c 3 ≡ 1 → Weighty (partOf parts c)
 
 -- a cell's fill
-unfoldable pub fillAt : List ℕ → List ℤ → List ℤ → ℕ → ℕ
-fillAt flags parts masses c = fillFor (getD flags c 3) (getD masses c (pos 0)) (density d3q19 (partOf parts c))
+unfoldable pub fillAt : List ℕ → (ℕ → ℕ → ℤ) → List ℤ → ℕ → ℕ
+fillAt flags part masses c = fillFor (getD flags c 3) (getD masses c (pos 0)) (density d3q19 (part c))
 
 -- the fill by the flag alone: right wherever the cell is not interface
 unfoldable pub plainFill : ℕ → ℕ
@@ -39,8 +39,8 @@ unfoldable pub fairAt : List ℕ → List ℤ → ℕ → Bool
 fairAt flags masses c = fairMass (getD flags c 3) (getD masses c (pos 0))
 
 -- what the pass leaves: every cell's fill, and whether every interface cell's mass is in its range
-pub record Refilled (flags : List ℕ) (parts masses : List ℤ) (fills : List ℕ) (fair : Bool) : Type 0 where
-  pub fills-are : fills ≡ tab (length flags) (fillAt flags parts masses)
+pub record Refilled (flags : List ℕ) (part : ℕ → ℕ → ℤ) (masses : List ℤ) (fills : List ℕ) (fair : Bool) : Type 0 where
+  pub fills-are : fills ≡ tab (length flags) (fillAt flags part masses)
   pub fair-is : fair ≡ all (length flags) (fairAt flags masses)
 
 -- names every definition of this file: whoever unfolds this computes with all of them

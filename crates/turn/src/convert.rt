@@ -4,10 +4,11 @@ use grid::neighbours;
 ghost use mathlib.Core.Path.{_≡_};
 ghost use Prim.Native.Nat.{_<_};
 ghost use lib.Dec.{eqb};
+ghost use lib.ListN.{length};
 ghost use Rattle.whole.specs.Fold.{tab};
 ghost use Rattle.grid.specs.Grid.{cellsOf};
 ghost use Rattle.grid.specs.Step.{flagAfter};
-ghost use Rattle.grid.specs.Passes.{turnedFlag, Marked};
+ghost use Rattle.grid.specs.Passes.{turnedBy, turnedFlag, MarkedBy, Marked};
 
 // The new flag of a cell with flag f and mark m, by whether a neighbour is filled or emptied.
 fn kind_after(f: u8, m: u8, filled: bool, emptied: bool) -> u8
@@ -29,22 +30,30 @@ fn kind_after(f: u8, m: u8, filled: bool, emptied: bool) -> u8
     f
 }
 
-// Pass 3: the new flags. The second set's are a copy of the old ones; the first and the last cells, all wall, are left as they are.
-pub(crate) fn new_flags(flags: &[u8], marks: &[u8], next: &mut [u8], s: Sides)
-    requires { ⌜ Marked s (now flags) (now marks) × (now next ≡ now flags) ⌝ }
-    ensures { λ r. ⌜ now (next .exit) ≡ tab (cellsOf s) (turnedFlag s (now (flags .entry)) (now (marks .entry))) ⌝ }
+// Pass 3, by offsets: the new flags. The second set's are a copy of the old ones; the first and the last cells, all wall, are left as they are.
+pub fn new_flags_by(flags: &[u8], marks: &[u8], next: &mut [u8], off: &[usize; 19], low: usize)
+    requires { ⌜ MarkedBy (now flags) (now marks) (now off) low × (now next ≡ now flags) ⌝ }
+    ensures { λ r. ⌜ now (next .exit) ≡ tab (length (now (flags .entry))) (turnedBy (now (flags .entry)) (now (marks .entry)) (now (off .entry)) low) ⌝ }
 {
-    let off = neighbours::offsets(s);
-    let low = neighbours::low_of(s);
     let end = flags.len() - low;
     let mut c = low;
     while c < end {
         next[c] = kind_after(
             flags[c],
             marks[c],
-            neighbours::beside(marks, &off, c - low, 1),
-            neighbours::beside(marks, &off, c - low, 2),
+            neighbours::beside(marks, off, c - low, 1),
+            neighbours::beside(marks, off, c - low, 2),
         );
         c += 1;
     }
+}
+
+// The same in the box.
+pub(crate) fn new_flags(flags: &[u8], marks: &[u8], next: &mut [u8], s: Sides)
+    requires { ⌜ Marked s (now flags) (now marks) × (now next ≡ now flags) ⌝ }
+    ensures { λ r. ⌜ now (next .exit) ≡ tab (cellsOf s) (turnedFlag s (now (flags .entry)) (now (marks .entry))) ⌝ }
+{
+    let off = neighbours::offsets(s);
+    let low = neighbours::low_of(s);
+    new_flags_by(flags, marks, next, &off, low);
 }

@@ -6,6 +6,7 @@ use whole::wide;
 ghost use mathlib.Core.Path.{_≡_};
 ghost use lib.ListN.{length};
 ghost use Rattle.whole.specs.Fold.{tab};
+ghost use Rattle.grid.specs.Fill.{partOf};
 ghost use Rattle.turn.specs.Filled.{Fillable, plainFill, plainAt, Refilled};
 
 // What a cell's fill is by its flag alone: a fluid cell is full, any other is taken as dry.
@@ -33,7 +34,7 @@ fn plain_fills(flags: &[u8], fill: &mut [u32])
 // The fill of every cell; whether every interface cell's mass is in its range.
 pub fn new_fills(flags: &[u8], parts: &[i32], mass: &[i32], fill: &mut [u32]) -> bool
     requires { ⌜ Fillable (now flags) (now parts) (now mass) × (length (now fill) ≡ length (now flags)) ⌝ }
-    ensures { λ r. ⌜ Refilled (now (flags .entry)) (now (parts .entry)) (now (mass .entry)) (now (fill .exit)) r ⌝ }
+    ensures { λ r. ⌜ Refilled (now (flags .entry)) (partOf (now (parts .entry))) (now (mass .entry)) (now (fill .exit)) r ⌝ }
 {
     plain_fills(flags, fill);
     let mut fair = true;

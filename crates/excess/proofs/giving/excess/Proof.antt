@@ -8,6 +8,7 @@ use mir.Syntax.{w64}
 use mir.Val.{toZ, ofZ}
 use Rattle.whole.specs.Bools.{cond-yes, cond-no}
 use Rattle.whole.specs.Machine.{does-fit, reads-as, v+, vneg, v64}
+use Rattle.grid.specs.Fill.{partOf}
 use Rattle.excess.specs.Gifts.{densityAt, excessAt}
 use Rattle.excess.proofs.Owned.{own-bounded, own-density}
 use Rattle.excess.proofs.Readings.{told, told64, held-in}
@@ -18,10 +19,10 @@ use Rattle.excess.proofs.giving.excess.Tie as tie
 mass-told : (c : tie.After-wide) → toZ w64 (ofZ w64 (c .wide .result)) ≡ getD (c .before .before .before .args .masses .now) (c .before .before .before .args .c) (pos 0)
 mass-told c = told64 (c .wide .ok) (c .wide .ensures ∙ told (c .before .wide-arg .given) refl)
 
-density-told : (c : tie.After-wide2) → toZ w64 (ofZ w64 (c .wide2 .result)) ≡ densityAt (c .before .before .before .before .before .before .args .parts .now) (c .before .before .before .before .before .before .args .c)
+density-told : (c : tie.After-wide2) → toZ w64 (ofZ w64 (c .wide2 .result)) ≡ densityAt (partOf (c .before .before .before .before .before .before .args .parts .now)) (c .before .before .before .before .before .before .args .c)
 density-told c =
     let s = c .before .before .before .before .before .before in
-    told64 (c .wide2 .ok) (c .wide2 .ensures ∙ told (c .before .density .ok) (c .before .density .ensures ∙ own-density (s .args .parts .now) (s .args .c) (c .before .before .own .ensures)))
+    told64 (c .wide2 .ok) (c .wide2 .ensures ∙ told (c .before .density .ok) (c .before .density .ensures ∙ own-density (partOf (s .args .parts .now)) (s .args .c) (c .before .before .own .ensures)))
 
 mul-wide : tie.Need-mul-wide
 mul-wide c = search needs
@@ -36,7 +37,7 @@ own-requires : tie.Need-own-requires
 own-requires c κs = search needs
 
 density-requires : tie.Need-density-requires
-density-requires c κs = own-bounded (c .before .before .before .before .args .parts .now) (c .before .before .before .before .args .c) (c .own .ensures) (c .before .before .before .before .pre .parts-in)
+density-requires c κs = own-bounded (partOf (c .before .before .before .before .args .parts .now)) (c .before .before .before .before .args .c) (c .own .ensures) (c .before .before .before .before .pre .parts-in)
 
 wide-requires-2 : tie.Need-wide-requires-2
 wide-requires-2 c κs = search needs

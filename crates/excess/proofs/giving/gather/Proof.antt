@@ -12,7 +12,8 @@ use mir.Syntax.{w64}
 use mir.Val.{toZ, ofZ}
 use Rattle.whole.specs.Machine.{Val, does-fit, reads-as, v+, v64, v32}
 use Rattle.grid.proofs.Ranges.{Ranged, over-gap, ranged-first, ranged-more, ranged-keep, ranged-all}
-use Rattle.excess.specs.Gifts.{gatheredAt, receivedAt, Giving}
+use Rattle.grid.specs.Fill.{partOf}
+use Rattle.excess.specs.Gifts.{roomOf, gatheredAt, receivedAt, Giving}
 use Rattle.excess.proofs.Takes.{taking, took, kept, marked-still, giving-still, received-still, received-in, in-range, giving-as}
 use Rattle.excess.proofs.Readings.{told, told64, held-in}
 use Rattle.excess.proofs.giving.gather.Statement.{statement}
@@ -20,7 +21,7 @@ use Rattle.excess.proofs.giving.gather.Tie as tie
 use Rattle.excess.proofs.giving.gather.Reads as reads
 
 abbrev Inv-loop : tie.InvT-loop
-Inv-loop flags fill parts masses₀ marks off low c₀ masses c = Ranged (pos 0) (gatheredAt flags fill parts masses₀ marks off low) masses₀ 0 (length flags) masses c
+Inv-loop flags fill parts masses₀ marks off low c₀ masses c = Ranged (pos 0) (gatheredAt flags fill (partOf parts) masses₀ marks off low) masses₀ 0 (length flags) masses c
 
 abbrev μ-loop : tie.MeasureT-loop
 μ-loop flags fill parts masses₀ marks off low c₀ masses c = length flags - c
@@ -28,7 +29,7 @@ abbrev μ-loop : tie.MeasureT-loop
 -- what was asked, of the offsets that the code has
 giving : (c : tie.After-low-of Inv-loop μ-loop)
     → let a = c .before .before .before .before .before .args in
-    Giving (a .flags .now) (a .fill .now) (a .parts .now) (a .masses .now) (a .marks .now) (c .before .offsets .result) (c .low-of .result)
+    Giving (a .flags .now) (a .fill .now) (roomOf (a .parts .now)) (partOf (a .parts .now)) (a .masses .now) (a .marks .now) (c .before .offsets .result) (c .low-of .result)
 giving c = giving-as (c .before .offsets .ensures) (c .low-of .ensures) (c .before .before .before .before .before .pre .giving)
 
 offsets-requires : tie.Need-offsets-requires Inv-loop μ-loop
@@ -78,7 +79,7 @@ gifts-told : (c : tie.After-wide Inv-loop μ-loop)
     → let l = c .before .before .before .before .before .before .before .before in
     let a = l .before .before .before .before .before .before .args in
     toZ w64 (ofZ w64 (c .before .before .gifts .result))
-    ≡ receivedAt (a .flags .now) (a .fill .now) (a .parts .now) (a .masses .now) (a .marks .now) (l .before .before .offsets .result) (l .before .low-of .result) (l .loop .c)
+    ≡ receivedAt (a .flags .now) (a .fill .now) (partOf (a .parts .now)) (a .masses .now) (a .marks .now) (l .before .before .offsets .result) (l .before .low-of .result) (l .loop .c)
 gifts-told c =
     let l = c .before .before .before .before .before .before .before .before in
     told64 (c .before .before .gifts .ok) (c .before .before .gifts .ensures
@@ -147,7 +148,7 @@ returns c =
     let e = l .before .low-of .ensures in
     ranged-all (pos 0) (taking (giving (l .before))) (a .masses .now) 0 (length (a .flags .now)) (l .loop .masses) (l .loop .c) _ _ (l .loop .inv) (c .loop-test .left) (s .pre .giving .masses-there ∙ s .pre .count)
     (λ j k. in-range (taking (giving (l .before))) (a .masses .now) (length (a .flags .now)) j (omega (arith, s .pre .count))
-    ∙ ap₂ (λ (x : List ℕ) (y : ℕ). gatheredAt (a .flags .now) (a .fill .now) (a .parts .now) (a .masses .now) (a .marks .now) x y j) o e)
+    ∙ ap₂ (λ (x : List ℕ) (y : ℕ). gatheredAt (a .flags .now) (a .fill .now) (partOf (a .parts .now)) (a .masses .now) (a .marks .now) x y j) o e)
 
 pub gather-spec : {M : Type 1} → statement M
 gather-spec =

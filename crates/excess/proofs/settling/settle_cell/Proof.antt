@@ -6,6 +6,7 @@ use mathlib.Core.Bool.{true, false}
 use lib.Dec.{eqb}
 use lib.ListN.{set}
 use Rattle.whole.specs.Bools.{cond-yes, cond-no}
+use Rattle.grid.specs.Fill.{partOf}
 use Rattle.excess.proofs.Owned.{own-bounded, own-density}
 use Rattle.excess.proofs.Readings.{told}
 use Rattle.excess.proofs.settling.settle_cell.Statement.{statement}
@@ -17,7 +18,7 @@ own-requires c κs = search needs
 density-requires : tie.Need-density-requires
 density-requires c κs =
     let s = c .before .before .before in
-    own-bounded (s .args .parts .now) (s .args .c) (c .own .ensures) (s .pre .0)
+    own-bounded (partOf (s .args .parts .now)) (s .args .c) (c .own .ensures) (s .pre .0)
 
 mul-t10 : tie.Need-mul-t10
 mul-t10 c = search needs
@@ -49,7 +50,7 @@ returns c =
     let e : eqb (s .args .m) 1 ≡ true = eq-eqb (s .args .m) 1 (c .before .before .before .if1 .taken) in
     record {
       parts-are = sym (cond-yes _ _ e);
-      masses-are = ap (set (s .args .masses .now) (s .args .c)) (told (c .density .ok) (c .density .ensures ∙ own-density (s .args .parts .now) (s .args .c) (c .before .own .ensures)) ∙ sym (cond-yes _ _ e));
+      masses-are = ap (set (s .args .masses .now) (s .args .c)) (told (c .density .ok) (c .density .ensures ∙ own-density (partOf (s .args .parts .now)) (s .args .c) (c .before .own .ensures)) ∙ sym (cond-yes _ _ e));
     }
 
 same-length-3 : tie.Need-same-length-3

@@ -15,6 +15,7 @@ use Rattle.whole.specs.Machine.{Val, Within, within-by, does-fit, reads-as, v+,
 use Rattle.grid.specs.Grid.{cellsOf}
 use Rattle.grid.proofs.GoodSides.{good-sides}
 use Rattle.grid.proofs.Ranges.{over-gap}
+use Rattle.grid.specs.Fill.{partOf}
 use Rattle.excess.specs.Gifts.{strayAt}
 use Rattle.excess.proofs.Strays.{around-as, stray-some, stray-in, strays-in, strays-more, strays-keep}
 use Rattle.excess.proofs.Readings.{told64, held-in}
@@ -22,7 +23,7 @@ use Rattle.excess.proofs.straying.new_carry.Statement.{statement}
 use Rattle.excess.proofs.straying.new_carry.Tie as tie
 
 abbrev Inv-loop : tie.InvT-loop
-Inv-loop flags parts masses marks carry off low t₀ c₀ t c = (c ≤ length marks) × (toZ w64 t ≡ toZ w64 carry +ℤ sum c (strayAt flags parts masses marks off low))
+Inv-loop flags parts masses marks carry off low t₀ c₀ t c = (c ≤ length marks) × (toZ w64 t ≡ toZ w64 carry +ℤ sum c (strayAt flags (partOf parts) masses marks off low))
 
 abbrev μ-loop : tie.MeasureT-loop
 μ-loop flags parts masses marks carry off low t₀ c₀ t c = length marks - c
@@ -57,25 +58,25 @@ lost-requires c κs =
 lost-told : (c : tie.After-lost Inv-loop μ-loop)
     → let l = c .before .before .before .before .before in
     let a = l .before .before .before .before .before .args in
-    toZ w64 (ofZ w64 (c .lost .result)) ≡ strayAt (a .flags .now) (a .parts .now) (a .masses .now) (a .marks .now) (l .before .before .offsets .result) (l .before .low-of .result) (l .loop .c)
+    toZ w64 (ofZ w64 (c .lost .result)) ≡ strayAt (a .flags .now) (partOf (a .parts .now)) (a .masses .now) (a .marks .now) (l .before .before .offsets .result) (l .before .low-of .result) (l .loop .c)
 lost-told c =
     let l = c .before .before .before .before .before in
     let a = l .before .before .before .before .before .args in
     told64 (c .lost .ok) (c .lost .ensures
-    ∙ stray-some (a .flags .now) (a .parts .now) (a .masses .now) (a .marks .now) (l .before .before .offsets .result) (l .before .low-of .result) (l .loop .c) (c .before .before .if1 .taken))
+    ∙ stray-some (a .flags .now) (partOf (a .parts .now)) (a .masses .now) (a .marks .now) (l .before .before .offsets .result) (l .before .low-of .result) (l .loop .c) (c .before .before .if1 .taken))
 
 -- the carry so far, in range
 so-far : (c : tie.In-loop Inv-loop μ-loop)
     → let l = c .before in
     let a = l .before .before .before .before .before .args in
-    Within (toZ w64 (ofZ w64 (a .carry)) +ℤ sum (l .loop .c) (strayAt (a .flags .now) (a .parts .now) (a .masses .now) (a .marks .now) (l .before .before .offsets .result) (l .before .low-of .result))) 13060268167168
+    Within (toZ w64 (ofZ w64 (a .carry)) +ℤ sum (l .loop .c) (strayAt (a .flags .now) (partOf (a .parts .now)) (a .masses .now) (a .marks .now) (l .before .before .offsets .result) (l .before .low-of .result))) 13060268167168
 unfolding cellsOf
 so-far c =
     let l = c .before in
     let s = l .before .before .before .before .before in
     let a = s .args in
     let n : l .loop .c ≤ 262144 = omega (arith, inside c, s .pre .0 .count, good-sides (a .s) (s .pre .0 .sides) .all) in
-    let w = strays-in (a .flags .now) (a .parts .now) (a .masses .now) (a .marks .now) (l .before .before .offsets .result) (l .before .low-of .result) (l .loop .c) n (λ j k. s .pre .0 .weighed j (omega (arith, inside c))) in
+    let w = strays-in (a .flags .now) (partOf (a .parts .now)) (a .masses .now) (a .marks .now) (l .before .before .offsets .result) (l .before .low-of .result) (l .loop .c) n (λ j k. s .pre .0 .weighed j (omega (arith, inside c))) in
     within-by (v+ (held-in (toZ-ofZ (s .fits .carry)) (s .pre .1)) (held-in refl w)) tt
 
 abbrev both : (c : tie.After-lost Inv-loop μ-loop) → Val (toZ w64 (c .before .before .before .before .before .loop .t) +ℤ toZ w64 (ofZ w64 (c .lost .result)))
@@ -85,7 +86,7 @@ both c =
     let s = l .before .before .before .before .before in
     let a = s .args in
     v+ (held-in (l .loop .inv .1) (so-far i))
-    (held-in (lost-told c) (stray-in (a .flags .now) (a .parts .now) (a .masses .now) (a .marks .now) (l .before .before .offsets .result) (l .before .low-of .result) (l .loop .c) (s .pre .0 .weighed (l .loop .c) (inside i))))
+    (held-in (lost-told c) (stray-in (a .flags .now) (partOf (a .parts .now)) (a .masses .now) (a .marks .now) (l .before .before .offsets .result) (l .before .low-of .result) (l .loop .c) (s .pre .0 .weighed (l .loop .c) (inside i))))
 
 add-t : tie.Need-add-t Inv-loop μ-loop
 add-t c = does-fit (both c) tt
@@ -112,15 +113,15 @@ loop-again c =
     let n = c .next-marked .ensures .past in (
       n .most,
       -- up to the next mark nothing strays
-      over-gap (λ j. toZ w64 (b .if1 .t) ≡ k +ℤ sum j (strayAt (a .flags .now) (a .parts .now) (a .masses .now) (a .marks .now) off low)) (l .loop .c + 1) (c .next-marked .result) (n .least)
-          (λ j h i e. e ∙ strays-keep (a .flags .now) (a .parts .now) (a .masses .now) (a .marks .now) off low k j (n .before j h i))
+      over-gap (λ j. toZ w64 (b .if1 .t) ≡ k +ℤ sum j (strayAt (a .flags .now) (partOf (a .parts .now)) (a .masses .now) (a .marks .now) off low)) (l .loop .c + 1) (c .next-marked .result) (n .least)
+          (λ j h i e. e ∙ strays-keep (a .flags .now) (partOf (a .parts .now)) (a .masses .now) (a .marks .now) off low k j (n .before j h i))
           (⊎-elim
           (λ w.
           let d : tie.After-lost Inv-loop μ-loop = record { before = record { before = record { before = b .before; if1 = w .0 }; off = w .1 }; lost = w .2 } in
           ap (toZ w64) (w .3) ∙ reads-as (v64 (both d)) tt
-          ∙ strays-more (a .flags .now) (a .parts .now) (a .masses .now) (a .marks .now) off low k (l .loop .c))
+          ∙ strays-more (a .flags .now) (partOf (a .parts .now)) (a .masses .now) (a .marks .now) off low k (l .loop .c))
           (λ w. ap (toZ w64) (w .1) ∙ l .loop .inv .1
-          ∙ strays-keep (a .flags .now) (a .parts .now) (a .masses .now) (a .marks .now) off low k (l .loop .c) (w .0 .left))
+          ∙ strays-keep (a .flags .now) (partOf (a .parts .now)) (a .masses .now) (a .marks .now) off low k (l .loop .c) (w .0 .left))
           (b .if1 .came)),
     )
 
@@ -131,8 +132,8 @@ returns c =
     let a = s .args in
     let e : l .loop .c ≡ cellsOf (a .s) = omega (arith, l .loop .inv .0, c .loop-test .left, s .pre .0 .marks-there, s .pre .0 .count) in
     l .loop .inv .1
-    ∙ ap₂ (λ (x : ℤ) (n : ℕ). x +ℤ sum n (strayAt (a .flags .now) (a .parts .now) (a .masses .now) (a .marks .now) (l .before .before .offsets .result) (l .before .low-of .result))) (toZ-ofZ (s .fits .carry)) e
-    ∙ ap₂ (λ (o : List ℕ) (n : ℕ). a .carry +ℤ sum (cellsOf (a .s)) (strayAt (a .flags .now) (a .parts .now) (a .masses .now) (a .marks .now) o n)) (l .before .before .offsets .ensures) (l .before .low-of .ensures)
+    ∙ ap₂ (λ (x : ℤ) (n : ℕ). x +ℤ sum n (strayAt (a .flags .now) (partOf (a .parts .now)) (a .masses .now) (a .marks .now) (l .before .before .offsets .result) (l .before .low-of .result))) (toZ-ofZ (s .fits .carry)) e
+    ∙ ap₂ (λ (o : List ℕ) (n : ℕ). a .carry +ℤ sum (cellsOf (a .s)) (strayAt (a .flags .now) (partOf (a .parts .now)) (a .masses .now) (a .marks .now) o n)) (l .before .before .offsets .ensures) (l .before .low-of .ensures)
 
 pub new-carry-spec : {M : Type 1} → statement M
 new-carry-spec =

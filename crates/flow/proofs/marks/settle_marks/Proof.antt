@@ -1,130 +1,31 @@
--- `flow::marks::settle_marks` is pass 2. It changes only marks 2, and looks only for marks 1, so what it finds at each cell is what was there at first.
--- Assumes nothing.
-use borrow.Author.Needs.{needs}
-use mathlib.Core.Path.{_≡_, sym, ap, _∙_, subst}
-use mathlib.Core.Bool.{Bool, cond}
-use mathlib.Core.List.{List}
-use mathlib.Core.Logic.{⊎-elim}
-use Prim.Native.Nat.{ℕ, _+_, _-_, _<_}
-use native.Mathlib.Omega.{arith}
-use lib.ListN.{length, getD}
-use Rattle.grid.specs.Passes.{Inner}
-use Rattle.grid.proofs.Beside.{Offsets, above, reach}
-use Rattle.grid.proofs.Ranges.{Ranged, over-gap, ranged-first, ranged-more, ranged-keep}
-use Rattle.flow.proofs.Marking.{settledAt, settled-turn, settled-skip, settled}
+-- `flow::marks::settle_marks`: by the box's offsets, pass 2. Assumes nothing.
+use mathlib.Core.Path.{ap, _∙_}
+use lib.ListN.{length}
+use Rattle.whole.specs.Tab.{length-tab}
+use Rattle.grid.proofs.Beside.{Offsets}
+use Rattle.flow.proofs.Marking.{emptying-by, settled-box}
 use Rattle.flow.proofs.marks.settle_marks.Statement.{statement}
 use Rattle.flow.proofs.marks.settle_marks.Tie as tie
 
-abbrev Inv-loop : tie.InvT-loop
-Inv-loop marks₀ off low c₀ marks c = Ranged 0 (settledAt marks₀ off low) marks₀ 0 (length marks₀) marks c
-
-abbrev μ-loop : tie.MeasureT-loop
-μ-loop marks₀ off low c₀ marks c = length marks₀ - c
-
-offs : (c : tie.After-low-of Inv-loop μ-loop) → Offsets (c .before .before .before .args .s) (c .before .offsets .result) (c .low-of .result)
+offs : (c : tie.After-low-of) → Offsets (c .before .before .before .args .s) (c .before .offsets .result) (c .low-of .result)
 offs c = record { table = c .before .offsets .ensures; lowest = c .low-of .ensures }
 
--- a cell to be emptied is inner
-within : (c : tie.Then1 Inv-loop μ-loop) → Inner (c .before .before .before .before .before .before .before .args .s) (c .before .before .before .loop .c)
-within c =
-    c .before .before .before .before .before .before .before .pre .inner _ (omega (arith, c .before .before .before .loop .inv .size, c .before .before .loop-test .taken))
-    (sym (c .before .before .before .loop .inv .rest _ (omega arith)) ∙ c .if1 .taken)
-
-offsets-requires : tie.Need-offsets-requires Inv-loop μ-loop
+offsets-requires : tie.Need-offsets-requires
 offsets-requires c κs = c .before .pre .sides
 
-low-of-requires : tie.Need-low-of-requires Inv-loop μ-loop
+low-of-requires : tie.Need-low-of-requires
 low-of-requires c κs = c .before .before .pre .sides
 
-loop-holds : tie.Need-loop-holds Inv-loop μ-loop
-loop-holds c = ranged-first 0 _ _ 0 _ (omega arith)
+settle-marks-by-requires : tie.Need-settle-marks-by-requires
+settle-marks-by-requires c κs = emptying-by (offs (c .before .before)) _ (c .before .before .before .before .before .pre)
 
-slice-read-if1 : tie.Need-slice-read-if1 Inv-loop μ-loop
-slice-read-if1 c = search needs
+same-length : tie.Need-same-length
+same-length c = ap length (c .before .before .settle-marks-by .ensures) ∙ length-tab _ _
 
-sub-beside : tie.Need-sub-beside Inv-loop μ-loop
-sub-beside c = above (offs (c .before .before .before .before .before .before)) _ (within (c .before .before))
-
-beside-requires : tie.Need-beside-requires Inv-loop μ-loop
-beside-requires c κs = reach (offs (c .before .before .before .before .before .before)) _ (within (c .before .before)) _ (c .before .before .before .before .before .loop .inv .size ∙ c .before .before .before .before .before .before .before .before .before .pre .count)
-
-kept-requires : tie.Need-kept-requires Inv-loop μ-loop
-kept-requires c κs = search needs
-
-slice-write-marks : tie.Need-slice-write-marks Inv-loop μ-loop
-slice-write-marks c = search needs
-
--- cell c is settled, whether it was to be emptied or not
-turned : (b : tie.Joined1 Inv-loop μ-loop)
-    → let l = b .before .before .before in
-    let a = l .before .before .before .before .args .marks .now in
-    Ranged 0 (settledAt a (l .before .before .offsets .result) (l .before .low-of .result)) a 0 (length a) (b .if1 .marks) (l .loop .c + 1)
-turned b =
-    let l = b .before .before .before in
-    let a = l .before .before .before .before .args .marks .now in
-    let off = l .before .before .offsets .result in
-    let low = l .before .low-of .result in
-    let h : l .loop .c < length a = omega (arith, l .loop .inv .size, b .before .before .loop-test .taken) in
-    ⊎-elim
-    (λ w. subst (λ (m : List ℕ). Ranged 0 (settledAt a off low) a 0 (length a) m (l .loop .c + 1)) (sym (w .5))
-    (ranged-more 0 (settledAt a off low) a 0 (length a) (l .loop .marks) (l .loop .c) _ (l .loop .inv) h (omega arith)
-    (settled-turn a off low (length a) (l .loop .inv) _ (w .0 .taken) (w .4 .ensures ∙ ap (λ (b : Bool). cond b 0 2) (w .3 .ensures)))))
-    (λ w. subst (λ (m : List ℕ). Ranged 0 (settledAt a off low) a 0 (length a) m (l .loop .c + 1)) (sym (w .1))
-    (ranged-keep 0 (settledAt a off low) a 0 (length a) (l .loop .marks) (l .loop .c) (l .loop .inv) h (settled-skip a off low (length a) (l .loop .inv) (w .0 .left))))
-    (b .if1 .came)
-
-add-next-marked : tie.Need-add-next-marked Inv-loop μ-loop
-add-next-marked c = search needs
-
-next-marked-requires : tie.Need-next-marked-requires Inv-loop μ-loop
-next-marked-requires c κs = omega (arith, turned (c .before) .to, turned (c .before) .size)
-
-loop-less : tie.Need-loop-less Inv-loop μ-loop
-loop-less c =
-    let b = c .before .before in
-    let n = c .next-marked .ensures .past in
-    omega (arith, n .least, n .most, turned b .size, turned b .to)
-
-loop-again : tie.Need-loop-again Inv-loop μ-loop
-loop-again c =
-    let b = c .before .before in
-    let l = b .before .before .before in
-    let a = l .before .before .before .before .args .marks .now in
-    let off = l .before .before .offsets .result in
-    let low = l .before .low-of .result in
-    let n = c .next-marked .ensures .past in
-    -- up to the next mark nothing is to be settled
-    over-gap (λ j. Ranged 0 (settledAt a off low) a 0 (length a) (b .if1 .marks) j) (l .loop .c + 1) (c .next-marked .result) (n .least)
-    (λ j k i q. ranged-keep 0 (settledAt a off low) a 0 (length a) (b .if1 .marks) j q (omega (arith, n .most, turned b .size))
-    (settled-skip a off low (length a) q (λ e. let z : 0 ≡ getD (b .if1 .marks) j 0 = sym (n .before j k i) in absurd (omega (arith, z, e))))) (turned b)
-
-same-length : tie.Need-same-length Inv-loop μ-loop
-same-length c = c .before .loop .inv .size
-
-returns : tie.Need-returns Inv-loop μ-loop
+returns : tie.Need-returns
 returns c =
-    let l = c .before in
-    let a = l .before .before .before .before in
-    let m = a .args .marks .now in
-    settled (offs (l .before)) m (a .pre) (l .loop .marks) (l .loop .c) (l .loop .inv) (omega (arith, l .loop .inv .size, c .loop-test .left))
+    let b = c .before .before .before .before .before in
+    c .before .before .settle-marks-by .ensures ∙ settled-box (offs b) _ (b .before .before .before .pre)
 
 pub settle-marks-spec : {M : Type 1} → statement M
-settle-marks-spec =
-    tie.close
-    (tie.spec
-    Inv-loop
-    μ-loop
-    offsets-requires
-    low-of-requires
-    loop-holds
-    slice-read-if1
-    sub-beside
-    beside-requires
-    kept-requires
-    slice-write-marks
-    add-next-marked
-    next-marked-requires
-    loop-less
-    loop-again
-    same-length
-    returns)
+settle-marks-spec = tie.close (tie.spec offsets-requires low-of-requires settle-marks-by-requires same-length returns)

@@ -12,6 +12,7 @@ use mir.Val.{toZ, ofZ}
 use mir.Facts.{toZ-ofZ}
 use Rattle.whole.specs.Fold.{tab}
 use Rattle.lattice.specs.Lattice.{d3q19}
+use Rattle.grid.specs.Fill.{partOf}
 use Rattle.lattice.specs.Cell.{relaxationGood}
 use borrow.Author.Tests.{not-true, not-false}
 use Rattle.lattice.specs.Body.{partsOf, Bounded, vec, Tame, steadyFlow, collidedPart}
@@ -47,7 +48,7 @@ returns : tie.Need-returns
 returns c flags parts fills off low l e =
     let s = c .before .before .before .before in
     let u = c .before .before .before .flow-of .ensures in
-    put-refused flags parts fills off low _ _ _ e _ _ (u .0) (u .1) (c .before .before .pulled .ensures) l _ _ refl
+    put-refused (d3q19 .weight) flags (partOf parts) fills off low _ _ _ e _ _ (u .0) (u .1) (c .before .before .pulled .ensures) l _ _ refl
     (sym (c .before .steady .ensures) ∙ not-true _ (c .if1 .taken))
 
 -- the relaxation as it was passed on
@@ -80,7 +81,7 @@ returns-2 c flags parts fills off low l e =
     let a = k .before .before .before in
     let s = a .before .before .before in
     let u = a .before .before .flow-of .ensures in
-    put-accepted flags parts fills off low _ _ _ e _ _ (u .0) (u .1) (a .before .pulled .ensures) l (k .collided .result)
+    put-accepted (d3q19 .weight) flags (partOf parts) fills off low _ _ _ e _ _ (u .0) (u .1) (a .before .pulled .ensures) l (k .collided .result)
     (subst (λ (p : ℤ). k .collided .result ≡ tab 19 (collidedPart d3q19 (a .before .pulled .result .rho) (vec (a .before .pulled .result)) p (partsOf (s .args .f)))) (relaxation (k .before)) (k .collided .ensures .0))
     _ _ _ (s .pre .2) (c .before .before .before .paste .ensures) refl
     (sym (a .steady .ensures) ∙ not-false _ (k .before .before .if1 .left))

@@ -5,10 +5,10 @@ use Prim.Native.Nat.{ℕ, _+_, _*_, _<_, _≤_}
 use native.Mathlib.Omega.{arith}
 use lib.ListN.{length, getD}
 use Rattle.grid.specs.State.{liquid}
-use Rattle.grid.specs.Sight.{noSettings}
+use Rattle.grid.specs.Sight.{noSettings, bodiesOf}
 use Rattle.grid.proofs.Lists.{getD-there}
 use Rattle.flow.proofs.Collisions.{put-dry}
-use Rattle.flow.proofs.Spans.{bounded-streamed}
+use Rattle.flow.proofs.Spans.{light19, bounded-streamed}
 use borrow.Author.Needs.{needs}
 use Rattle.flow.proofs.moving.put_parts.Statement.{statement}
 use Rattle.flow.proofs.moving.put_parts.Tie as tie
@@ -40,7 +40,7 @@ put-moved-requires : tie.Need-put-moved-requires
 put-moved-requires c κs =
     let t = c .before .before in
     let s = t .before .before .before .before .before in
-    (bounded-streamed _ _ _ _ _ noSettings (s .pre .bodied) _ (s .pre .around (kind t)) (kind t) _ (c .before .chosen .ensures), s .pre .settings, room s)
+    (bounded-streamed _ light19 _ _ _ _ _ noSettings (bodiesOf (s .pre .bodied)) _ (s .pre .around (kind t)) (kind t) _ (c .before .chosen .ensures), s .pre .settings, room s)
 
 same-length : tie.Need-same-length
 same-length c = search needs
@@ -48,7 +48,8 @@ same-length c = search needs
 returns : tie.Need-returns
 returns c =
     let t = c .before .before .before .before in
-    c .before .put-moved .ensures _ _ _ _ _ (kind t) (c .before .before .before .chosen .ensures)
+    let s = t .before .before .before .before .before in
+    c .before .put-moved .ensures (s .args .flags .now) (s .args .parts .now) (s .args .fill .now) (s .args .off .now) (s .args .low) (kind t) (c .before .before .before .chosen .ensures)
 
 dry-out-requires : tie.Need-dry-out-requires
 dry-out-requires c κs = room (c .before .before .before .before .before .before)
@@ -60,7 +61,7 @@ returns-2 : tie.Need-returns-2
 returns-2 c =
     let e = c .before .before .before in
     let s = e .before .before .before .before .before in
-    put-dry _ _ _ _ _ _ _ (sym (ap liquid (flag s)) ∙ sym (e .before .wet .ensures) ∙ e .if1 .left) _ _ (room s) (c .before .dry-out .ensures)
+    put-dry _ _ _ _ _ _ _ _ (sym (ap liquid (flag s)) ∙ sym (e .before .wet .ensures) ∙ e .if1 .left) _ _ (room s) (c .before .dry-out .ensures)
 
 pub put-parts-spec : {M : Type 1} → statement M
 put-parts-spec =

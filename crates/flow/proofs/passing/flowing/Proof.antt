@@ -12,10 +12,13 @@ use borrow.Author.Tests.{not-true, not-false}
 use mir.Syntax.{w32}
 use mir.Facts.{toZ-ofZ}
 use Rattle.whole.specs.Fold.{tab}
+use Rattle.lattice.specs.Lattice.{d3q19}
 use Rattle.lattice.specs.declared.Settings.{Settings}
 use Rattle.grid.specs.declared.Sides.{Sides}
-use Rattle.grid.specs.Grid.{cellsOf}
+use Rattle.grid.specs.Fill.{partOf}
+use Rattle.grid.specs.Grid.{cellsOf, gridOf}
 use Rattle.grid.specs.State.{liquid, stateOf}
+use Rattle.grid.specs.Outcome.{sceneOf}
 use Rattle.grid.specs.Between.{Poised, uncarried}
 use Rattle.grid.specs.Passes.{lowOf, offsetOf}
 use Rattle.grid.specs.Sight.{Around}
@@ -27,15 +30,15 @@ use Rattle.flow.specs.Sources.{Mirrored, sourceOf}
 use Rattle.flow.specs.Trade.{Traders}
 use Rattle.grid.proofs.Inside.{room}
 use Rattle.flow.proofs.Mirrored.{mirrored, around, immersed}
-use Rattle.flow.proofs.Poise.{few, liquid-inner, poised-bodied, poised-mass, poised-fills}
-use Rattle.flow.proofs.Walked.{Walked, walked-first, walked-turn, walked-stopped, walked-moved}
+use Rattle.flow.proofs.Poise.{few, liquid-inner, poised-bodied, poised-mass, poised-fills, placed}
+use Rattle.flow.proofs.Walked.{Walked, walked-first, walked-turn, walked-stopped, walked-moved, put-more, moved-list}
 use Rattle.flow.proofs.passing.flowing.Statement.{statement}
 use Rattle.flow.proofs.passing.flowing.Tie as tie
 
 abbrev Inv-loop : tie.InvT-loop
 Inv-loop flags parts mass fill parts2₀ mass2₀ marks₀ g off low from fair₀ still₀ c₀ parts2 mass2 marks fair still c =
     (c ≤ length flags) × (length parts2 ≡ length parts2₀) × (length mass2 ≡ length mass2₀) × (length marks ≡ length marks₀)
-    × Walked flags parts mass fill off low g marks₀ parts2 mass2 marks fair still c
+    × Walked (d3q19 .weight) flags (partOf parts) mass fill off low g marks₀ (partOf parts2) mass2 marks fair still c
 
 abbrev μ-loop : tie.MeasureT-loop
 μ-loop flags parts mass fill parts2₀ mass2₀ marks₀ g off low from fair₀ still₀ c₀ parts2 mass2 marks fair still c = length flags - c
@@ -65,8 +68,8 @@ module _ (d : tie.In-loop Inv-loop μ-loop) where
   poise : Poised (start .args .s) (start .args .g) (uncarried (start .args .flags .now) (start .args .parts .now) (start .args .mass .now) (start .args .fill .now))
   poise = start .pre .poised
 
-  walked : Walked (start .args .flags .now) (start .args .parts .now) (start .args .mass .now) (start .args .fill .now) off low (start .args .g) (start .args .marks .now)
-      (d .before .loop .parts2) (d .before .loop .mass2) (d .before .loop .marks) (d .before .loop .fair) (d .before .loop .still) cell
+  walked : Walked (d3q19 .weight) (start .args .flags .now) (partOf (start .args .parts .now)) (start .args .mass .now) (start .args .fill .now) off low (start .args .g) (start .args .marks .now)
+      (partOf (d .before .loop .parts2)) (d .before .loop .mass2) (d .before .loop .marks) (d .before .loop .fair) (d .before .loop .still) cell
   walked = d .before .loop .inv .4
 
   is-cell : cell < cellsOf (start .args .s)
@@ -123,7 +126,7 @@ sources-requires c κs =
     (omega (arith, room s (p .sides), few s (p .sides), c .low-of .ensures))
 
 loop-holds : tie.Need-loop-holds Inv-loop μ-loop
-loop-holds c = (omega arith, refl, refl, refl, walked-first _ _ _ _ _ _ _ _ _ _)
+loop-holds c = (omega arith, refl, refl, refl, walked-first _ _ _ _ _ _ _ _ _ _ _)
 
 slice-read-put-parts : tie.Need-slice-read-put-parts Inv-loop μ-loop
 slice-read-put-parts c = let d = c .before .before in let h = is-cell d in omega (arith, d .before .loop .inv .3, d .before .before .before .before .before .before .before .before .pre .marks-room)
@@ -141,13 +144,14 @@ same-length-3 : tie.Need-same-length-3 Inv-loop μ-loop
 same-length-3 c = c .before .before .before .before .before .before .before .before .before .loop .inv .3
 
 returns : tie.Need-returns Inv-loop μ-loop
+unfolding sceneOf stateOf
 returns c =
     let d = c .before .before .before .before .before .before .before .before in
     let t = d .before .before .before .before .before .before .before .before in
     let o = c .before .before .before .put-parts in
     record {
-      went = stopped (is-cell d) (walked-stopped (t .args .s) (t .args .g) _ _ _ _ (poise d) (off d) (low d) (offs d) _ _ _ _ _ _ (cell d) (is-cell d) (walked d)
-          (too-fast (o .ensures .ok) (not-true _ (c .if1 .taken))));
+      went = stopped (is-cell d) (walked-stopped (d3q19 .weight) (gridOf (t .args .s)) (t .args .g) _ _ _ _ (off d) (low d) _ (placed (t .args .s) (t .args .g) _ (poise d) (offs d)) _ _ _ _ _ _ (cell d) (is-cell d) (walked d)
+          (too-fast (o .ensures .told .ok) (not-true _ (c .if1 .taken))));
       parts-kept = o .ensures .kept ∙ d .before .loop .inv .1 ∙ t .pre .parts-room;
       masses-kept = d .before .loop .inv .2 ∙ t .pre .masses-room;
       marks-kept = d .before .loop .inv .3 ∙ t .pre .marks-room;
@@ -185,15 +189,17 @@ loop-again c =
     let put = c .before .before .before .before .before .before .before .before .before .before .put-parts in
     let gained = c .before .before .before .before .new-mass in
     let mark = c .before .new-mark in
+    let ok = not-false _ (c .before .before .before .before .before .before .before .if1 .left) in
     let h = is-cell d in (
       omega arith,
       put .ensures .kept ∙ l .inv .1,
       simp length-set (l .inv .2),
       simp length-set (l .inv .3),
-      walked-turn (t .args .flags .now) (t .args .parts .now) (t .args .mass .now) (t .args .fill .now) (off d) (low d) (t .args .g) (t .args .marks .now)
-          (l .parts2) (put .last .1 .1 .1 .0) (l .mass2) (l .marks) (l .fair) (l .still) (l .c) (walked d) (put .result) (put .ensures) (not-false _ (c .before .before .before .before .before .before .before .if1 .left))
+      walked-turn (d3q19 .weight) (t .args .flags .now) (partOf (t .args .parts .now)) (t .args .mass .now) (t .args .fill .now) (off d) (low d) (t .args .g) (t .args .marks .now)
+          (partOf (l .parts2)) (partOf (put .last .1 .1 .1 .0)) (l .mass2) (l .marks) (l .fair) (l .still) (l .c) (walked d) (put .result) (put .ensures .told) ok
+          (put-more _ (l .parts2) (put .last .1 .1 .1 .0) (l .c) (omega (arith, l .inv .1, t .pre .parts-room)) (put .ensures .parts ok))
           (gained .result) _ _ _ _ (mark .result) _ (getD-there (t .args .flags .now) (l .c) 0 3 (d .loop-test .taken))
-          (omega (arith, l .inv .1, t .pre .parts-room)) (omega (arith, l .inv .2, t .pre .masses-room)) (omega (arith, l .inv .3, t .pre .marks-room))
+          (omega (arith, l .inv .2, t .pre .masses-room)) (omega (arith, l .inv .3, t .pre .marks-room))
           (gained .ensures) (toZ-ofZ {w = w32} (record { sfits = c .before .before .before .before .before .struct-told .given .1 .1 .0 .1 }))
           (toZ-ofZ {w = w32} (record { sfits = gained .ok })) (mark .ensures) (toZ-ofZ {w = w32} (record { sfits = gained .ok }))
           (toZ-ofZ {w = w32} (record { sfits = c .before .before .struct-told2 .given .1 .1 .0 .1 })),
@@ -209,6 +215,7 @@ same-length-6 : tie.Need-same-length-6 Inv-loop μ-loop
 same-length-6 c = c .before .loop .inv .3
 
 returns-2 : tie.Need-returns-2 Inv-loop μ-loop
+unfolding sceneOf stateOf
 returns-2 c =
     let t = c .before .before .before .before .before .before .before .before in
     let p = t .pre .poised in
@@ -216,10 +223,12 @@ returns-2 c =
     let o : Offsets (t .args .s) (c .before .before .before .before .offsets .result) (c .before .before .before .low-of .result) = record { table = c .before .before .before .before .offsets .ensures; lowest = c .before .before .before .low-of .ensures } in
     let e : l .c ≡ cellsOf (t .args .s) = omega (arith, p .flags, l .inv .0) in
     record {
-      went = through (walked-moved (t .args .s) (t .args .g) (t .args .flags .now) (t .args .parts .now) (t .args .mass .now) (t .args .fill .now) p
-          (c .before .before .before .before .offsets .result) (c .before .before .before .low-of .result) o (t .args .marks .now) (l .parts2) (l .mass2) (l .marks) (l .fair) (l .still)
-          (l .inv .1 ∙ t .pre .parts-room) (l .inv .2 ∙ t .pre .masses-room) (l .inv .3 ∙ t .pre .marks-room)
-          (subst (λ (n : ℕ). Walked (t .args .flags .now) (t .args .parts .now) (t .args .mass .now) (t .args .fill .now) (c .before .before .before .before .offsets .result) (c .before .before .before .low-of .result) (t .args .g) (t .args .marks .now) (l .parts2) (l .mass2) (l .marks) (l .fair) (l .still) n) e (l .inv .4)));
+      went = through (moved-list (l .inv .1 ∙ t .pre .parts-room)
+          (walked-moved (d3q19 .weight) (gridOf (t .args .s)) (t .args .g) (t .args .flags .now) (partOf (t .args .parts .now)) (t .args .mass .now) (t .args .fill .now)
+          (c .before .before .before .before .offsets .result) (c .before .before .before .low-of .result) (cellsOf (t .args .s)) (placed (t .args .s) (t .args .g) _ p o)
+          (t .args .marks .now) (partOf (l .parts2)) (l .mass2) (l .marks) (l .fair) (l .still)
+          (l .inv .2 ∙ t .pre .masses-room) (l .inv .3 ∙ t .pre .marks-room)
+          (subst (λ (n : ℕ). Walked (d3q19 .weight) (t .args .flags .now) (partOf (t .args .parts .now)) (t .args .mass .now) (t .args .fill .now) (c .before .before .before .before .offsets .result) (c .before .before .before .low-of .result) (t .args .g) (t .args .marks .now) (partOf (l .parts2)) (l .mass2) (l .marks) (l .fair) (l .still) n) e (l .inv .4))));
       parts-kept = l .inv .1 ∙ t .pre .parts-room;
       masses-kept = l .inv .2 ∙ t .pre .masses-room;
       marks-kept = l .inv .3 ∙ t .pre .marks-room;

@@ -18,11 +18,12 @@ use Rattle.lattice.specs.Lattice.{V3, dot, d3q19, density, momentum}
 use Rattle.lattice.specs.Cell.{gas, isPositive}
 use Rattle.lattice.specs.Body.{vec}
 use Rattle.lattice.proofs.Reading.{inside}
+use Rattle.grid.specs.Fill.{partOf}
 use Rattle.grid.specs.Sight.{Body, noSettings}
 use Rattle.grid.proofs.Lists.{getD-there}
 use Rattle.flow.proofs.Arrivals.{arrives-wall, arrives-rebuilt, arrives-liquid}
 use Rattle.flow.proofs.Leans.{above-zero}
-use Rattle.flow.proofs.Spans.{gas-body, along-body, tame-body, weight-low}
+use Rattle.flow.proofs.Spans.{light19, gas-body, along-body, tame-body, weight-low}
 use Rattle.flow.proofs.streaming.arriving.Statement.{statement}
 use Rattle.flow.proofs.streaming.arriving.Tie as tie
 
@@ -78,7 +79,7 @@ own-part c = c .wide .ensures ∙ toZ-ofZ (sfits-of {w = w32} (c .before .wide-a
 abbrev gas-read : (c : tie.After-rebuilt) → Val (c .rebuilt .result)
 gas-read c =
     let s = c .before .before .before .before .before .before in
-    same (whole-gas c) (inside (gas-body (own s) (body s) (s .args .i) (s .pre .some) (s .pre .most)))
+    same (whole-gas c) (inside (gas-body (own s) (body s) light19 (s .args .i) (s .pre .some) (s .pre .most)))
 
 abbrev part-read : (c : tie.After-wide) → Val (c .wide .result)
 part-read c =
@@ -104,7 +105,7 @@ returns : tie.Need-returns
 returns c fills off low e n =
     let s = c .before .before .before .before in
     toZ-ofZ (sfits-of {w = w32} (c .result .given))
-    ∙ sym (arrives-wall _ _ fills off low noSettings _ _ _ _ e (subst (λ (f : ℕ). 2 < f) (flag s) (c .before .if1 .taken)))
+    ∙ sym (arrives-wall (d3q19 .weight) _ (partOf (s .args .parts .now)) fills off low noSettings _ _ _ _ e (subst (λ (f : ℕ). 2 < f) (flag s) (c .before .if1 .taken)))
 
 weight-of-requires : tie.Need-weight-of-requires
 weight-of-requires c κs = search needs
@@ -152,7 +153,7 @@ returns-2 c fills off low e n =
     let g = gas-read (c .before .before) in
     let p = part-read c in
     reads-as (search machine depth 30 fits 5000) tt
-    ∙ sym (arrives-rebuilt _ _ fills off low noSettings _ _ _ _ e (no-wall (c .before .before .before .before .before)) (tested s n ∙ c .before .before .before .before .if2 .taken))
+    ∙ sym (arrives-rebuilt (d3q19 .weight) _ (partOf (s .args .parts .now)) fills off low noSettings _ _ _ _ e (no-wall (c .before .before .before .before .before)) (tested s n ∙ c .before .before .before .before .if2 .taken))
 
 mul-result-3 : tie.Need-mul-result-3
 mul-result-3 c = search needs
@@ -170,7 +171,7 @@ returns-3 : tie.Need-returns-3
 returns-3 c fills off low e n =
     let s = c .before .before .before .before .before in
     toZ-ofZ (sfits-of {w = w32} (c .result2 .given))
-    ∙ sym (arrives-liquid _ _ fills off low noSettings _ _ _ _ e (no-wall (c .before .before)) (tested s n ∙ c .before .if2 .left))
+    ∙ sym (arrives-liquid (d3q19 .weight) _ (partOf (s .args .parts .now)) fills off low noSettings _ _ _ _ e (no-wall (c .before .before)) (tested s n ∙ c .before .if2 .left))
 
 pub arriving-spec : {M : Type 1} → statement M
 arriving-spec =

@@ -1,8 +1,9 @@
 -- `flow::streaming::streamed` is what streams into a liquid cell. Each turn stores a pair: i is odd, so that its opposite is i + 1. Assumes nothing.
 use mathlib.Core.Path.{_≡_, refl, sym, ap, _∙_, subst}
 use mathlib.Core.Bool.{true}
-use mathlib.Core.List.{List}
+use mathlib.Core.List.{List, []}
 use Prim.Native.Nat.{ℕ, _+_, _*_, _-_, _%_, _≤_, _<_}
+use native.Mathlib.Nat.{add-zero}
 use native.Mathlib.Omega.{arith}
 use lib.IntN.{ℤ, pos}
 use lib.ListN.{length, getD, set, replicate, length-set}
@@ -14,9 +15,10 @@ use Rattle.whole.specs.Tab.{Upto, upto-zero, upto-more, upto-all, getD-tab}
 use Rattle.lattice.specs.Lattice.{dot, d3q19}
 use Rattle.lattice.specs.Body.{vec}
 use Rattle.lattice.specs.Cell.{isPositive}
+use Rattle.grid.specs.Fill.{partOf}
 use Rattle.grid.specs.State.{Scene}
 use Rattle.grid.specs.Step.{leansTo, streamed}
-use Rattle.grid.specs.Sight.{Body, flowing, noSettings, sight}
+use Rattle.grid.specs.Sight.{Body, noSettings, boxSight}
 use Rattle.flow.specs.Sources.{Flows, Beside}
 use Rattle.flow.proofs.Arrivals.{streamed-rest, streamed-odd, streamed-even}
 use Rattle.flow.proofs.Leans.{leans-is}
@@ -26,7 +28,7 @@ use Rattle.flow.proofs.streaming.streamed.Statement.{statement}
 use Rattle.flow.proofs.streaming.streamed.Tie as tie
 
 abbrev Inv-loop : tie.InvT-loop
-Inv-loop flags parts fill off low c k v d n f₀ i₀ f i = (i % 2 ≡ 1) × (i ≤ 19) × (length f ≡ 19) × Upto (pos 0) (streamed (sight (flowing flags parts fill) off low noSettings) c) f i
+Inv-loop flags parts fill off low c k v d n f₀ i₀ f i = (i % 2 ≡ 1) × (i ≤ 19) × (length f ≡ 19) × Upto (pos 0) (streamed (boxSight flags parts [] fill off low noSettings) c) f i
 
 abbrev μ-loop : tie.MeasureT-loop
 μ-loop flags parts fill off low c k v d n f₀ i₀ f i = 19 - i
@@ -37,12 +39,12 @@ parts-of s k = getD (s .args .parts .now) (19 * s .args .c + k) (pos 0)
 
 -- what functions of the cell see
 abbrev scene : (s : tie.Start Inv-loop μ-loop) → Scene
-scene s = sight (flowing (s .args .flags .now) (s .args .parts .now) (s .args .fill .now)) (s .args .off .now) (s .args .low) noSettings
+scene s = boxSight (s .args .flags .now) (s .args .parts .now) [] (s .args .fill .now) (s .args .off .now) (s .args .low) noSettings
 
 body : (s : tie.Start Inv-loop μ-loop) → Body (parts-of s)
 body s = s .pre .0 .body (s .args .c) (s .pre .2 .is-cell) (s .pre .3)
 
-flows : (c : tie.After-flow-of Inv-loop μ-loop) → Flows (c .before .before .before .before .args .parts .now) (c .before .before .before .before .args .c) (c .flow-of .result)
+flows : (c : tie.After-flow-of Inv-loop μ-loop) → Flows (partOf (c .before .before .before .before .args .parts .now)) (c .before .before .before .before .args .c) (c .flow-of .result)
 flows c =
     let s = c .before .before .before .before in
     let o = c .before .own .ensures in
@@ -59,7 +61,7 @@ module _ (c : tie.After-leaning Inv-loop μ-loop) where
   leans : (i : ℕ) → i < 19 → {x : ℤ} → x ≡ getD (c .leaning .result) i (pos 0) → isPositive x ≡ leansTo (scene start) (start .args .c) i
   leans i h e =
       ap isPositive (e ∙ ap (λ (l : List ℤ). getD l i (pos 0)) (c .leaning .ensures) ∙ getD-tab 19 _ (pos 0) i h)
-      ∙ leans-is _ (start .args .parts .now) _ _ _ noSettings _ (start .pre .2 .self) i
+      ∙ leans-is (d3q19 .weight) _ (partOf (start .args .parts .now)) _ _ _ noSettings _ (start .pre .2 .self) i
 
 sub-k : tie.Need-sub-k Inv-loop μ-loop
 sub-k c = search needs
@@ -98,7 +100,7 @@ loop-holds c =
       omega arith,
       refl,
       upto-more (pos 0) (streamed (scene s) (s .args .c)) (replicate 19 (pos 0)) 0 _ (omega arith) (upto-zero (pos 0) _ (replicate 19 (pos 0)))
-          (toZ-ofZ (sfits-of {w = w32} (c .f .given)) ∙ sym (streamed-rest _ _ _ _ _ _ _)),
+          (toZ-ofZ (sfits-of {w = w32} (c .f .given)) ∙ ap (λ (n : ℕ). getD (s .args .parts .now) n (pos 0)) (sym (add-zero (19 * s .args .c))) ∙ sym (streamed-rest _ _ _ _ _ _ _ _)),
     )
 
 mul-arriving : tie.Need-mul-arriving Inv-loop μ-loop
@@ -236,10 +238,10 @@ loop-again c =
       upto-pair (pos 0) (streamed (scene s) (s .args .c)) (l .loop .f) (l .loop .i) _ _ (omega (arith, l .loop .inv .2)) (l .loop .inv .3)
           (toZ-ofZ (sfits-of {w = w32} (c .arriving2 .ok))
           ∙ c .arriving2 .ensures (s .args .fill .now) (s .args .off .now) (s .args .low) refl (leans d (l .loop .i + 1) t (toZ-ofZ (sfits-of {w = w32} (c .before .arriving-arg6 .given))))
-          ∙ sym (streamed-odd _ _ _ _ _ _ _ (l .loop .i) odd))
+          ∙ sym (streamed-odd _ _ _ _ _ _ _ _ (l .loop .i) odd))
           (toZ-ofZ (sfits-of {w = w32} (a .arriving .ok))
           ∙ a .arriving .ensures (s .args .fill .now) (s .args .off .now) (s .args .low) refl (leans d (l .loop .i) (a .before .before .before .before .loop-test .taken) (toZ-ofZ (sfits-of {w = w32} (a .before .arriving-arg3 .given))))
-          ∙ sym (streamed-even _ _ _ _ _ _ _ (l .loop .i) odd)),
+          ∙ sym (streamed-even _ _ _ _ _ _ _ _ (l .loop .i) odd)),
     )
 
 returns : tie.Need-returns Inv-loop μ-loop

@@ -4,10 +4,12 @@ use mathlib.Core.Path.{_≡_, sym, _∙_}
 use lib.ListN.{getD}
 use mir.Facts.{toZ-ofZ}
 use Rattle.whole.specs.Machine.{Val, machine, known, same, does-fit, reads-as}
+use Rattle.lattice.specs.Lattice.{d3q19}
+use Rattle.grid.specs.Fill.{partOf}
 use Rattle.grid.specs.Step.{tradedMass}
-use Rattle.grid.specs.Sight.{sight, noSettings}
-use Rattle.grid.specs.Between.{uncarried}
+use Rattle.grid.specs.Sight.{boxSight, noSettings}
 use Rattle.grid.proofs.Lists.{getD-there}
+use Rattle.flow.specs.Trade.{tradingOf}
 use Rattle.flow.proofs.Trades.{by-other, mass-within}
 use Rattle.flow.proofs.trading.new_mass.Statement.{statement}
 use Rattle.flow.proofs.trading.new_mass.Tie as tie
@@ -26,8 +28,8 @@ abbrev mass-of : (c : tie.After-traded-mass) → Val (c .traded-mass .result)
 mass-of c =
     let s = c .before .before .before .before .before in
     same (c .traded-mass .ensures)
-    (known (tradedMass (sight (uncarried (s .args .flags .now) (s .args .parts .now) (s .args .mass .now) (s .args .fill .now)) (s .args .off .now) (s .args .low) noSettings) (s .args .c)) 44826624
-    (mass-within (s .args .flags .now) (s .args .parts .now) (s .args .mass .now) (s .args .fill .now) (s .args .off .now) (s .args .low) (s .args .c) (s .pre .0) (s .pre .2 (interface (c .before))) (interface (c .before)) .abs))
+    (known (tradedMass (boxSight (s .args .flags .now) (s .args .parts .now) (s .args .mass .now) (s .args .fill .now) (s .args .off .now) (s .args .low) noSettings) (s .args .c)) 44826624
+    (mass-within (s .args .flags .now) (partOf (s .args .parts .now)) (s .args .mass .now) (s .args .fill .now) (s .args .off .now) (s .args .low) (s .args .c) (tradingOf (s .pre .0)) (s .pre .2 (interface (c .before))) (interface (c .before)) (d3q19 .weight) .abs))
 
 cast-result : tie.Need-cast-result
 cast-result c = let m = mass-of c in does-fit (search machine depth 20) tt
@@ -39,7 +41,7 @@ returns-2 : tie.Need-returns-2
 returns-2 c =
     let s = c .before .before .before .before in
     toZ-ofZ (s .fits .rho)
-    ∙ sym (by-other (getD (s .args .flags .now) (s .args .c) 3) (s .args .rho) (tradedMass (sight (uncarried (s .args .flags .now) (s .args .parts .now) (s .args .mass .now) (s .args .fill .now)) (s .args .off .now) (s .args .low) noSettings) (s .args .c))
+    ∙ sym (by-other (getD (s .args .flags .now) (s .args .c) 3) (s .args .rho) (tradedMass (boxSight (s .args .flags .now) (s .args .parts .now) (s .args .mass .now) (s .args .fill .now) (s .args .off .now) (s .args .low) noSettings) (s .args .c))
     (λ e. c .if1 .left (getD-there (s .args .flags .now) (s .args .c) 0 3 (s .pre .1) ∙ e)))
 
 pub new-mass-spec : {M : Type 1} → statement M

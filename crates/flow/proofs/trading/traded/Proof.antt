@@ -9,6 +9,7 @@ use mir.Syntax.{w64}
 use mir.Val.{toZ, ofZ}
 use Rattle.whole.specs.Parts.{parts-≤}
 use Rattle.lattice.specs.Cell.{exchange}
+use Rattle.grid.specs.Fill.{partOf}
 use Rattle.flow.specs.Trade.{apart}
 use Rattle.flow.proofs.Held.{held32, held64, apart-in}
 use Rattle.flow.proofs.Trades.{passed-fluid, passed-interface, passed-neither}
@@ -47,7 +48,7 @@ difference-requires c κs = search needs
 
 -- the code's difference
 apart-is : (c : tie.After-difference) → let s = c .before .before .before .before .before .before in
-    toZ w64 (ofZ w64 (c .difference .result)) ≡ apart (s .args .parts .now) (s .args .c) (s .args .b) (s .args .i) (s .args .k)
+    toZ w64 (ofZ w64 (c .difference .result)) ≡ apart (partOf (s .args .parts .now)) (s .args .c) (s .args .b) (s .args .i) (s .args .k)
 apart-is c =
     let s = c .before .before .before .before .before .before in
     held64 (c .difference .result) (c .difference .ok) ∙ c .difference .ensures
@@ -59,7 +60,7 @@ returns : tie.Need-returns
 returns c =
     let s = c .before .before .before .before .before .before .before in
     apart-is (c .before)
-    ∙ passed-fluid (s .args .flags .now) (s .args .parts .now) (s .args .fill .now) (s .args .c) (s .args .b) (s .args .i) (s .args .k) (s .pre .3) (c .if1 .taken)
+    ∙ passed-fluid (s .args .flags .now) (partOf (s .args .parts .now)) (s .args .fill .now) (s .args .c) (s .args .b) (s .args .i) (s .args .k) (s .pre .3) (c .if1 .taken)
 
 mul-both : tie.Need-mul-both
 mul-both c = search needs
@@ -99,12 +100,12 @@ returns-2 c =
     ∙ c .exchange .ensures
     ∙ ap (λ (z : ℤ). exchange (natAbs z) (toZ w64 (ofZ w64 (d .difference .result)))) (both-is (c .before))
     ∙ ap (λ (z : ℤ). exchange (getD (s .args .fill .now) (s .args .c) 0 + getD (s .args .fill .now) (s .args .b) 0) z) (apart-is d)
-    ∙ passed-interface (s .args .flags .now) (s .args .parts .now) (s .args .fill .now) (s .args .c) (s .args .b) (s .args .i) (s .args .k) (s .pre .3) (c .before .before .before .before .if2 .taken)
+    ∙ passed-interface (s .args .flags .now) (partOf (s .args .parts .now)) (s .args .fill .now) (s .args .c) (s .args .b) (s .args .i) (s .args .k) (s .pre .3) (c .before .before .before .before .if2 .taken)
 
 returns-3 : tie.Need-returns-3
 returns-3 c =
     let s = c .before .before .before .before .before .before .before .before in
-    passed-neither (s .args .flags .now) (s .args .parts .now) (s .args .fill .now) (s .args .c) (s .args .b) (s .args .i) (s .args .k) (s .pre .3) (c .before .if1 .left) (c .if2 .left)
+    passed-neither (s .args .flags .now) (partOf (s .args .parts .now)) (s .args .fill .now) (s .args .c) (s .args .b) (s .args .i) (s .args .k) (s .pre .3) (c .before .if1 .left) (c .if2 .left)
 
 pub traded-spec : {M : Type 1} → statement M
 traded-spec =

@@ -8,6 +8,9 @@ use lib.ListN.{getD}
 use mir.Syntax.{w64}
 use mir.Val.{toZ}
 use Rattle.whole.specs.Machine.{Val, machine, known, same, does-fit, reads-as}
+use Rattle.lattice.specs.Lattice.{d3q19}
+use Rattle.grid.specs.Fill.{partOf}
+use Rattle.flow.specs.Trade.{tradingOf}
 use Rattle.flow.proofs.Held.{held32, held64}
 use Rattle.flow.proofs.Trades.{gain, gained, gained-none, gained-all, first-is, second-is, gained-pair, gain-within, gained-within}
 use Rattle.flow.proofs.trading.traded_mass.Statement.{statement}
@@ -15,7 +18,7 @@ use Rattle.flow.proofs.trading.traded_mass.Tie as tie
 
 abbrev Inv-loop : tie.InvT-loop
 Inv-loop flags parts mass fill off low c k m₀ i₀ m i =
-    (1 ≤ i) × (i ≤ 19) × (i % 2 ≡ 1) × (toZ w64 m ≡ gained flags parts mass fill off low c (i - 1))
+    (1 ≤ i) × (i ≤ 19) × (i % 2 ≡ 1) × (toZ w64 m ≡ gained flags (partOf parts) mass fill off low c (i - 1))
 
 abbrev μ-loop : tie.MeasureT-loop
 μ-loop flags parts mass fill off low c k m₀ i₀ m i = 19 - i
@@ -39,7 +42,7 @@ loop-holds c =
       omega arith,
       refl,
       held64 (c .wide .result) (c .wide .ok) ∙ c .wide .ensures ∙ held32 (getD (s .args .mass .now) (s .args .c) (pos 0)) (c .before .wide-arg .given)
-          ∙ gained-none (s .args .flags .now) (s .args .parts .now) (s .args .mass .now) (s .args .fill .now) (s .args .off .now) (s .args .low) (s .args .c),
+          ∙ gained-none (s .args .flags .now) (partOf (s .args .parts .now)) (s .args .mass .now) (s .args .fill .now) (s .args .off .now) (s .args .low) (s .args .c),
     )
 
 mul-traded : tie.Need-mul-traded Inv-loop μ-loop
@@ -65,24 +68,24 @@ abbrev so-far : (c : tie.At-loop Inv-loop μ-loop) → Val (toZ w64 (c .loop .m)
 so-far c =
     let s = c .before .before .before .before .before in
     same (c .loop .inv .3)
-    (known (gained (s .args .flags .now) (s .args .parts .now) (s .args .mass .now) (s .args .fill .now) (s .args .off .now) (s .args .low) (s .args .c) (c .loop .i - 1)) 44826624
-    (gained-within (s .args .flags .now) (s .args .parts .now) (s .args .mass .now) (s .args .fill .now) (s .args .off .now) (s .args .low) (s .args .c) (s .pre .0) (s .pre .1) (s .pre .2) (c .loop .i - 1) (omega arith) .abs))
+    (known (gained (s .args .flags .now) (partOf (s .args .parts .now)) (s .args .mass .now) (s .args .fill .now) (s .args .off .now) (s .args .low) (s .args .c) (c .loop .i - 1)) 44826624
+    (gained-within (s .args .flags .now) (partOf (s .args .parts .now)) (s .args .mass .now) (s .args .fill .now) (s .args .off .now) (s .args .low) (s .args .c) (tradingOf (s .pre .0)) (s .pre .1) (s .pre .2) (c .loop .i - 1) (omega arith) .abs))
 
 abbrev one : (c : tie.After-traded Inv-loop μ-loop) → Val (c .traded .result)
 one c =
     let s = c .before .before .before .before .before .before .before .before in
     let i = c .before .before .before .loop .i in
-    same (c .traded .ensures ∙ first-is (s .args .flags .now) (s .args .parts .now) (s .args .mass .now) (s .args .fill .now) (s .args .off .now) (s .args .low) (s .args .c) i (c .before .before .before .loop .inv .2))
-    (known (gain (s .args .flags .now) (s .args .parts .now) (s .args .mass .now) (s .args .fill .now) (s .args .off .now) (s .args .low) (s .args .c) i) 2359296
-    (gain-within (s .args .flags .now) (s .args .parts .now) (s .args .mass .now) (s .args .fill .now) (s .args .off .now) (s .args .low) (s .args .c) (s .pre .0) (s .pre .1) (s .pre .2) i (omega arith) (omega arith) .abs))
+    same (c .traded .ensures ∙ first-is (s .args .flags .now) (partOf (s .args .parts .now)) (s .args .mass .now) (s .args .fill .now) (s .args .off .now) (s .args .low) (s .args .c) i (c .before .before .before .loop .inv .2))
+    (known (gain (s .args .flags .now) (partOf (s .args .parts .now)) (s .args .mass .now) (s .args .fill .now) (s .args .off .now) (s .args .low) (s .args .c) i) 2359296
+    (gain-within (s .args .flags .now) (partOf (s .args .parts .now)) (s .args .mass .now) (s .args .fill .now) (s .args .off .now) (s .args .low) (s .args .c) (tradingOf (s .pre .0)) (s .pre .1) (s .pre .2) i (omega arith) (omega arith) .abs))
 
 abbrev other : (c : tie.After-traded2 Inv-loop μ-loop) → Val (c .traded2 .result)
 other c =
     let s = c .before .before .before .before .before .before .before .before .before .before in
     let i = c .before .before .before .before .before .loop .i in
-    same (c .traded2 .ensures ∙ second-is (s .args .flags .now) (s .args .parts .now) (s .args .mass .now) (s .args .fill .now) (s .args .off .now) (s .args .low) (s .args .c) i (c .before .before .before .before .before .loop .inv .2))
-    (known (gain (s .args .flags .now) (s .args .parts .now) (s .args .mass .now) (s .args .fill .now) (s .args .off .now) (s .args .low) (s .args .c) (i + 1)) 2359296
-    (gain-within (s .args .flags .now) (s .args .parts .now) (s .args .mass .now) (s .args .fill .now) (s .args .off .now) (s .args .low) (s .args .c) (s .pre .0) (s .pre .1) (s .pre .2) (i + 1) (omega arith) (omega arith) .abs))
+    same (c .traded2 .ensures ∙ second-is (s .args .flags .now) (partOf (s .args .parts .now)) (s .args .mass .now) (s .args .fill .now) (s .args .off .now) (s .args .low) (s .args .c) i (c .before .before .before .before .before .loop .inv .2))
+    (known (gain (s .args .flags .now) (partOf (s .args .parts .now)) (s .args .mass .now) (s .args .fill .now) (s .args .off .now) (s .args .low) (s .args .c) (i + 1)) 2359296
+    (gain-within (s .args .flags .now) (partOf (s .args .parts .now)) (s .args .mass .now) (s .args .fill .now) (s .args .off .now) (s .args .low) (s .args .c) (tradingOf (s .pre .0)) (s .pre .1) (s .pre .2) (i + 1) (omega arith) (omega arith) .abs))
 
 add-m : tie.Need-add-m Inv-loop μ-loop
 add-m c =
@@ -133,14 +136,14 @@ loop-again c =
       omega arith,
       omega arith,
       omega arith,
-      reads-as (search machine depth 20) tt ∙ gained-pair (s .args .flags .now) (s .args .parts .now) (s .args .mass .now) (s .args .fill .now) (s .args .off .now) (s .args .low) (s .args .c) (c .before .before .before .before .before .loop .i) (omega arith),
+      reads-as (search machine depth 20) tt ∙ gained-pair (s .args .flags .now) (partOf (s .args .parts .now)) (s .args .mass .now) (s .args .fill .now) (s .args .off .now) (s .args .low) (s .args .c) (c .before .before .before .before .before .loop .i) (omega arith),
     )
 
 returns : tie.Need-returns Inv-loop μ-loop
 returns c =
     let s = c .before .before .before .before .before .before in
     let e : c .before .loop .i - 1 ≡ 18 = omega arith in
-    c .before .loop .inv .3 ∙ ap (gained (s .args .flags .now) (s .args .parts .now) (s .args .mass .now) (s .args .fill .now) (s .args .off .now) (s .args .low) (s .args .c)) e ∙ gained-all (s .args .flags .now) (s .args .parts .now) (s .args .mass .now) (s .args .fill .now) (s .args .off .now) (s .args .low) (s .args .c)
+    c .before .loop .inv .3 ∙ ap (gained (s .args .flags .now) (partOf (s .args .parts .now)) (s .args .mass .now) (s .args .fill .now) (s .args .off .now) (s .args .low) (s .args .c)) e ∙ gained-all (s .args .flags .now) (partOf (s .args .parts .now)) (s .args .mass .now) (s .args .fill .now) (s .args .off .now) (s .args .low) (s .args .c) (d3q19 .weight)
 
 pub traded-mass-spec : {M : Type 1} → statement M
 traded-mass-spec =

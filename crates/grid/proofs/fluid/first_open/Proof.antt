@@ -1,19 +1,24 @@
--- `grid::fluid::first_open`: where none may be open, test 5's place is N. Assumes nothing.
-use borrow.Author.Needs.{needs}
+-- `grid::fluid::first_open`: by the box's offsets, test 5's place. Assumes nothing.
+use mathlib.Core.Path.{_∙_}
+use Rattle.grid.proofs.Beside.{Offsets}
+use Rattle.grid.proofs.Open.{open-box, embedded}
 use Rattle.grid.proofs.fluid.first_open.Statement.{statement}
 use Rattle.grid.proofs.fluid.first_open.Tie as tie
 
-any-open-requires : tie.Need-any-open-requires
-any-open-requires c κs = search needs
+offs : (c : tie.After-low-of) → Offsets (c .before .before .before .args .s) (c .before .offsets .result) (c .low-of .result)
+offs c = record { table = c .before .offsets .ensures; lowest = c .low-of .ensures }
 
-lowest-open-requires : tie.Need-lowest-open-requires
-lowest-open-requires c κs = search needs
+offsets-requires : tie.Need-offsets-requires
+offsets-requires c κs = c .before .pre .sides
+
+low-of-requires : tie.Need-low-of-requires
+low-of-requires c κs = c .before .before .pre .sides
+
+first-open-by-requires : tie.Need-first-open-by-requires
+first-open-by-requires c κs = embedded _ _ _ (c .before .before .before .before .pre) (offs (c .before))
 
 returns : tie.Need-returns
-returns c = search needs
-
-returns-2 : tie.Need-returns-2
-returns-2 c = c .before .any-open .ensures (c .if1 .left)
+returns c = c .first-open-by .ensures ∙ open-box _ _ _ (c .before .before .before .before .before .pre) (offs (c .before .before))
 
 pub first-open-spec : {M : Type 1} → statement M
-first-open-spec = tie.close (tie.spec any-open-requires lowest-open-requires returns returns-2)
+first-open-spec = tie.close (tie.spec offsets-requires low-of-requires first-open-by-requires returns)

@@ -3,12 +3,14 @@ use mathlib.Core.Path.{_≡_, _∙_, ap, ap₂}
 use native.Mathlib.Omega.{arith}
 use lib.IntN.{ℤ, natAbs, _+ℤ_}
 use Rattle.whole.specs.Machine.{Within}
-use Rattle.lattice.specs.Lattice.{V3, density, momentum}
+use Rattle.lattice.specs.Lattice.{V3, d3q19, density, momentum}
 use Rattle.lattice.specs.Cell.{pull}
 use Rattle.lattice.specs.Body.{Bounded}
 use Rattle.lattice.proofs.Momentum.{x-in, y-in, z-in, density-in}
-use Rattle.grid.specs.Sight.{sight}
+use Rattle.grid.specs.Sight.{bodiesOf, sight}
 use Rattle.grid.specs.Step.{newMomentum}
+use Rattle.flow.proofs.Spans.{light19}
+use Rattle.grid.specs.Fill.{partOf}
 use Rattle.turn.proofs.Births.{wet-low, density-now, momentum-now, bounded-now}
 use Rattle.turn.proofs.birth.flow_at.Statement.{statement}
 use Rattle.turn.proofs.birth.flow_at.Tie as tie
@@ -21,7 +23,7 @@ streamed-requires c κs =
 bounded : (c : tie.After-streamed) → Bounded (c .streamed .result) 1073741824 33554432
 bounded c =
     let s = c .before .before .before in
-    bounded-now (s .args .flags .now) (s .args .parts .now) (s .args .fill .now) (s .args .off .now) (s .args .low) (s .args .g) (s .args .b) (c .streamed .result) (c .streamed .ensures) (s .pre .0 .bodies)
+    bounded-now (d3q19 .weight) (s .args .flags .now) (partOf (s .args .parts .now)) (s .args .fill .now) (s .args .off .now) (s .args .low) (s .args .g) (s .args .b) (c .streamed .result) (c .streamed .ensures) light19 (bodiesOf (s .pre .0 .bodies))
     (s .pre .0 .around (s .args .b) (s .pre .1) (wet-low _ (s .pre .2))) (s .pre .2)
 
 flow-of-requires : tie.Need-flow-of-requires
@@ -42,14 +44,14 @@ pulled-requires c κs =
     (looser (e .0) (density-in l b), loose (ap (λ (v : V3). v .x) (e .1)) (x-in l b), loose (ap (λ (v : V3). v .y) (e .1)) (y-in l b), loose (ap (λ (v : V3). v .z) (e .1)) (z-in l b), c .before .before .before .before .pre .0 .gravity)
 
 returns : tie.Need-returns
-unfolding newMomentum sight
+unfolding newMomentum sight momentum
 returns c =
     let s = c .before .before .before .before .before in
     let l = c .before .before .streamed .result in
     let e = c .before .flow-of .ensures in
     let p = c .pulled .ensures in
-    let ρ = e .0 ∙ density-now (s .args .flags .now) (s .args .parts .now) (s .args .fill .now) (s .args .off .now) (s .args .low) (s .args .g) (s .args .b) l (c .before .before .streamed .ensures) in
-    let j = e .1 ∙ momentum-now (s .args .flags .now) (s .args .parts .now) (s .args .fill .now) (s .args .off .now) (s .args .low) (s .args .g) (s .args .b) l (c .before .before .streamed .ensures) in
+    let ρ = e .0 ∙ density-now (d3q19 .weight) (s .args .flags .now) (partOf (s .args .parts .now)) (s .args .fill .now) (s .args .off .now) (s .args .low) (s .args .g) (s .args .b) l (c .before .before .streamed .ensures) in
+    let j = e .1 ∙ momentum-now (d3q19 .weight) (s .args .flags .now) (partOf (s .args .parts .now)) (s .args .fill .now) (s .args .off .now) (s .args .low) (s .args .g) (s .args .b) l (c .before .before .streamed .ensures) in
     record {
       rho = p .rho ∙ ρ;
       x = p .x ∙ ap₂ (λ (a r : ℤ). a +ℤ pull r (s .args .g .gx)) (ap (λ (v : V3). v .x) j) ρ;

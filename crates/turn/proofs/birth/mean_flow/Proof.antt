@@ -3,12 +3,15 @@ use borrow.Author.Needs.{needs}
 use mathlib.Core.Path.{_≡_, subst}
 use Prim.Native.Nat.{ℕ, _-_, _≤_}
 use native.Mathlib.Omega.{arith}
+use Rattle.lattice.specs.Lattice.{d3q19}
+use Rattle.grid.specs.Fill.{partOf}
+use Rattle.turn.specs.Born.{testedOf}
 use Rattle.turn.proofs.Means.{Summed, summed-none, summed-more, roomy, countable-all, begins}
 use Rattle.turn.proofs.birth.mean_flow.Statement.{statement}
 use Rattle.turn.proofs.birth.mean_flow.Tie as tie
 
 abbrev Inv-loop : tie.InvT-loop
-Inv-loop flags parts fill off low c g k t₀ i₀ t i = (1 ≤ i) × (i ≤ 19) × Summed flags parts fill off low g c (i - 1) t
+Inv-loop flags parts fill off low c g k t₀ i₀ t i = (1 ≤ i) × (i ≤ 19) × Summed (d3q19 .weight) flags (partOf parts) fill off low g c (i - 1) t
 
 abbrev μ-loop : tie.MeasureT-loop
 μ-loop flags parts fill off low c g k t₀ i₀ t i = 19 - i
@@ -17,7 +20,7 @@ sub-k : tie.Need-sub-k Inv-loop μ-loop
 sub-k c = search needs
 
 loop-holds : tie.Need-loop-holds Inv-loop μ-loop
-loop-holds c = let s = c .before .before in (omega arith, omega arith, summed-none (s .args .flags .now) (s .args .parts .now) (s .args .fill .now) (s .args .off .now) (s .args .low) (s .args .g) (s .args .c))
+loop-holds c = let s = c .before .before in (omega arith, omega arith, summed-none (d3q19 .weight) (s .args .flags .now) (partOf (s .args .parts .now)) (s .args .fill .now) (s .args .off .now) (s .args .low) (s .args .g) (s .args .c))
 
 mul-with-cell : tie.Need-mul-with-cell Inv-loop μ-loop
 mul-with-cell c = search needs
@@ -34,7 +37,7 @@ with-cell-requires : tie.Need-with-cell-requires Inv-loop μ-loop
 with-cell-requires c κs =
     let s = c .before .before .before .before .before in
     let l = c .before .before .loop in
-    (s .pre .0, s .pre .1 .each (l .i) (omega arith), roomy (s .args .flags .now) (s .args .parts .now) (s .args .fill .now) (s .args .off .now) (s .args .low) (s .args .g) (s .args .c) (s .pre .0) (s .pre .1) (l .i - 1) (omega arith) (l .inv .2))
+    (s .pre .0, s .pre .1 .each (l .i) (omega arith), roomy (d3q19 .weight) (s .args .flags .now) (partOf (s .args .parts .now)) (s .args .fill .now) (s .args .off .now) (s .args .low) (s .args .g) (s .args .c) (testedOf (s .pre .0)) (s .pre .1) (l .i - 1) (omega arith) (l .inv .2))
 
 add-i : tie.Need-add-i Inv-loop μ-loop
 add-i c = search needs
@@ -46,20 +49,20 @@ loop-again : tie.Need-loop-again Inv-loop μ-loop
 loop-again c =
     let s = c .before .before .before .before .before .before in
     let l = c .before .before .before .loop in
-    (omega arith, omega arith, summed-more (s .args .flags .now) (s .args .parts .now) (s .args .fill .now) (s .args .off .now) (s .args .low) (s .args .g) (s .args .c) (l .i) (l .inv .0) (l .inv .2) (c .with-cell .ensures))
+    (omega arith, omega arith, summed-more (d3q19 .weight) (s .args .flags .now) (partOf (s .args .parts .now)) (s .args .fill .now) (s .args .off .now) (s .args .low) (s .args .g) (s .args .c) (l .i) (l .inv .0) (l .inv .2) (c .with-cell .ensures))
 
 -- all directions
-all-summed : (c : tie.After-loop Inv-loop μ-loop) → let s = c .before .before .before .before in Summed (s .args .flags .now) (s .args .parts .now) (s .args .fill .now) (s .args .off .now) (s .args .low) (s .args .g) (s .args .c) 18 (c .before .loop .t)
+all-summed : (c : tie.After-loop Inv-loop μ-loop) → let s = c .before .before .before .before in Summed (d3q19 .weight) (s .args .flags .now) (partOf (s .args .parts .now)) (s .args .fill .now) (s .args .off .now) (s .args .low) (s .args .g) (s .args .c) 18 (c .before .loop .t)
 all-summed c =
     let s = c .before .before .before .before in
     let e : c .before .loop .i - 1 ≡ 18 = omega arith in
-    subst (λ (m : ℕ). Summed (s .args .flags .now) (s .args .parts .now) (s .args .fill .now) (s .args .off .now) (s .args .low) (s .args .g) (s .args .c) m (c .before .loop .t)) e (c .before .loop .inv .2)
+    subst (λ (m : ℕ). Summed (d3q19 .weight) (s .args .flags .now) (partOf (s .args .parts .now)) (s .args .fill .now) (s .args .off .now) (s .args .low) (s .args .g) (s .args .c) m (c .before .loop .t)) e (c .before .loop .inv .2)
 
 mean-requires : tie.Need-mean-requires Inv-loop μ-loop
-mean-requires c κs = let s = c .before .before .before .before in countable-all (s .args .flags .now) (s .args .parts .now) (s .args .fill .now) (s .args .off .now) (s .args .low) (s .args .g) (s .args .c) (s .pre .0) (s .pre .1) (all-summed c) (s .pre .2)
+mean-requires c κs = let s = c .before .before .before .before in countable-all (d3q19 .weight) (s .args .flags .now) (partOf (s .args .parts .now)) (s .args .fill .now) (s .args .off .now) (s .args .low) (s .args .g) (s .args .c) (testedOf (s .pre .0)) (s .pre .1) (all-summed c) (s .pre .2)
 
 returns : tie.Need-returns Inv-loop μ-loop
-returns c = let s = c .before .before .before .before .before in begins (s .args .flags .now) (s .args .parts .now) (s .args .fill .now) (s .args .off .now) (s .args .low) (s .args .g) (s .args .c) (s .pre .0) (s .pre .1) (all-summed (c .before)) (c .mean .ensures)
+returns c = let s = c .before .before .before .before .before in begins (d3q19 .weight) (s .args .flags .now) (partOf (s .args .parts .now)) (s .args .fill .now) (s .args .off .now) (s .args .low) (s .args .g) (s .args .c) (testedOf (s .pre .0)) (s .pre .1) (all-summed (c .before)) (c .mean .ensures)
 
 pub mean-flow-spec : {M : Type 1} → statement M
 mean-flow-spec =

@@ -1,23 +1,24 @@
 -- `turn::birth::newborn`: visit after visit; the cells passed have their parts, the others are as they were. Assumes nothing.
 use borrow.Author.Needs.{needs}
-use mathlib.Core.Path.{_≡_, _∙_, ap, ap₂, subst}
+use mathlib.Core.Path.{_≡_, refl, _∙_, ap, ap₂, subst}
 use mathlib.Core.Bool.{Bool, _&&_}
 use mathlib.Core.List.{List}
-use Prim.Native.Nat.{ℕ, _+_, _-_, _≤_, _<_}
+use Prim.Native.Nat.{ℕ, _+_, _*_, _-_, _≤_, _<_}
 use native.Mathlib.Omega.{arith}
 use lib.ListN.{length}
 use Rattle.whole.specs.Fold.{all}
+use Rattle.grid.specs.Fill.{partOf}
 use Rattle.grid.specs.Passes.{lowOf}
 use Rattle.turn.specs.Born.{flowSight, newlyBorn, laterFair, Peopled}
 use Rattle.turn.proofs.Weighed.{all-none, all-more}
-use Rattle.turn.proofs.Newborns.{Reached, reached-zero, reached-more, reached-past, unborn, visited-fair, peopled}
+use Rattle.turn.proofs.Newborns.{Reached, reached-zero, reached-more, reached-past, unborn, visited-fair, visited-size, visited-list, peopled}
 use Rattle.turn.proofs.birth.newborn.Statement.{statement}
 use Rattle.turn.proofs.birth.newborn.Tie as tie
 
 abbrev Inv-loop : tie.InvT-loop
 Inv-loop flags parts fill flags2 parts2₀ g off low fair₀ c₀ parts2 fair c =
-    (c ≤ length flags) × Reached (flowSight flags parts fill off low g) (newlyBorn flags flags2) parts2₀ parts2 c
-    × (fair ≡ all c (laterFair (flowSight flags parts fill off low g) (newlyBorn flags flags2)))
+    (c ≤ length flags) × Reached (flowSight flags parts fill off low g) (newlyBorn flags flags2) (partOf parts2₀) (partOf parts2) c
+    × (length parts2 ≡ length parts2₀) × (fair ≡ all c (laterFair (flowSight flags parts fill off low g) (newlyBorn flags flags2)))
 
 abbrev μ-loop : tie.MeasureT-loop
 μ-loop flags parts fill flags2 parts2₀ g off low fair₀ c₀ parts2 fair c = length flags - c
@@ -33,13 +34,13 @@ loop-holds c =
     let a = c .before .before .before .before .before .args in
     let S = flowSight (a .flags .now) (a .parts .now) (a .fill .now) (c .before .offsets .result) (c .low-of .result) (a .g) in
     let w = newlyBorn (a .flags .now) (a .flags2 .now) in
-    (omega arith, reached-zero S w (a .parts2 .now), all-none (laterFair S w))
+    (omega arith, reached-zero S w (partOf (a .parts2 .now)), refl, all-none (laterFair S w))
 
 visit-requires : tie.Need-visit-requires Inv-loop μ-loop
 visit-requires c κs =
     let s = c .before .before .before .before .before .before .before .before .before in
     let l = c .before .before .before .loop in
-    (rw (c .before .before .before .before .before .offsets .ensures, c .before .before .before .before .low-of .ensures) (s .pre .1), c .before .before .loop-test .taken, l .inv .1 .long ∙ s .pre .2)
+    (rw (c .before .before .before .before .before .offsets .ensures, c .before .before .before .before .low-of .ensures) (s .pre .1), c .before .before .loop-test .taken, l .inv .2 ∙ s .pre .2)
 
 add-next-of : tie.Need-add-next-of Inv-loop μ-loop
 add-next-of c = search needs
@@ -63,19 +64,20 @@ loop-again c =
     let S = flowSight (a .flags .now) (a .parts .now) (a .fill .now) (b .before .before .before .before .before .before .before .offsets .result) (b .before .before .before .before .before .before .low-of .result) (a .g) in
     let w = newlyBorn (a .flags .now) (a .flags2 .now) in
     let h : l .c < length (a .flags .now) = b .before .before .before .before .loop-test .taken in
+    let room : 19 * l .c + 19 ≤ length (l .parts2) = omega (arith, l .inv .2, s .pre .2) in
     let n = c .next-of .ensures in
     let m : c .next-of .result ≤ length (a .flags .now) = omega (arith, n .most, s .pre .1 .count) in
     -- up to the next interface cell nothing is born
     let r =
-    reached-past S w (a .parts2 .now) (b .before .visit .last .1 .1 .1 .1 .0) (length (a .flags .now)) (l .c + 1) (c .next-of .result) _ (s .pre .2) (n .least) m
+    reached-past S w (partOf (a .parts2 .now)) (partOf (b .before .visit .last .1 .1 .1 .1 .0)) (l .c + 1) (c .next-of .result) _ (n .least)
     (λ j k i. unborn (a .flags .now) (a .flags2 .now) j (omega arith) (s .pre .1 .count) (n .before j k i)) (
-      reached-more S w (a .parts2 .now) (l .parts2) (b .before .visit .last .1 .1 .1 .1 .0) (l .c) (omega (arith, s .pre .2)) (l .inv .1) (b .before .visit .ensures),
-      ap₂ (λ (x y : Bool). x && y) (l .inv .2) (visited-fair S w (a .parts2 .now) (b .before .visit .ensures)) ∙ all-more (l .c) (laterFair S w),
+      reached-more S w (partOf (a .parts2 .now)) (partOf (l .parts2)) (partOf (b .before .visit .last .1 .1 .1 .1 .0)) (l .c) (l .inv .1) (visited-list S w (l .parts2) (l .c) room (b .before .visit .ensures)),
+      ap₂ (λ (x y : Bool). x && y) (l .inv .3) (visited-fair S w (partOf (a .parts2 .now)) (b .before .visit .ensures)) ∙ all-more (l .c) (laterFair S w),
     ) in
-    (m, r .0, r .1)
+    (m, r .0, visited-size S w (l .parts2) (l .c) room (b .before .visit .ensures) ∙ l .inv .2, r .1)
 
 same-length : tie.Need-same-length Inv-loop μ-loop
-same-length c = c .before .loop .inv .1 .long
+same-length c = c .before .loop .inv .2
 
 returns : tie.Need-returns Inv-loop μ-loop
 returns c =
@@ -89,8 +91,8 @@ returns c =
     let e : l .c ≡ length (a .flags .now) = omega arith in
     subst (λ (off : List ℕ). Peopled (flowSight (a .flags .now) (a .parts .now) (a .fill .now) off (lowOf (a .s)) (a .g)) w (length (a .flags .now)) (a .parts2 .now) (l .parts2) (l .fair)) (o .ensures)
     (subst (λ (low : ℕ). Peopled (flowSight (a .flags .now) (a .parts .now) (a .fill .now) (o .result) low (a .g)) w (length (a .flags .now)) (a .parts2 .now) (l .parts2) (l .fair)) (m .ensures)
-    (peopled S w (a .parts2 .now) (l .parts2) (length (a .flags .now)) (l .fair) (s .pre .2) (subst (Reached S w (a .parts2 .now) (l .parts2)) e (l .inv .1))
-    (l .inv .2 ∙ ap (λ (n : ℕ). all n (laterFair S w)) e)))
+    (peopled S w (a .parts2 .now) (l .parts2) (length (a .flags .now)) (l .fair) (l .inv .2 ∙ s .pre .2) (subst (Reached S w (partOf (a .parts2 .now)) (partOf (l .parts2))) e (l .inv .1))
+    (l .inv .3 ∙ ap (λ (n : ℕ). all n (laterFair S w)) e)))
 
 pub newborn-spec : {M : Type 1} → statement M
 newborn-spec =

@@ -5,6 +5,9 @@ use mathlib.Core.List.{List}
 use Prim.Native.Nat.{_*_}
 use lib.IntN.{ℤ}
 use Rattle.grid.specs.Pasted.{pasted}
+use Rattle.lattice.specs.Lattice.{d3q19}
+use Rattle.grid.specs.Fill.{partOf}
+use Rattle.turn.specs.Born.{testedOf}
 use Rattle.turn.proofs.Means.{born-tame}
 use Rattle.turn.proofs.Births.{born-list, born-fair}
 use Rattle.turn.proofs.birth.put_born.Statement.{statement}
@@ -16,7 +19,7 @@ mean-flow-requires c κs = search needs
 equilibrium-requires : tie.Need-equilibrium-requires
 equilibrium-requires c κs =
     let s = c .before .before .before in
-    born-tame (s .args .flags .now) (s .args .parts .now) (s .args .fill .now) (s .args .off .now) (s .args .low) (s .args .g) (s .args .c) (s .pre .0) (s .pre .1) (c .mean-flow .ensures) (s .pre .2)
+    born-tame (d3q19 .weight) (s .args .flags .now) (partOf (s .args .parts .now)) (s .args .fill .now) (s .args .off .now) (s .args .low) (s .args .g) (s .args .c) (testedOf (s .pre .0)) (s .pre .1) (c .mean-flow .ensures) (s .pre .2)
 
 mul-paste : tie.Need-mul-paste
 mul-paste c = search needs
@@ -36,8 +39,8 @@ returns c =
     let b = c .before .before .before .before .before .mean-flow .ensures in
     let v = c .before .before .before .before .equilibrium in
     record {
-      parts = c .before .before .paste .ensures ∙ ap (λ (l : List ℤ). pasted (s .args .parts2 .now) (19 * s .args .c) l) (born-list (s .args .flags .now) (s .args .parts .now) (s .args .fill .now) (s .args .off .now) (s .args .low) (s .args .g) (s .args .c) b (v .result) (v .ensures .0));
-      fair-is = c .fair-parts .ensures ∙ born-fair (s .args .flags .now) (s .args .parts .now) (s .args .fill .now) (s .args .off .now) (s .args .low) (s .args .g) (s .args .c) b (v .result) (v .ensures .0);
+      parts = c .before .before .paste .ensures ∙ ap (λ (l : List ℤ). pasted (s .args .parts2 .now) (19 * s .args .c) l) (born-list (d3q19 .weight) (s .args .flags .now) (partOf (s .args .parts .now)) (s .args .fill .now) (s .args .off .now) (s .args .low) (s .args .g) (s .args .c) b (v .result) (v .ensures .0));
+      fair-is = c .fair-parts .ensures ∙ born-fair (d3q19 .weight) (s .args .flags .now) (partOf (s .args .parts .now)) (s .args .fill .now) (s .args .off .now) (s .args .low) (s .args .g) (s .args .c) b (v .result) (v .ensures .0);
     }
 
 pub put-born-spec : {M : Type 1} → statement M

@@ -4,6 +4,8 @@ use mathlib.Core.Path.{_≡_, sym, _∙_, ap}
 use lib.ListN.{getD}
 use Rattle.grid.specs.State.{liquid}
 use Rattle.grid.proofs.Lists.{getD-there}
+use Rattle.lattice.specs.Lattice.{d3q19}
+use Rattle.grid.specs.Fill.{partOf}
 use Rattle.turn.proofs.Births.{counted-in, left-out}
 use Rattle.turn.proofs.birth.with_cell.Statement.{statement}
 use Rattle.turn.proofs.birth.with_cell.Tie as tie
@@ -27,12 +29,12 @@ joined-requires c κs = search needs
 returns : tie.Need-returns
 returns c =
     let s = c .before .before .before .before .before .before .before in
-    counted-in (s .args .flags .now) (s .args .parts .now) (s .args .fill .now) (s .args .off .now) (s .args .low) (s .args .g) (s .args .b) (sym (reads-liquid (c .before .before .before)) ∙ c .before .before .if1 .taken) (c .before .flow-at .ensures) (c .joined .ensures)
+    counted-in (d3q19 .weight) (s .args .flags .now) (partOf (s .args .parts .now)) (s .args .fill .now) (s .args .off .now) (s .args .low) (s .args .g) (s .args .b) (sym (reads-liquid (c .before .before .before)) ∙ c .before .before .if1 .taken) (c .before .flow-at .ensures) (c .joined .ensures)
 
 returns-2 : tie.Need-returns-2
 returns-2 c =
     let s = c .before .before .before .before .before in
-    left-out (s .args .flags .now) (s .args .parts .now) (s .args .fill .now) (s .args .off .now) (s .args .low) (s .args .g) (s .args .b) (s .args .t) (sym (reads-liquid (c .before)) ∙ c .if1 .left)
+    left-out (d3q19 .weight) (s .args .flags .now) (partOf (s .args .parts .now)) (s .args .fill .now) (s .args .off .now) (s .args .low) (s .args .g) (s .args .b) (s .args .t) (sym (reads-liquid (c .before)) ∙ c .if1 .left)
 
 pub with-cell-spec : {M : Type 1} → statement M
 with-cell-spec =

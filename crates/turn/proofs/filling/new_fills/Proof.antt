@@ -22,7 +22,7 @@ use Rattle.turn.proofs.filling.new_fills.Statement.{statement}
 use Rattle.turn.proofs.filling.new_fills.Tie as tie
 
 abbrev Inv-loop : tie.InvT-loop
-Inv-loop flags parts mass fill₀ fair₀ c₀ fill fair c = Passed flags parts mass fill₀ fill fair c
+Inv-loop flags parts mass fill₀ fair₀ c₀ fill fair c = Passed flags (partOf parts) mass fill₀ fill fair c
 
 abbrev μ-loop : tie.MeasureT-loop
 μ-loop flags parts mass fill₀ fair₀ c₀ fill fair c = length flags - c
@@ -90,20 +90,20 @@ loop-again c =
     let h : l .c < length (a .flags .now) = b .before .before .loop-test .taken in
     let is = b .before .before .before .before .before .before .plain-fills .ensures in
     let n = c .next-of .ensures in
-    let P : List ℕ → Bool → ℕ → Type 0 = Passed (a .flags .now) (a .parts .now) (a .mass .now) (b .before .before .before .before .before .before .plain-fills .last .1 .0) in
-    passed-gap (a .flags .now) (a .parts .now) (a .mass .now) _ is (b .if1 .fill) (b .if1 .fair) (l .c + 1) (c .next-of .result) (n .least) (n .most) (n .before)
+    let P : List ℕ → Bool → ℕ → Type 0 = Passed (a .flags .now) (partOf (a .parts .now)) (a .mass .now) (b .before .before .before .before .before .before .plain-fills .last .1 .0) in
+    passed-gap (a .flags .now) (partOf (a .parts .now)) (a .mass .now) _ is (b .if1 .fill) (b .if1 .fair) (l .c + 1) (c .next-of .result) (n .least) (n .most) (n .before)
     (⊎-elim
     (λ w.
     let m = mass-of (record { before = record { before = record { before = b .before; if1 = w .0 }; wide-arg = w .1 }; wide = w .2 }) in
     let fill : b .if1 .fill ≡ set (l .fill) (l .c) (w .3 .result) = w .5 in
     let fair : b .if1 .fair ≡ (l .fair && w .4 .result) = w .6 in
     subst₂ (λ (x : List ℕ) (y : Bool). P x y (l .c + 1)) (sym fill) (sym fair)
-    (passed-interface (a .flags .now) (a .parts .now) (a .mass .now) _ is (l .fill) (l .fair) (l .c) (w .3 .result) (w .4 .result) h
-    (w .3 .ensures ∙ ap (λ (z : ℤ). fillOf z (density d3q19 (partOf (a .parts .now) (l .c)))) m ∙ fill-here (a .flags .now) (a .parts .now) (a .mass .now) (l .c) h (w .0 .taken))
-    (w .4 .ensures ∙ ap massGood m ∙ fair-here (a .flags .now) (a .parts .now) (a .mass .now) (l .c) h (w .0 .taken))
+    (passed-interface (a .flags .now) (partOf (a .parts .now)) (a .mass .now) _ is (l .fill) (l .fair) (l .c) (w .3 .result) (w .4 .result) h
+    (w .3 .ensures ∙ ap (λ (z : ℤ). fillOf z (density d3q19 (partOf (a .parts .now) (l .c)))) m ∙ fill-here (a .flags .now) (partOf (a .parts .now)) (a .mass .now) (l .c) h (w .0 .taken))
+    (w .4 .ensures ∙ ap massGood m ∙ fair-here (a .flags .now) (partOf (a .parts .now)) (a .mass .now) (l .c) h (w .0 .taken))
     (l .inv)))
     (λ w. subst₂ (λ (x : List ℕ) (y : Bool). P x y (l .c + 1)) (sym (w .1)) (sym (w .2))
-    (passed-other (a .flags .now) (a .parts .now) (a .mass .now) _ is (l .fill) (l .fair) (l .c) h (w .0 .left) (l .inv)))
+    (passed-other (a .flags .now) (partOf (a .parts .now)) (a .mass .now) _ is (l .fill) (l .fair) (l .c) h (w .0 .left) (l .inv)))
     (b .if1 .came))
 
 same-length : tie.Need-same-length Inv-loop μ-loop
@@ -113,7 +113,7 @@ returns : tie.Need-returns Inv-loop μ-loop
 returns c =
     let s = c .before .before .before .before .before .before .before .before in
     let l = c .before .loop in
-    refilled (s .args .flags .now) (s .args .parts .now) (s .args .mass .now) _ (c .before .before .before .before .plain-fills .ensures) (l .fill) (l .fair) (l .c) (c .loop-test .left) (l .inv)
+    refilled (s .args .flags .now) (partOf (s .args .parts .now)) (s .args .mass .now) _ (c .before .before .before .before .plain-fills .ensures) (l .fill) (l .fair) (l .c) (c .loop-test .left) (l .inv)
 
 pub new-fills-spec : {M : Type 1} → statement M
 new-fills-spec =

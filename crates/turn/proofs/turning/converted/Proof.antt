@@ -25,8 +25,7 @@ use Rattle.grid.specs.Halfway.{Moved, Turning, Turned}
 use Rattle.grid.specs.Passes.{lowOf, offsetOf}
 use Rattle.excess.specs.Gifts.{strayAt}
 use Rattle.turn.proofs.Converts.{asks-emptying, marks-settled, asks-marked, flags-turned, asks-fertile, parts-born, born-fair, midway, carry-told, carry-within}
-use Rattle.turn.proofs.Given.{gathered-is}
-use Rattle.turn.proofs.Handed.{grid-offsets, gathering, straying, settling, settled-is}
+use Rattle.turn.proofs.Handed.{gathered-box, gathering, straying, settling, settled-is}
 use Rattle.turn.proofs.turning.converted.Statement.{statement}
 use Rattle.turn.proofs.turning.converted.Tie as tie
 
@@ -113,7 +112,7 @@ settle-requires c κs =
     let ef = flags-turned (t .args .s) (t .args .g) a r (m .steady) _ _ ek (c .before .before .before .before .before .before .before .before .before .before .before .before .before .before .before .before .before .before .before .before .before .new-flags .ensures) in
     let ep = parts-born (t .args .s) (t .args .g) a r (m .steady) _ ef _ _ (m .parts-are) _ (c .before .before .before .before .before .before .before .before .before .before .before .before .before .before .before .before .newborn .ensures) in
     let w = midway (t .args .s) (t .args .g) a r (m .steady) _ ef _ _ _ ep (m .masses-are) ek in
-    let em = c .before .before .before .before .gather .ensures ∙ gathered-is w (grid-offsets (t .args .s)) in
+    let em = c .before .before .before .before .gather .ensures ∙ gathered-box w in
     settling w _ (ap length em ∙ length-tab (cellsOf (t .args .s)) (gatheredMass (sceneOf (t .args .s) (t .args .g) a)))
 
 fair-carry-requires : tie.Need-fair-carry-requires
@@ -129,7 +128,7 @@ same-length c =
     let ef = flags-turned (t .args .s) (t .args .g) a r (m .steady) _ _ ek (c .before .before .before .before .before .before .before .before .before .before .before .before .before .before .before .before .before .before .before .before .before .before .before .before .before .before .before .new-flags .ensures) in
     let ep = parts-born (t .args .s) (t .args .g) a r (m .steady) _ ef _ _ (m .parts-are) _ (c .before .before .before .before .before .before .before .before .before .before .before .before .before .before .before .before .before .before .before .before .before .before .newborn .ensures) in
     let w = midway (t .args .s) (t .args .g) a r (m .steady) _ ef _ _ _ ep (m .masses-are) ek in
-    let em = c .before .before .before .before .before .before .before .before .before .before .gather .ensures ∙ gathered-is w (grid-offsets (t .args .s)) in
+    let em = c .before .before .before .before .before .before .before .before .before .before .gather .ensures ∙ gathered-box w in
     let done = settled-is w em (c .before .before .before .before .before .settle .ensures) in
     ap length ef ∙ length-tab (cellsOf (t .args .s)) (newFlag (sceneOf (t .args .s) (t .args .g) a)) ∙ sym (t .pre .0 .flags-room)
 
@@ -143,7 +142,7 @@ same-length-2 c =
     let ef = flags-turned (t .args .s) (t .args .g) a r (m .steady) _ _ ek (c .before .before .before .before .before .before .before .before .before .before .before .before .before .before .before .before .before .before .before .before .before .before .before .before .before .before .before .new-flags .ensures) in
     let ep = parts-born (t .args .s) (t .args .g) a r (m .steady) _ ef _ _ (m .parts-are) _ (c .before .before .before .before .before .before .before .before .before .before .before .before .before .before .before .before .before .before .before .before .before .before .newborn .ensures) in
     let w = midway (t .args .s) (t .args .g) a r (m .steady) _ ef _ _ _ ep (m .masses-are) ek in
-    let em = c .before .before .before .before .before .before .before .before .before .before .gather .ensures ∙ gathered-is w (grid-offsets (t .args .s)) in
+    let em = c .before .before .before .before .before .before .before .before .before .before .gather .ensures ∙ gathered-box w in
     let done = settled-is w em (c .before .before .before .before .before .settle .ensures) in
     ap length (done .0) ∙ length-tab (19 * cellsOf (t .args .s)) (λ m. newPart (sceneOf (t .args .s) (t .args .g) a) (m / 19) (m % 19)) ∙ sym (parts-length t)
 
@@ -157,7 +156,7 @@ same-length-3 c =
     let ef = flags-turned (t .args .s) (t .args .g) a r (m .steady) _ _ ek (c .before .before .before .before .before .before .before .before .before .before .before .before .before .before .before .before .before .before .before .before .before .before .before .before .before .before .before .new-flags .ensures) in
     let ep = parts-born (t .args .s) (t .args .g) a r (m .steady) _ ef _ _ (m .parts-are) _ (c .before .before .before .before .before .before .before .before .before .before .before .before .before .before .before .before .before .before .before .before .before .before .newborn .ensures) in
     let w = midway (t .args .s) (t .args .g) a r (m .steady) _ ef _ _ _ ep (m .masses-are) ek in
-    let em = c .before .before .before .before .before .before .before .before .before .before .gather .ensures ∙ gathered-is w (grid-offsets (t .args .s)) in
+    let em = c .before .before .before .before .before .before .before .before .before .before .gather .ensures ∙ gathered-box w in
     let done = settled-is w em (c .before .before .before .before .before .settle .ensures) in
     ap length (done .1) ∙ length-tab (cellsOf (t .args .s)) (newMass (sceneOf (t .args .s) (t .args .g) a)) ∙ sym (ap length (m .masses-are) ∙ length-tab (cellsOf (t .args .s)) (movedMass (sceneOf (t .args .s) (t .args .g) a)))
 
@@ -174,7 +173,7 @@ same-length-5 c =
     let ef = flags-turned (t .args .s) (t .args .g) a r (m .steady) _ _ ek (c .before .before .before .before .before .before .before .before .before .before .before .before .before .before .before .before .before .before .before .before .before .before .before .before .before .before .before .new-flags .ensures) in
     let ep = parts-born (t .args .s) (t .args .g) a r (m .steady) _ ef _ _ (m .parts-are) _ (c .before .before .before .before .before .before .before .before .before .before .before .before .before .before .before .before .before .before .before .before .before .before .newborn .ensures) in
     let w = midway (t .args .s) (t .args .g) a r (m .steady) _ ef _ _ _ ep (m .masses-are) ek in
-    let em = c .before .before .before .before .before .before .before .before .before .before .gather .ensures ∙ gathered-is w (grid-offsets (t .args .s)) in
+    let em = c .before .before .before .before .before .before .before .before .before .before .gather .ensures ∙ gathered-box w in
     let done = settled-is w em (c .before .before .before .before .before .settle .ensures) in
     ap length (done .2) ∙ length-replicate (cellsOf (t .args .s)) 0 ∙ sym (ap length (m .marks-are) ∙ length-tab (cellsOf (t .args .s)) (firstMark (sceneOf (t .args .s) (t .args .g) a)))
 
@@ -188,7 +187,7 @@ returns c =
     let ef = flags-turned (t .args .s) (t .args .g) a r (m .steady) _ _ ek (c .before .before .before .before .before .before .before .before .before .before .before .before .before .before .before .before .before .before .before .before .before .before .before .before .before .before .before .new-flags .ensures) in
     let ep = parts-born (t .args .s) (t .args .g) a r (m .steady) _ ef _ _ (m .parts-are) _ (c .before .before .before .before .before .before .before .before .before .before .before .before .before .before .before .before .before .before .before .before .before .before .newborn .ensures) in
     let w = midway (t .args .s) (t .args .g) a r (m .steady) _ ef _ _ _ ep (m .masses-are) ek in
-    let em = c .before .before .before .before .before .before .before .before .before .before .gather .ensures ∙ gathered-is w (grid-offsets (t .args .s)) in
+    let em = c .before .before .before .before .before .before .before .before .before .before .gather .ensures ∙ gathered-box w in
     let done = settled-is w em (c .before .before .before .before .before .settle .ensures) in
     let carry = toZ-ofZ {w = w64} (record { sfits = c .before .before .before .before .before .before .before .before .before .before .before .before .before .before .before .new-carry .ok }) in
     let sum-is = carry-told (t .args .s) (t .args .g) a r (m .steady) _ ef _ _ _ ep (m .masses-are) ek _ _ (kept _ (carry-within (t .args .s) (t .args .g) a r (m .steady))) (c .before .before .before .before .before .before .before .before .before .before .before .before .before .before .before .new-carry .ensures) in

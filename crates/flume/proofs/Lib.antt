@@ -1,0 +1,9 @@
+pub mod Places
+pub mod Flowing
+pub mod Turning
+pub mod Giving
+pub mod Bridge
+pub mod Demands
+pub mod Sets
+pub mod Stars
+pub mod RuledOut

@@ -1,0 +1,16 @@
+pub mod Together
+pub mod Turned
+pub mod Permuted
+pub mod Lattices
+pub mod Cells
+pub mod Near
+pub mod Stages
+pub mod Flags
+pub mod Converting
+pub mod Calmed
+pub mod Rules
+pub mod Stepped
+pub mod Sets
+pub mod Outcomes
+pub mod Many
+pub mod Case
