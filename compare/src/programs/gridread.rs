@@ -12,7 +12,7 @@ use crate::source::Source;
 /// Good records, and how many requests are made of each.
 const GOOD: u64 = 200;
 const REQUESTS: usize = 24;
-const DAMAGED: u64 = 60;
+const DAMAGED: u64 = 240;
 /// Lists of arguments with one word spoilt.
 const SPOILT: u64 = 200;
 
