@@ -7,7 +7,7 @@ use console::line;
 use console::room::room;
 use libc::STDIN_FILENO;
 
-// Room for 862 cells: the most whose record, all cells interface, might still be within 65,536 bytes.
+// Room for 862 cells, as document 01 fixes it; a record of more is refused with 2, because the reader finds its slices too short.
 fn play(rec: &[u8]) {
     let n = room(rec, 862);
     let mut parts = [0i32; 16378];
