@@ -1,0 +1,3 @@
+pub mod Reflected
+pub mod Answers
+pub mod Made
