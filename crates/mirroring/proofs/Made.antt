@@ -55,23 +55,23 @@ module _ (s : Sides) (axis : ℕ) (a : Lent) where
       (λ k h i. getD (a .parts) (19 * e i + (ap (λ (l : List ℕ). getD l k 0) t ∙ getD-tab 19 (dirIn axis) 0 k h) i) (pos 0))
 
   module _ (first : Celled (cellsOf s) a) where
-    pub made-more : (d : Lent) (c m f : ℕ) (x : ℤ) (y : ℕ) (v : List ℤ) → c < cellsOf s → m ≡ cellIn s axis c
-        → f ≡ getD (a .flags) m 0 → x ≡ getD (a .masses) m (pos 0) → y ≡ getD (a .fills) m 0 → v ≡ tab 19 (partIn c) → Made (cellsOf s) d c
-        → Made (cellsOf s) (lent (set (d .flags) c f) (pasted (d .parts) (19 * c) v) (set (d .masses) c x) (set (d .fills) c y) []) (c + 1)
-    made-more d c m f x y v h e ef ex ey ev b =
+    pub made-more : (d : Lent) (c m f : ℕ) (x : ℤ) (y : ℕ) (v p : List ℤ) → c < cellsOf s → m ≡ cellIn s axis c
+        → f ≡ getD (a .flags) m 0 → x ≡ getD (a .masses) m (pos 0) → y ≡ getD (a .fills) m 0 → v ≡ tab 19 (partIn c) → p ≡ pasted (d .parts) (19 * c) v → Made (cellsOf s) d c
+        → Made (cellsOf s) (lent (set (d .flags) c f) p (set (d .masses) c x) (set (d .fills) c y) []) (c + 1)
+    made-more d c m f x y v p h e ef ex ey ev ep b =
         let z = b .sized in
         let room : 19 * c + 19 ≤ length (d .parts) = omega (arith, z .parts) in
         record {
           sized = record {
             flags = length-set (d .flags) c f ∙ z .flags;
-            parts = length-pasted (d .parts) (19 * c) v room (ap length ev ∙ length-tab 19 (partIn c)) ∙ z .parts;
+            parts = ap length ep ∙ length-pasted (d .parts) (19 * c) v room (ap length ev ∙ length-tab 19 (partIn c)) ∙ z .parts;
             masses = length-set (d .masses) c x ∙ z .masses;
             fills = length-set (d .fills) c y ∙ z .fills;
           };
           flags = upto-more 0 flagIn (d .flags) c f (omega (arith, z .flags)) (b .flags) (ef ∙ ap (λ (i : ℕ). getD (a .flags) i 0) e ∙ getD-there (a .flags) (cellIn s axis c) 0 3 (omega (arith, cell-low s axis c h, first .flags)));
           masses = upto-more (pos 0) massIn (d .masses) c x (omega (arith, z .masses)) (b .masses) (ex ∙ ap (λ (i : ℕ). getD (a .masses) i (pos 0)) e);
           fills = upto-more 0 fillIn (d .fills) c y (omega (arith, z .fills)) (b .fills) (ey ∙ ap (λ (i : ℕ). getD (a .fills) i 0) e);
-          parts = blocks-more partIn (d .parts) v c room ev (b .parts);
+          parts = subst (λ (q : List ℤ). Blocks partIn q (c + 1)) (sym ep) (blocks-more partIn (d .parts) v c room ev (b .parts));
         }
 
   -- all of them
