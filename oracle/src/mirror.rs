@@ -18,7 +18,10 @@ pub fn turned_vector(axis: usize, vector: &Vector) -> Vector {
 /// The direction of the reflected vector.
 pub fn turned_direction(axis: usize, k: usize) -> usize {
     let turned = turned_vector(axis, &DIRECTIONS[k]);
-    DIRECTIONS.iter().position(|direction| *direction == turned).expect("directions are reflected to directions")
+    DIRECTIONS
+        .iter()
+        .position(|direction| *direction == turned)
+        .expect("directions are reflected to directions")
 }
 
 /// The cell with x taken to n − 1 − x on the axis.

@@ -7,8 +7,8 @@ use std::mem::swap;
 use crate::lent;
 use crate::state::Buffers;
 use crate::{
-    Axis, CellPoint, Counts, Depth, Index, IndexMut, Line, Point, Profile, Refusal, Settings, Sides, Site, State,
-    StateMut, Station, Stopped, Surface, Water, WALL,
+    Axis, CellPoint, Counts, Depth, Index, IndexMut, Line, Point, Profile, Refusal, Settings, Sides, Site,
+    State, StateMut, Station, Stopped, Surface, Water, WALL,
 };
 
 /// A grid of cells with its water.

@@ -9,8 +9,8 @@
 
 use crate::raw;
 use crate::{
-    Axis, CellPoint, Depth, Held, HeldMut, IndexMut, Next, Point, Refusal, Settings, Sides, Site, State, StateMut,
-    Stopped,
+    Axis, CellPoint, Depth, Held, HeldMut, IndexMut, Next, Point, Refusal, Settings, Sides, Site, State,
+    StateMut, Stopped,
 };
 
 /// What the reader answers beside the slices that it fills.

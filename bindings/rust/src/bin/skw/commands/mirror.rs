@@ -13,11 +13,11 @@ pub const COMMAND: Command = Command {
     usage: "x|y|z [FILE] [-o FILE] [-q]",
     summary: "mirror the grid in an axis, gravity with it",
     help: "\
-Mirrors the grid in an axis: what stands in a cell goes to the cell as far from the
-other end, its parts with their directions. Gravity's component along the axis changes
-its sign; p, edge and origin, the carry, poured and taken stay. Mirrored once more it
-is the same record. As long as no cell is filled or emptied, the mirrored grid does
-what the grid does, mirrored.
+Mirrors the grid in an axis: what stands in a cell goes to the cell as far from
+the other end, its parts with their directions. Gravity's component along the axis
+changes its sign; p, edge and origin, the carry, poured and taken stay. Mirrored
+once more it is the same record. As long as no cell is filled or emptied, the
+mirrored grid does what the grid does, mirrored.
 
     skw mirror x left.rec -o right.rec
     skw run 100 left.rec | skw mirror x | skw check",
