@@ -38,7 +38,8 @@ fn there_and_back_beside_the_independent_program() {
             assert_eq!((state.flags, state.parts), (&wanted.flags[..], &wanted.parts[..]));
             assert_eq!((state.masses, state.fills), (&wanted.masses[..], &wanted.fills[..]));
             assert_eq!(state.carry, &wanted.carry[..]);
-            assert_eq!(mirrored.index().count, [mirrored.counts().interface as u64]);
+            let surface = mirrored.counts().interface as u64;
+            assert_eq!(mirrored.index().count, [surface]);
             assert_eq!(mirrored.water(), record.grid.water());
             assert_eq!(mirrored.mirrored(axis).unwrap(), record.grid);
         }
