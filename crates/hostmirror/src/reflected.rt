@@ -34,8 +34,20 @@ pub extern "C" fn skw_mirror(
 {
     let s = Sides { nx, ny, nz };
     let a = turning::mirrored(
-        flags, parts, masses, fills, carry, flags2, parts2, masses2, fills2, carry2, words2, count2,
-        axis, s,
+        flags,
+        parts,
+        masses,
+        fills,
+        carry,
+        flags2,
+        parts2,
+        masses2,
+        fills2,
+        carry2,
+        words2,
+        count2,
+        axis,
+        s,
     );
     *place = place_of(a);
     number_of(a)

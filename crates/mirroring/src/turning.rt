@@ -65,14 +65,35 @@ pub fn mirrored(
     ensures { λ r. ⌜ Mirrored s axis (lent (now (flags .entry)) (now (parts .entry)) (now (masses .entry)) (now (fills .entry)) (now (carry .entry))) (held (lent (now (flags2 .entry)) (now (parts2 .entry)) (now (masses2 .entry)) (now (fills2 .entry)) (now (carry2 .entry))) (index (now (words2 .entry)) (now (count2 .entry)))) r (held (lent (now (flags2 .exit)) (now (parts2 .exit)) (now (masses2 .exit)) (now (fills2 .exit)) (now (carry2 .exit))) (index (now (words2 .exit)) (now (count2 .exit)))) ⌝ }
 {
     let a = entry::entered(
-        flags, parts, masses, fills, carry, flags2, parts2, masses2, fills2, carry2, words2, count2,
-        axis, s,
+        flags,
+        parts,
+        masses,
+        fills,
+        carry,
+        flags2,
+        parts2,
+        masses2,
+        fills2,
+        carry2,
+        words2,
+        count2,
+        axis,
+        s,
     );
     if let Answer::Refused(no, at) = a {
         return Answer::Refused(no, at);
     }
     turn(
-        flags, parts, masses, fills, flags2, parts2, masses2, fills2, axis, s,
+        flags,
+        parts,
+        masses,
+        fills,
+        flags2,
+        parts2,
+        masses2,
+        fills2,
+        axis,
+        s,
     );
     copying::copy_i64(carry, carry2);
     keeping::make(flags2, words2, count2);

@@ -125,7 +125,7 @@ loop-again c =
     let h = here i in (
       omega (arith, h),
       made-more (u .args .s) (u .args .axis) (first u) (u .pre .first) (second l) (l .loop .c) (d .result) _ _ _ (parts .result) _ h (d .ensures .0) refl (toZ-ofZ (sfits-of {w = w32} (c .before .before .before .before .before .before .masses2 .given))) refl
-      (parts-are (u .args .s) (u .args .axis) (first u) _ (l .loop .c) (d .result) (l .before .directions .ensures) (d .ensures .0) (parts .ensures)) (c .before .paste .ensures) (l .loop .inv .1),
+          (parts-are (u .args .s) (u .args .axis) (first u) _ (l .loop .c) (d .result) (l .before .directions .ensures) (d .ensures .0) (parts .ensures)) (c .before .paste .ensures) (l .loop .inv .1),
     )
 
 same-length : tie.Need-same-length Inv-loop μ-loop
@@ -141,7 +141,7 @@ same-length-4 : tie.Need-same-length-4 Inv-loop μ-loop
 same-length-4 c = c .before .loop .inv .1 .sized .fills ∙ sym (c .before .before .before .before .before .before .before .pre .second .fills)
 
 returns : tie.Need-returns Inv-loop μ-loop
-returns c = 
+returns c =
     let v = c .before .before .before .before .before .before .before in
     let l = c .before .loop in
     made-all (v .args .s) (v .args .axis) (first v) (second (c .before)) (l .c) (omega (arith, l .inv .0, v .pre .first .flags, c .loop-test .left)) (l .inv .1)
