@@ -13,13 +13,13 @@
  * The water of a set is the sum of its masses and its carry. No accepted step changes it by one unit; over steps, pours and takes in any
  * order the water, and what was taken, less what was poured, never changes.
  *
- * AN INDEX of its surface stands beside a set that is loaded, stepped, run or read (of a record or a height grid), so that a host finds interface cells without
+ * AN INDEX of its surface stands beside a set that is loaded, stepped, run, mirrored to or read (of a record or a height grid), so that a host finds interface cells without
  * walking the grid:
  *
  *     words     W      SKW_WORDS(N) words of 64 bits: cell c is bit c % 64 of words[c / 64], set if the cell is interface; bits past N 0
  *     count     1      the number of interface cells
  *
- * It is true when every word is the one that the flags make and the count is right. Step, run and reader leave a true one. A host that
+ * It is true when every word is the one that the flags make and the count is right. Step, run, mirror and reader leave a true one. A host that
  * lays a state by hand fills both itself, and skw_load says whether they are right.
  *
  * A GOOD STATE: flags and outer layer are right; no fluid cell has an empty one among its 18 neighbours (those that share a face or
@@ -67,6 +67,9 @@ enum { SKW_SURFACE_REFUSED = 0, SKW_SURFACE_FOUND = 1, SKW_SURFACE_NONE = 2 };
 
 /* Kinds of line in a profile. */
 enum { SKW_LINE_SOLID = 1, SKW_LINE_DRY = 2, SKW_LINE_DEEP = 3, SKW_LINE_OUTSIDE = 4 };
+
+/* Axes of skw_mirror. */
+enum { SKW_AXIS_X = 0, SKW_AXIS_Y = 1, SKW_AXIS_Z = 2 };
 
 /* One density unit, 36*16,384: the water of a full cell under no pressure. */
 #define SKW_ONE 589824
@@ -120,7 +123,7 @@ enum {
     SKW_BAD_SIDES = 1,
     /* a lent slice is not of its exact length (record and room have none); place 0 */
     SKW_BAD_LENGTH = 2,
-    /* a setting, origin or point coordinate is out of range; place 0, but for a profile's points the first such point */
+    /* a setting, origin, point coordinate or axis is out of range; place 0, but for a profile's points the first such point */
     SKW_BAD_SETTING = 3,
     /* a flag is above 3, or an outer cell is not wall; place: the lowest such cell */
     SKW_BAD_FLAG = 4,
@@ -494,6 +497,28 @@ uint8_t skw_pools(const uint8_t *flags, size_t flags_len,
                   uint32_t *work, size_t work_len,
                   size_t nx, size_t ny, size_t nz,
                   size_t *pools, size_t *place);
+
+/*
+ * MIRROR: the first set reflected in an axis into the second, with its index. On the axis cell x goes to n - 1 - x, with its flag, mass, fill and
+ * parts, part k to the place of the reflected direction; carry, poured and taken are the first's. The second set may hold anything before.
+ * Gravity is no part of a set: step the second with the sign of that component changed. As long as no cell is filled or emptied, it then
+ * does what the first does, mirrored. Mirrored once more in the same axis it is the first set again.
+ * Tests 1, 2 (both sets, the second's index), 3 (an axis above 2), 4, 5, 6 of the first set. Beside a refusal the second set is as it was.
+ */
+uint8_t skw_mirror(const uint8_t *flags, size_t flags_len,
+                   const int32_t *parts, size_t parts_len,
+                   const int32_t *masses, size_t masses_len,
+                   const uint32_t *fills, size_t fills_len,
+                   const int64_t *carry, size_t carry_len,
+                   uint8_t *flags2, size_t flags2_len,
+                   int32_t *parts2, size_t parts2_len,
+                   int32_t *masses2, size_t masses2_len,
+                   uint32_t *fills2, size_t fills2_len,
+                   int64_t *carry2, size_t carry2_len,
+                   uint64_t *words2, size_t words2_len,
+                   uint64_t *count2, size_t count2_len,
+                   size_t nx, size_t ny, size_t nz,
+                   size_t axis, size_t *place);
 
 /*
  * SCHEMES: two designers try their water in one tunnel. They share a WALL MAP, N bytes, 1 for wall and 0 for not, and each has a SCHEME,

@@ -120,7 +120,7 @@ impl HeldMut<'_> {
     }
 
     /// Writes a state and its index.
-    fn put(&mut self, state: &State) {
+    pub fn put(&mut self, state: &State) {
         self.set.put(state);
         self.index.put(self.set.flags);
     }

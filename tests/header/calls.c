@@ -1083,6 +1083,129 @@ static void test_pools(void)
     }
 }
 
+/* A grid of 5 by 4 by 3 cells with one surface cell, as document 01's figures of the mirror have it, and a second set with its index. */
+#define GLASS 60
+
+struct glass {
+    uint8_t flags[GLASS + 1];
+    int32_t parts[SKW_PARTS * GLASS + 1];
+    int32_t masses[GLASS + 1];
+    uint32_t fills[GLASS + 1];
+    int64_t carry[4];
+    uint64_t words[2];
+    uint64_t count[2];
+    /* Under which lengths these are lent. */
+    size_t flags_len, parts_len, masses_len, fills_len, carry_len, words_len, count_len;
+};
+
+static void glass(struct glass *g)
+{
+    memset(g, 0x5a, sizeof *g);
+    g->flags_len = g->masses_len = g->fills_len = GLASS, g->parts_len = SKW_PARTS * GLASS;
+    g->carry_len = 3, g->words_len = SKW_WORDS(GLASS), g->count_len = 1;
+}
+
+static void figure(struct glass *g)
+{
+    size_t c;
+    int k;
+    glass(g);
+    memset(g->parts, 0, sizeof g->parts), memset(g->masses, 0, sizeof g->masses), memset(g->fills, 0, sizeof g->fills);
+    for (c = 0; c < GLASS; c += 1) {
+        const size_t x = c % 5, y = c / 5 % 4, z = c / 20;
+        g->flags[c] = x % 4 == 0 || y % 3 == 0 || z % 2 == 0 ? SKW_WALL : SKW_EMPTY;
+    }
+    g->flags[26] = SKW_INTERFACE, g->masses[26] = 100000, g->fills[26] = 11107;
+    for (k = 0; k < SKW_PARTS; k += 1) {
+        g->parts[SKW_PARTS * 26 + k] = SKW_ONE / 36 * (k == 0 ? 12 : k <= 6 ? 2 : 1) + k;
+    }
+    g->carry[0] = 7, g->carry[1] = 100000, g->carry[2] = 3;
+}
+
+static long mirror(const struct glass *a, struct glass *b, size_t ny, size_t axis)
+{
+    size_t place = unset();
+    const uint8_t number = skw_mirror(a->flags, a->flags_len, a->parts, a->parts_len, a->masses, a->masses_len, a->fills, a->fills_len, a->carry,
+                                      a->carry_len, b->flags, b->flags_len, b->parts, b->parts_len, b->masses, b->masses_len, b->fills,
+                                      b->fills_len, b->carry, b->carry_len, b->words, b->words_len, b->count, b->count_len, 5, ny, 3, axis, &place);
+    return REFUSED(number, place);
+}
+
+/* That it is refused so, and has written nothing. */
+static int refused_mirror(const struct glass *a, struct glass *b, size_t ny, size_t axis, long answer)
+{
+    static struct glass before;
+    before = *b;
+    return mirror(a, b, ny, axis) == answer && memcmp(b, &before, sizeof before) == 0;
+}
+
+/* That the second set has the first one's cells but for its one surface cell, which is at c, with these parts in a few directions, and nothing behind. */
+static int reflected(const struct glass *a, const struct glass *b, size_t c, const int32_t *few)
+{
+    static const int at[7] = {1, 2, 3, 5, 7, 11, 15};
+    size_t i, wet = 0;
+    int k;
+    for (i = 0; i < GLASS; i += 1) {
+        wet += b->flags[i] == SKW_INTERFACE;
+        if (i != c && i != 26 && b->flags[i] != a->flags[i]) {
+            return 0;
+        }
+    }
+    for (k = 0; k < 7; k += 1) {
+        if (b->parts[SKW_PARTS * c + (size_t)at[k]] != few[k]) {
+            return 0;
+        }
+    }
+    return wet == 1 && b->flags[c] == SKW_INTERFACE && b->masses[c] == 100000 && b->fills[c] == 11107 && b->parts[SKW_PARTS * c] == 196608 &&
+           b->carry[0] == 7 && b->carry[1] == 100000 && b->carry[2] == 3 && b->words[0] == (uint64_t)1 << c && b->count[0] == 1 &&
+           b->flags[GLASS] == 0x5a && b->masses[GLASS] == 0x5a5a5a5a && b->words[1] != 0 && b->count[1] != 0 && b->carry[3] != 0;
+}
+
+static void test_mirror(void)
+{
+    static const int32_t few[3][7] = {{32770, 32769, 32771, 32773, 16394, 16395, 16402},
+                                      {32769, 32770, 32772, 32773, 16393, 16398, 16399},
+                                      {32769, 32770, 32771, 32774, 16391, 16397, 16401}};
+    static const size_t cells[3] = {28, 31, 26};
+    static struct glass a, b, back;
+    size_t axis, place = 0;
+    int way;
+
+    for (axis = SKW_AXIS_X; axis <= SKW_AXIS_Z; axis += 1) {
+        figure(&a), glass(&b), glass(&back);
+        EXPECT(mirror(&a, &b, 4, axis) == ACCEPTED && reflected(&a, &b, cells[axis], few[axis]));
+        EXPECT(skw_load(b.flags, GLASS, b.parts, SKW_PARTS * GLASS, b.masses, GLASS, b.fills, GLASS, b.carry, 3, b.words, 1, b.count, 1, 5, 4, 3,
+                        &place) == SKW_ACCEPTED);
+        EXPECT(mirror(&b, &back, 4, axis) == ACCEPTED);
+        EXPECT(memcmp(back.flags, a.flags, GLASS) == 0 && memcmp(back.parts, a.parts, sizeof(int32_t) * SKW_PARTS * GLASS) == 0 &&
+               memcmp(back.masses, a.masses, sizeof(int32_t) * GLASS) == 0 && memcmp(back.fills, a.fills, sizeof(uint32_t) * GLASS) == 0 &&
+               memcmp(back.carry, a.carry, 3 * sizeof(int64_t)) == 0 && back.words[0] == (uint64_t)1 << 26);
+    }
+
+    /* each fault is added to those before it, and is found before them */
+    figure(&a), glass(&b), a.carry[1] = -1;
+    EXPECT(refused_mirror(&a, &b, 4, 2, REFUSED(SKW_BAD_STATE, GLASS)));
+    a.fills[26] = 1;
+    EXPECT(refused_mirror(&a, &b, 4, 1, REFUSED(SKW_BAD_STATE, 26)));
+    a.flags[27] = SKW_FLUID;
+    EXPECT(refused_mirror(&a, &b, 4, 0, REFUSED(SKW_BAD_LAYER, 27)));
+    a.flags[59] = SKW_EMPTY;
+    EXPECT(refused_mirror(&a, &b, 4, 0, REFUSED(SKW_BAD_FLAG, 59)));
+    EXPECT(refused_mirror(&a, &b, 4, 3, REFUSED(SKW_BAD_SETTING, 0)));
+    EXPECT(refused_mirror(&a, &b, 4, unset(), REFUSED(SKW_BAD_SETTING, 0)));
+    b.flags_len = 59;
+    EXPECT(refused_mirror(&a, &b, 4, 3, REFUSED(SKW_BAD_LENGTH, 0)));
+    EXPECT(refused_mirror(&a, &b, 2, 3, REFUSED(SKW_BAD_SIDES, 0)));
+
+    for (way = 0; way < 24; way += 1) {
+        size_t *const each[12] = {&a.flags_len, &a.parts_len,  &a.masses_len, &a.fills_len, &a.carry_len, &b.flags_len,
+                                  &b.parts_len, &b.masses_len, &b.fills_len,  &b.carry_len, &b.words_len, &b.count_len};
+        figure(&a), glass(&b);
+        *each[way / 2] = way % 2 ? *each[way / 2] + 1 : *each[way / 2] - 1;
+        EXPECT(refused_mirror(&a, &b, 4, 0, REFUSED(SKW_BAD_LENGTH, 0)));
+    }
+}
+
 /* Two designers' tunnel as document 01's figures have it: the row's box with a wall in its middle, and what a wall change is lent. */
 #define STONE 22
 
@@ -1534,6 +1657,7 @@ int main(int count, char **words)
     test_depth();
     test_profile();
     test_pools();
+    test_mirror();
     test_schemes();
     test_invert();
     test_depths();

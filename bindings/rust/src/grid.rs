@@ -7,8 +7,8 @@ use std::mem::swap;
 use crate::lent;
 use crate::state::Buffers;
 use crate::{
-    CellPoint, Counts, Depth, Index, IndexMut, Line, Point, Profile, Refusal, Settings, Sides, Site, State,
-    StateMut, Station, Stopped, Surface, Water, WALL,
+    Axis, CellPoint, Counts, Depth, Index, IndexMut, Line, Point, Profile, Refusal, Settings, Sides, Site,
+    State, StateMut, Station, Stopped, Surface, Water, WALL,
 };
 
 /// A grid of cells with its water.
@@ -176,6 +176,14 @@ impl Grid {
         self.indexed();
         let (first, second) = (self.first.hold_mut(), self.second.hold_mut());
         lent::run(self.sides, settings, steps, first, second, &mut self.marks)
+    }
+
+    /// The grid mirrored in an axis; mirrored once more it is this grid again. Refusals 4, 5 and 6. Step it with
+    /// [`Settings::mirrored`], and it does what this grid does, mirrored, as long as no cell is filled or emptied.
+    pub fn mirrored(&self, axis: Axis) -> Result<Grid, Refusal> {
+        let mut second = Buffers::new(self.first.flags.len());
+        lent::mirror(self.sides, self.state(), second.hold_mut(), axis)?;
+        Ok(Grid::holding(self.sides, second))
     }
 
     /// The cell that holds a survey point, or refusal 3 or 13.

@@ -9,8 +9,8 @@
 
 use crate::raw;
 use crate::{
-    CellPoint, Depth, Held, HeldMut, IndexMut, Next, Point, Refusal, Settings, Sides, Site, State, StateMut,
-    Stopped,
+    Axis, CellPoint, Depth, Held, HeldMut, IndexMut, Next, Point, Refusal, Settings, Sides, Site, State,
+    StateMut, Stopped,
 };
 
 /// What the reader answers beside the slices that it fills.
@@ -230,6 +230,49 @@ pub fn step(
             settings.gx,
             settings.gy,
             settings.gz,
+            &mut place,
+        )
+    };
+    answered(number, place)
+}
+
+/// The first state reflected in an axis into the second, with its index: cell x goes to n − 1 − x, parts with their directions, and all else of a
+/// cell with it; the three totals stay. Gravity is no part of a state: [`Settings::mirrored`] changes its sign.
+///
+/// Refusals 1, 2, 4, 5 and 6 write nothing; of the second state the lengths alone are tested.
+pub fn mirror(sides: Sides, first: State, second: HeldMut, axis: Axis) -> Result<(), Refusal> {
+    let HeldMut { state: second, index: index2 } = second;
+    let mut place = 0;
+    let number = unsafe {
+        raw::skw_mirror(
+            first.flags.as_ptr(),
+            first.flags.len(),
+            first.parts.as_ptr(),
+            first.parts.len(),
+            first.masses.as_ptr(),
+            first.masses.len(),
+            first.fills.as_ptr(),
+            first.fills.len(),
+            first.carry.as_ptr(),
+            first.carry.len(),
+            second.flags.as_mut_ptr(),
+            second.flags.len(),
+            second.parts.as_mut_ptr(),
+            second.parts.len(),
+            second.masses.as_mut_ptr(),
+            second.masses.len(),
+            second.fills.as_mut_ptr(),
+            second.fills.len(),
+            second.carry.as_mut_ptr(),
+            second.carry.len(),
+            index2.words.as_mut_ptr(),
+            index2.words.len(),
+            index2.count.as_mut_ptr(),
+            index2.count.len(),
+            sides.nx,
+            sides.ny,
+            sides.nz,
+            axis as usize,
             &mut place,
         )
     };

@@ -52,6 +52,6 @@ pub use pools::{Pool, Pools};
 pub use readings::{CellPoint, Depth, Line, Profile, Station};
 pub use refusal::{Place, Refusal, Stopped};
 pub use scan::{Designer, Scan, Scheme};
-pub use settings::{Point, Settings, Site};
+pub use settings::{Axis, Point, Settings, Site};
 pub use sides::Sides;
 pub use state::{Counts, State, StateMut, Water, EMPTY, FLUID, FULL, INTERFACE, ONE, PARTS, WALL};

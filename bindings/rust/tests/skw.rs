@@ -135,11 +135,12 @@ fn advanced(record: &[u8], steps: u64) -> Vec<u8> {
 }
 
 /// Every command with what it must have, on the record of standard input.
-const CALLS: [&[&str]; 12] = [
+const CALLS: [&[&str]; 13] = [
     &["check"],
     &["water"],
     &["step"],
     &["run", "3"],
+    &["mirror", "x"],
     &["write"],
     &["place", "60", "60", "60"],
     &["point", "13"],

@@ -120,6 +120,19 @@ impl Arguments {
         }
     }
 
+    /// The next word as one of a few.
+    pub fn one_of<T: Copy>(&mut self, called: &str, choices: &[(&str, T)]) -> Result<T, Failure> {
+        let Some(word) = self.words.pop_front() else {
+            return Err(self.wrong(format!("{called} is missing")));
+        };
+        let chosen = choices.iter().find(|(name, _)| word == *name);
+        chosen.map(|(_, choice)| *choice).ok_or_else(|| {
+            let names: Vec<_> = choices.iter().map(|(name, _)| *name).collect();
+            let word = word.to_string_lossy();
+            self.wrong(format!("{called} is to be one of {}, and '{word}' is not", names.join(", ")))
+        })
+    }
+
     /// What was said behind an option, as a whole number.
     pub fn chosen<T: FromStr>(&self, choice: &Choice) -> Result<Option<T>, Failure> {
         let called = choice.value.unwrap_or(choice.name);

@@ -5,6 +5,7 @@ mod depth;
 mod depths;
 mod draw;
 mod invert;
+mod mirror;
 mod place;
 mod point;
 mod pools;
@@ -41,6 +42,7 @@ pub const COMMANDS: &[Command] = &[
     run::COMMAND,
     pour::COMMAND,
     take::COMMAND,
+    mirror::COMMAND,
     write::COMMAND,
     place::COMMAND,
     point::COMMAND,

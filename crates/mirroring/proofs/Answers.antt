@@ -1,0 +1,120 @@
+-- The chain of tests as the code goes through it, what it leaves of an accepted mirror, and the second set by either answer. Assumes nothing.
+use mathlib.Core.Path.{_≡_, refl, sym, ap, ap₂, _∙_, subst}
+use mathlib.Core.Bool.{Bool, true, false, _&&_}
+use mathlib.Core.List.{List, []}
+use Prim.Native.Nat.{ℕ, _*_, _≤_}
+use borrow.Author.Tests.{leb-true}
+use lib.Dec.{eqb, leb}
+use lib.IntN.{ℤ}
+use lib.ListN.{length}
+use Rattle.whole.specs.Bools.{and-left, and-right}
+use Rattle.grid.specs.declared.Sides.{Sides}
+use Rattle.grid.specs.declared.Answer.{Answer}
+use Rattle.grid.specs.declared.Answer.the-variants.{Done, Refused}
+use Rattle.grid.specs.Grid.{cellsOf, sidesGood}
+use Rattle.grid.specs.State.{Lent, lent, stateOf, lentOf}
+use Rattle.grid.specs.Between.{Sized}
+use Rattle.grid.specs.Outcome.{orRefuse}
+use Rattle.grid.proofs.Accepted.{passed}
+use Rattle.pumps.specs.Three.{headOf, threeLengths, threeGood, threeAnswer}
+use Rattle.pumps.proofs.Checked.{four, carry-three, head-sized, then-checked}
+use Rattle.index.specs.Index.{Index, wordsOf, indexOf, indexSized}
+use Rattle.index.specs.Held.{Held, held, indexed}
+use Rattle.index.specs.Laid.{Room}
+use Rattle.index.proofs.Flagged.{room-of}
+use Rattle.index.proofs.Answers.{few-cells}
+use Rattle.mirror.specs.Mirror.{mirrored, mirroredSet}
+use Rattle.mirroring.specs.Turned.{turnedSet, turned}
+use Rattle.mirroring.specs.Outcome.{mirrorAnswer, ifDone, mirrorSecond}
+use Rattle.mirroring.specs.Promise.{Mirrored}
+use Rattle.mirroring.specs.Between.{Celled, Turnable}
+
+-- a set without its totals
+abbrev pub bare : Lent → Lent
+bare a = lent (a .flags) (a .parts) (a .masses) (a .fills) []
+
+module _ (s : Sides) (axis : ℕ) (a : Lent) (b : Held) where
+  abbrev lengths : Bool
+  lengths = (threeLengths (cellsOf s) a && threeLengths (cellsOf s) (b .set)) && indexSized (cellsOf s) (b .index)
+
+  -- ---- the tests, one by one
+  pub sides-refused : sidesGood s ≡ false → Refused 1 0 ≡ mirrorAnswer s axis a b
+  unfolding mirrorAnswer
+  sides-refused e = rw e refl
+
+  pub lengths-told : {n : ℕ} {u v w : Bool} → n ≡ cellsOf s → u ≡ (eqb (length (a .carry)) 3 && four s a n) → v ≡ (eqb (length (b .set .carry)) 3 && four s (b .set) n)
+      → w ≡ (eqb (length (b .index .words)) (wordsOf n) && eqb (length (b .index .count)) 1) → ((u && v) && w) ≡ lengths
+  unfolding threeLengths indexSized
+  lengths-told e p q r =
+      ap₂ (λ (y z : Bool). y && z) (ap₂ (λ (y z : Bool). y && z) p q) r ∙ ap (λ (m : ℕ). (threeLengths m a && threeLengths m (b .set)) && indexSized m (b .index)) e
+
+  module _ (g : sidesGood s ≡ true) where
+    pub lengths-refused : lengths ≡ false → Refused 2 0 ≡ mirrorAnswer s axis a b
+    unfolding mirrorAnswer
+    lengths-refused e = rw (g, e) refl
+
+    module _ (l : lengths ≡ true) where
+      pub axis-refused : leb axis 2 ≡ false → Refused 3 0 ≡ mirrorAnswer s axis a b
+      unfolding mirrorAnswer
+      axis-refused e = rw (g, l, e) refl
+
+      pub then-tested : leb axis 2 ≡ true → threeGood s a Done ≡ mirrorAnswer s axis a b
+      unfolding mirrorAnswer
+      then-tested e = rw (g, l, e) refl
+
+      pub first-three : threeLengths (cellsOf s) a ≡ true
+      first-three = and-left (threeLengths (cellsOf s) a) (threeLengths (cellsOf s) (b .set)) (and-left (threeLengths (cellsOf s) a && threeLengths (cellsOf s) (b .set)) (indexSized (cellsOf s) (b .index)) l)
+
+      pub second-three : threeLengths (cellsOf s) (b .set) ≡ true
+      second-three = and-right (threeLengths (cellsOf s) a) (threeLengths (cellsOf s) (b .set)) (and-left (threeLengths (cellsOf s) a && threeLengths (cellsOf s) (b .set)) (indexSized (cellsOf s) (b .index)) l)
+
+      pub second-room : Room (cellsOf s) (b .index)
+      second-room = room-of (cellsOf s) (b .index) (few-cells s g) (and-right (threeLengths (cellsOf s) a && threeLengths (cellsOf s) (b .set)) (indexSized (cellsOf s) (b .index)) l)
+
+  -- ---- an accepted mirror
+  celled : (d : Lent) → threeLengths (cellsOf s) d ≡ true → Celled (cellsOf s) (bare d)
+  celled d l = let z = head-sized s d l in record { flags = z .flags; parts = z .parts; masses = z .masses; fills = z .fills }
+
+  pub record Accepted : Type 0 where
+    pub turnable : Turnable s axis (bare a) (bare (b .set))
+    pub first-carry : length (a .carry) ≡ 3
+    pub second-carry : length (b .set .carry) ≡ 3
+    pub room : Room (cellsOf s) (b .index)
+    pub good : threeAnswer s a ≡ Done
+
+  pub accepted : mirrorAnswer s axis a b ≡ Done → Accepted
+  unfolding mirrorAnswer
+  accepted e =
+      let x = passed (sidesGood s) 1 0 _ e in
+      let y = passed lengths 2 0 _ (x .1) in
+      let z = passed (leb axis 2) 3 0 _ (y .1) in
+      record {
+        turnable = record { sides = x .0; axis-good = leb-true axis 2 (z .0); first = celled a (first-three (x .0) (y .0)); second = celled (b .set) (second-three (x .0) (y .0)) };
+        first-carry = carry-three s a (first-three (x .0) (y .0));
+        second-carry = carry-three s (b .set) (second-three (x .0) (y .0));
+        room = second-room (x .0) (y .0);
+        good = sym (then-checked s a (x .0) (first-three (x .0) (y .0))) ∙ z .1;
+      }
+
+  -- ---- what either answer leaves
+  pub refused : {n p : ℕ} → Refused n p ≡ mirrorAnswer s axis a b → Mirrored s axis a b (Refused n p) b
+  unfolding mirrorSecond
+  refused e = record { answer-is = e; second-is = ap (λ (x : Answer). ifDone x (indexed s (turned s axis a)) b) e }
+
+  -- the cells do not look at the totals
+  totals-aside : lent (turned s axis (bare a) .flags) (turned s axis (bare a) .parts) (turned s axis (bare a) .masses) (turned s axis (bare a) .fills) (a .carry) ≡ turned s axis a
+  unfolding turned turnedSet mirroredSet mirrored lentOf stateOf
+  totals-aside = refl
+
+  pub done : mirrorAnswer s axis a b ≡ Done → {d : Lent} {carry : List ℤ} {x : Index} → d ≡ turned s axis (bare a) → carry ≡ a .carry → length (d .flags) ≡ cellsOf s
+      → x ≡ indexOf (length (d .flags)) (d .flags) → Mirrored s axis a b Done (held (lent (d .flags) (d .parts) (d .masses) (d .fills) carry) x)
+  unfolding mirrorSecond indexed
+  done e {d} {carry} {x} t k l i = record {
+    answer-is = sym e;
+    second-is =
+        ap₂ held made (i ∙ ap₂ indexOf l (ap (λ (y : Lent). y .flags) made))
+        ∙ sym (ap (λ (y : Answer). ifDone y (held (turned s axis a) (indexOf (cellsOf s) (turned s axis a .flags))) b) e);
+  }
+    where
+      made : lent (d .flags) (d .parts) (d .masses) (d .fills) carry ≡ turned s axis a
+      made = ap₂ (λ (y : Lent) (z : List ℤ). lent (y .flags) (y .parts) (y .masses) (y .fills) z) t k ∙ totals-aside

@@ -1,0 +1,5 @@
+pub mod Turned
+pub mod Outcome
+pub mod Promise
+pub mod Demands
+pub mod Between
