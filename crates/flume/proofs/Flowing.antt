@@ -69,7 +69,7 @@ exchange-none : (φ : ℕ) → exchange φ (pos 0) ≡ pos 0
 unfolding exchange
 exchange-none φ = ap (λ (t : ℤ). quotZ t (pos 131072)) (*ℤ-zero (pos φ)) ∙ zero-quot (pos 131072)
 
-relaxed-none : (p Q ρ : ℤ) → relaxed p 0 Q ρ (pos 0) ≡ pos 0
+pub relaxed-none : (p Q ρ : ℤ) → relaxed p 0 Q ρ (pos 0) ≡ pos 0
 unfolding relaxed
 relaxed-none p Q ρ =
     ap (λ (t : ℤ). pos 0 +ℤ quotZ t (pos 73728 *ℤ ρ)) (nothing p Q ρ) ∙ ap (λ (t : ℤ). pos 0 +ℤ t) (zero-quot (pos 73728 *ℤ ρ))

@@ -1,0 +1,4 @@
+pub mod Doubled
+pub mod Lands
+pub mod Places
+pub mod Weighed
