@@ -1,0 +1,2 @@
+pub mod GoodSides
+pub mod Offsets
