@@ -1,2 +1,4 @@
 pub mod GoodSides
 pub mod Offsets
+pub mod Rows
+pub mod Open
