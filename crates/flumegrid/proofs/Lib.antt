@@ -2,3 +2,5 @@ pub mod GoodSides
 pub mod Offsets
 pub mod Rows
 pub mod Open
+pub mod Rules
+pub mod Checks
