@@ -1,0 +1,2 @@
+pub mod Nines
+pub mod Gains
