@@ -73,7 +73,7 @@ single (x ∷ []) e = refl
 single (x ∷ (y ∷ xs)) e = absurd (omega arith)
 
 -- nineteen parts a cell in one list, and as a function
-moved-parts : {S : Scene} {n : ℕ} {parts masses : List ℤ} {marks : List ℕ} {fair still : Bool} → Moved S n parts masses marks fair still → MovedTo S n (partOf parts) masses marks fair still
+pub moved-parts : {S : Scene} {n : ℕ} {parts masses : List ℤ} {marks : List ℕ} {fair still : Bool} → Moved S n parts masses marks fair still → MovedTo S n (partOf parts) masses marks fair still
 moved-parts {S} {n} m = record {
   steady = m .steady;
   part-is = λ c k h l. ap (λ (x : List ℤ). partOf x c k) (m .parts-are) ∙ part-at 18 n c k h (omega arith) (movedPart S);
@@ -83,11 +83,23 @@ moved-parts {S} {n} m = record {
   still-tells = m .still-tells;
 }
 
-turned-list : {S : Scene} {n : ℕ} {flags : List ℕ} {parts masses carry : List ℤ} {marks : List ℕ} {fair : Bool} → length parts ≡ 19 * n
+pub turned-list : {S : Scene} {n : ℕ} {flags : List ℕ} {parts masses carry : List ℤ} {marks : List ℕ} {fair : Bool} → length parts ≡ 19 * n
     → TurnedTo S n flags (partOf parts) masses carry marks fair → Turned S n flags parts masses carry marks fair
 turned-list {S} {n} {parts = parts} e t = record {
   flags-are = t .flags-are;
   parts-are = blocks-all (newPart S) parts n e (t .part-is);
+  masses-are = t .masses-are;
+  carry-is = t .carry-is;
+  marks-are = t .marks-are;
+  newborn = t .newborn;
+  carry-fair = t .carry-fair;
+}
+
+pub turned-parts : {S : Scene} {n : ℕ} {flags : List ℕ} {parts masses carry : List ℤ} {marks : List ℕ} {fair : Bool}
+    → Turned S n flags parts masses carry marks fair → TurnedTo S n flags (partOf parts) masses carry marks fair
+turned-parts {S} {n} t = record {
+  flags-are = t .flags-are;
+  part-is = λ c k h l. ap (λ (x : List ℤ). partOf x c k) (t .parts-are) ∙ part-at 18 n c k h (omega arith) (newPart S);
   masses-are = t .masses-are;
   carry-is = t .carry-is;
   marks-are = t .marks-are;
