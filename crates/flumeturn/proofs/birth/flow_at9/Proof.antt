@@ -3,14 +3,15 @@ use mathlib.Core.Path.{_≡_, _∙_, ap, ap₂}
 use native.Mathlib.Omega.{arith}
 use lib.IntN.{ℤ, natAbs, _+ℤ_}
 use Rattle.whole.specs.Machine.{Within}
-use Rattle.lattice.specs.Lattice.{V3, d3q19, density, momentum}
+use Rattle.lattice.specs.Lattice.{V3, density, momentum}
 use Rattle.lattice.specs.Cell.{pull}
 use Rattle.lattice.specs.Body.{Bounded}
 use Rattle.lattice.proofs.Momentum.{x-in, y-in, z-in, density-in}
-use Rattle.grid.specs.Sight.{bodiesOf, sight}
+use Rattle.grid.specs.Sight.{sight}
 use Rattle.grid.specs.Step.{newMomentum}
-use Rattle.flow.proofs.Spans.{light19}
+use Rattle.flume.specs.Spread.{spreadLattice}
 use Rattle.nine.specs.Cells.{partOf9}
+use Rattle.flumeflow.proofs.Nines.{light9}
 use Rattle.turn.proofs.Births.{wet-low, density-now, momentum-now, bounded-now}
 use Rattle.flumeturn.proofs.birth.flow_at9.Statement.{statement}
 use Rattle.flumeturn.proofs.birth.flow_at9.Tie as tie
@@ -18,13 +19,13 @@ use Rattle.flumeturn.proofs.birth.flow_at9.Tie as tie
 streamed9-requires : tie.Need-streamed9-requires
 streamed9-requires c κs =
     let s = c .before .before in
-    (s .pre .0 .bodies, s .pre .0 .fills-good, s .pre .0 .around (s .args .b) (s .pre .1) (wet-low _ (s .pre .2)), s .pre .2)
+    (record { count = s .pre .0 .count; bodies = s .pre .0 .cells .bodies }, s .pre .0 .fills-good, s .pre .0 .cells .around (s .args .b) (s .pre .1) (wet-low _ (s .pre .2)), s .pre .2)
 
 bounded : (c : tie.After-streamed9) → Bounded (c .streamed9 .result) 1073741824 33554432
 bounded c =
     let s = c .before .before .before in
-    bounded-now (spreadLattice .weight) (s .args .flags .now) (partOf9 (s .args .parts .now)) (s .args .fill .now) (s .args .off .now) (s .args .low) (s .args .g) (s .args .b) (c .streamed9 .result) (c .streamed9 .ensures) light19 (bodiesOf (s .pre .0 .bodies))
-    (s .pre .0 .around (s .args .b) (s .pre .1) (wet-low _ (s .pre .2))) (s .pre .2)
+    bounded-now (spreadLattice .weight) (s .args .flags .now) (partOf9 (s .args .parts .now)) (s .args .fill .now) (s .args .off .now) (s .args .low) (s .args .g) (s .args .b) (c .streamed9 .result) (c .streamed9 .ensures) light9 (s .pre .0 .cells .bodies)
+    (s .pre .0 .cells .around (s .args .b) (s .pre .1) (wet-low _ (s .pre .2))) (s .pre .2)
 
 flow-of-requires : tie.Need-flow-of-requires
 flow-of-requires c κs = bounded c

@@ -3,9 +3,8 @@ use borrow.Author.Needs.{needs}
 use mathlib.Core.Path.{_≡_, subst}
 use Prim.Native.Nat.{ℕ, _-_, _≤_}
 use native.Mathlib.Omega.{arith}
-use Rattle.lattice.specs.Lattice.{d3q19}
+use Rattle.flume.specs.Spread.{spreadLattice}
 use Rattle.nine.specs.Cells.{partOf9}
-use Rattle.turn.specs.Born.{testedOf}
 use Rattle.turn.proofs.Means.{Summed, summed-none, summed-more, roomy, countable-all, begins}
 use Rattle.flumeturn.proofs.birth.mean_flow9.Statement.{statement}
 use Rattle.flumeturn.proofs.birth.mean_flow9.Tie as tie
@@ -31,13 +30,13 @@ element-copy-out-with-cell9 c = search needs
 add-with-cell9 : tie.Need-add-with-cell9 Inv-loop μ-loop
 add-with-cell9 c =
     let s = c .before .before .before .before .before in
-    record { fits = omega (arith, s .pre .1 .each (c .before .before .loop .i) (omega arith), s .pre .0 .bodies .few) }
+    record { fits = omega (arith, s .pre .1 .each (c .before .before .loop .i) (omega arith), s .pre .0 .cells .bodies .few) }
 
 with-cell9-requires : tie.Need-with-cell9-requires Inv-loop μ-loop
 with-cell9-requires c κs =
     let s = c .before .before .before .before .before in
     let l = c .before .before .loop in
-    (s .pre .0, s .pre .1 .each (l .i) (omega arith), roomy (spreadLattice .weight) (s .args .flags .now) (partOf9 (s .args .parts .now)) (s .args .fill .now) (s .args .off .now) (s .args .low) (s .args .g) (s .args .c) (testedOf (s .pre .0)) (s .pre .1) (l .i - 1) (omega arith) (l .inv .2))
+    (s .pre .0, s .pre .1 .each (l .i) (omega arith), roomy (spreadLattice .weight) (s .args .flags .now) (partOf9 (s .args .parts .now)) (s .args .fill .now) (s .args .off .now) (s .args .low) (s .args .g) (s .args .c) (s .pre .0 .cells) (s .pre .1) (l .i - 1) (omega arith) (l .inv .2))
 
 add-i : tie.Need-add-i Inv-loop μ-loop
 add-i c = search needs
@@ -59,10 +58,10 @@ all-summed c =
     subst (λ (m : ℕ). Summed (spreadLattice .weight) (s .args .flags .now) (partOf9 (s .args .parts .now)) (s .args .fill .now) (s .args .off .now) (s .args .low) (s .args .g) (s .args .c) m (c .before .loop .t)) e (c .before .loop .inv .2)
 
 mean-requires : tie.Need-mean-requires Inv-loop μ-loop
-mean-requires c κs = let s = c .before .before .before .before in countable-all (spreadLattice .weight) (s .args .flags .now) (partOf9 (s .args .parts .now)) (s .args .fill .now) (s .args .off .now) (s .args .low) (s .args .g) (s .args .c) (testedOf (s .pre .0)) (s .pre .1) (all-summed c) (s .pre .2)
+mean-requires c κs = let s = c .before .before .before .before in countable-all (spreadLattice .weight) (s .args .flags .now) (partOf9 (s .args .parts .now)) (s .args .fill .now) (s .args .off .now) (s .args .low) (s .args .g) (s .args .c) (s .pre .0 .cells) (s .pre .1) (all-summed c) (s .pre .2)
 
 returns : tie.Need-returns Inv-loop μ-loop
-returns c = let s = c .before .before .before .before .before in begins (spreadLattice .weight) (s .args .flags .now) (partOf9 (s .args .parts .now)) (s .args .fill .now) (s .args .off .now) (s .args .low) (s .args .g) (s .args .c) (testedOf (s .pre .0)) (s .pre .1) (all-summed (c .before)) (c .mean .ensures)
+returns c = let s = c .before .before .before .before .before in begins (spreadLattice .weight) (s .args .flags .now) (partOf9 (s .args .parts .now)) (s .args .fill .now) (s .args .off .now) (s .args .low) (s .args .g) (s .args .c) (s .pre .0 .cells) (s .pre .1) (all-summed (c .before)) (c .mean .ensures)
 
 pub mean-flow9-spec : {M : Type 1} → statement M
 mean-flow9-spec =

@@ -2,97 +2,90 @@
 use borrow.Author.Needs.{needs}
 use mathlib.Core.Path.{_≡_, refl, _∙_, ap, ap₂, subst}
 use mathlib.Core.Bool.{Bool, _&&_}
-use mathlib.Core.List.{List}
 use Prim.Native.Nat.{ℕ, _+_, _*_, _-_, _≤_, _<_}
 use native.Mathlib.Omega.{arith}
 use lib.ListN.{length}
 use Rattle.whole.specs.Fold.{all}
-use Rattle.nine.specs.Cells.{partOf9}
-use Rattle.grid.specs.Passes.{lowOf}
-use Rattle.turn.specs.Born.{flowSight, newlyBorn, laterFair, Peopled}
+use Rattle.turn.specs.Born.{newlyBorn, laterFair}
 use Rattle.turn.proofs.Weighed.{all-none, all-more}
-use Rattle.turn.proofs.Newborns.{Reached, reached-zero, reached-more, reached-past, unborn, visited-fair, visited-size, visited-list, peopled}
+use Rattle.turn.proofs.Newborns.{Reached, reached-zero, reached-more, reached-past, unborn}
+use Rattle.nine.specs.Cells.{partOf9}
+use Rattle.flumeturn.specs.Born.{flowSight9}
+use Rattle.flumeturn.proofs.Newborns.{visited-size, visited-list}
 use Rattle.flumeturn.proofs.birth.newborn9.Statement.{statement}
 use Rattle.flumeturn.proofs.birth.newborn9.Tie as tie
 
 abbrev Inv-loop : tie.InvT-loop
-Inv-loop flags parts fill flags2 parts2₀ g off low fair₀ c₀ parts2 fair c =
-    (c ≤ length flags) × Reached (flowSight flags parts fill off low g) (newlyBorn flags flags2) (partOf9 parts2₀) (partOf9 parts2) c
-    × (length parts2 ≡ length parts2₀) × (fair ≡ all c (laterFair (flowSight flags parts fill off low g) (newlyBorn flags flags2)))
+Inv-loop flags parts fill flags2 parts2₀ off low g fair₀ c₀ parts2 fair c =
+    (c ≤ length flags) × Reached (flowSight9 flags parts fill off low g) (newlyBorn flags flags2) (partOf9 parts2₀) (partOf9 parts2) c
+    × (length parts2 ≡ length parts2₀) × (fair ≡ all c (laterFair (flowSight9 flags parts fill off low g) (newlyBorn flags flags2)))
 
 abbrev μ-loop : tie.MeasureT-loop
-μ-loop flags parts fill flags2 parts2₀ g off low fair₀ c₀ parts2 fair c = length flags - c
-
-offsets-requires : tie.Need-offsets-requires Inv-loop μ-loop
-offsets-requires c κs = c .before .before .before .pre .0
-
-low-of-requires : tie.Need-low-of-requires Inv-loop μ-loop
-low-of-requires c κs = c .before .before .before .before .pre .0
+μ-loop flags parts fill flags2 parts2₀ off low g fair₀ c₀ parts2 fair c = length flags - c
 
 loop-holds : tie.Need-loop-holds Inv-loop μ-loop
 loop-holds c =
-    let a = c .before .before .before .before .before .args in
-    let S = flowSight (a .flags .now) (a .parts .now) (a .fill .now) (c .before .offsets .result) (c .low-of .result) (a .g) in
+    let a = c .before .before .before .args in
+    let S = flowSight9 (a .flags .now) (a .parts .now) (a .fill .now) (a .off .now) (a .low) (a .g) in
     let w = newlyBorn (a .flags .now) (a .flags2 .now) in
     (omega arith, reached-zero S w (partOf9 (a .parts2 .now)), refl, all-none (laterFair S w))
 
 visit9-requires : tie.Need-visit9-requires Inv-loop μ-loop
 visit9-requires c κs =
-    let s = c .before .before .before .before .before .before .before .before .before in
-    let l = c .before .before .before .loop in
-    (rw (c .before .before .before .before .before .offsets .ensures, c .before .before .before .before .low-of .ensures) (s .pre .1), c .before .before .loop-test .taken, l .inv .2 ∙ s .pre .2)
+    let s = c .before .before .before .before .before .before in
+    (s .pre .0, c .before .loop-test .taken, c .before .before .loop .inv .2 ∙ s .pre .1)
 
 add-next-of : tie.Need-add-next-of Inv-loop μ-loop
 add-next-of c = search needs
 
 next-of-requires : tie.Need-next-of-requires Inv-loop μ-loop
 next-of-requires c κs =
-    let s = c .before .before .before .before .before .before .before .before .before .before .before in
-    omega (arith, s .pre .1 .count, c .before .before .before .before .loop-test .taken)
+    let s = c .before .before .before .before .before .before .before .before in
+    omega (arith, s .pre .0 .count, c .before .before .before .loop-test .taken)
 
 loop-less : tie.Need-loop-less Inv-loop μ-loop
 loop-less c =
-    let s = c .before .before .before .before .before .before .before .before .before .before .before .before in
-    omega (arith, c .next-of .ensures .least, c .next-of .ensures .most, s .pre .1 .count, c .before .before .before .before .before .loop-test .taken)
+    let s = c .before .before .before .before .before .before .before .before .before in
+    omega (arith, c .next-of .ensures .least, c .next-of .ensures .most, s .pre .0 .count, c .before .before .before .before .loop-test .taken)
 
 loop-again : tie.Need-loop-again Inv-loop μ-loop
 loop-again c =
-    let b = c .before in
-    let s = b .before .before .before .before .before .before .before .before .before .before .before in
+    let v = c .before .before in
+    let s = v .before .before .before .before .before .before .before in
     let a = s .args in
-    let l = b .before .before .before .before .before .loop in
-    let S = flowSight (a .flags .now) (a .parts .now) (a .fill .now) (b .before .before .before .before .before .before .before .offsets .result) (b .before .before .before .before .before .before .low-of .result) (a .g) in
+    let l = v .before .before .before .loop in
+    let S = flowSight9 (a .flags .now) (a .parts .now) (a .fill .now) (a .off .now) (a .low) (a .g) in
     let w = newlyBorn (a .flags .now) (a .flags2 .now) in
-    let h : l .c < length (a .flags .now) = b .before .before .before .before .loop-test .taken in
-    let room : 19 * l .c + 19 ≤ length (l .parts2) = omega (arith, l .inv .2, s .pre .2) in
+    let h : l .c < length (a .flags .now) = v .before .before .loop-test .taken in
+    let room : 9 * l .c + 9 ≤ length (l .parts2) = omega (arith, l .inv .2, s .pre .1) in
     let n = c .next-of .ensures in
-    let m : c .next-of .result ≤ length (a .flags .now) = omega (arith, n .most, s .pre .1 .count) in
+    let m : c .next-of .result ≤ length (a .flags .now) = omega (arith, n .most, s .pre .0 .count) in
+    let seen = visited-list (a .flags .now) (a .parts .now) (a .fill .now) (a .off .now) (a .low) (a .g) w (l .parts2) (l .c) room (v .visit9 .ensures) in
     -- up to the next interface cell nothing is born
     let r =
-    reached-past S w (partOf9 (a .parts2 .now)) (partOf9 (b .before .visit9 .last .1 .1 .1 .1 .0)) (l .c + 1) (c .next-of .result) _ (n .least)
-    (λ j k i. unborn (a .flags .now) (a .flags2 .now) j (omega arith) (s .pre .1 .count) (n .before j k i)) (
-      reached-more S w (partOf9 (a .parts2 .now)) (partOf9 (l .parts2)) (partOf9 (b .before .visit9 .last .1 .1 .1 .1 .0)) (l .c) (l .inv .1) (visited-list S w (l .parts2) (l .c) room (b .before .visit9 .ensures)),
-      ap₂ (λ (x y : Bool). x && y) (l .inv .3) (visited-fair S w (partOf9 (a .parts2 .now)) (b .before .visit9 .ensures)) ∙ all-more (l .c) (laterFair S w),
+    reached-past S w (partOf9 (a .parts2 .now)) _ (l .c + 1) (c .next-of .result) _ (n .least)
+    (λ j k i. unborn (a .flags .now) (a .flags2 .now) j (omega arith) (s .pre .0 .count) (n .before j k i)) (
+      reached-more S w (partOf9 (a .parts2 .now)) (partOf9 (l .parts2)) _ (l .c) (l .inv .1) seen,
+      ap₂ (λ (x y : Bool). x && y) (l .inv .3) (v .visit9 .ensures .fair-is) ∙ all-more (l .c) (laterFair S w),
     ) in
-    (m, r .0, visited-size S w (l .parts2) (l .c) room (b .before .visit9 .ensures) ∙ l .inv .2, r .1)
+    (m, r .0, visited-size (a .flags .now) (a .parts .now) (a .fill .now) (a .off .now) (a .low) (a .g) w (l .parts2) (l .c) room (v .visit9 .ensures) ∙ l .inv .2, r .1)
 
 same-length : tie.Need-same-length Inv-loop μ-loop
 same-length c = c .before .loop .inv .2
 
 returns : tie.Need-returns Inv-loop μ-loop
 returns c =
-    let s = c .before .before .before .before .before .before .before in
+    let s = c .before .before .before .before .before in
     let a = s .args in
-    let o = c .before .before .before .offsets in
-    let m = c .before .before .low-of in
     let l = c .before .loop in
-    let S = flowSight (a .flags .now) (a .parts .now) (a .fill .now) (o .result) (m .result) (a .g) in
+    let S = flowSight9 (a .flags .now) (a .parts .now) (a .fill .now) (a .off .now) (a .low) (a .g) in
     let w = newlyBorn (a .flags .now) (a .flags2 .now) in
     let e : l .c ≡ length (a .flags .now) = omega arith in
-    subst (λ (off : List ℕ). Peopled (flowSight (a .flags .now) (a .parts .now) (a .fill .now) off (lowOf (a .s)) (a .g)) w (length (a .flags .now)) (a .parts2 .now) (l .parts2) (l .fair)) (o .ensures)
-    (subst (λ (low : ℕ). Peopled (flowSight (a .flags .now) (a .parts .now) (a .fill .now) (o .result) low (a .g)) w (length (a .flags .now)) (a .parts2 .now) (l .parts2) (l .fair)) (m .ensures)
-    (peopled S w (a .parts2 .now) (l .parts2) (length (a .flags .now)) (l .fair) (l .inv .2 ∙ s .pre .2) (subst (Reached S w (partOf9 (a .parts2 .now)) (partOf9 (l .parts2))) e (l .inv .1))
-    (l .inv .3 ∙ ap (λ (n : ℕ). all n (laterFair S w)) e)))
+    record {
+      parts-there = l .inv .2 ∙ s .pre .1;
+      part-is = subst (Reached S w (partOf9 (a .parts2 .now)) (partOf9 (l .parts2))) e (l .inv .1) .done;
+      fair-is = l .inv .3 ∙ ap (λ (n : ℕ). all n (laterFair S w)) e;
+    }
 
 pub newborn9-spec : {M : Type 1} → statement M
 newborn9-spec =
@@ -100,8 +93,6 @@ newborn9-spec =
     (tie.spec
     Inv-loop
     μ-loop
-    offsets-requires
-    low-of-requires
     loop-holds
     visit9-requires
     add-next-of

@@ -2,12 +2,9 @@
 use borrow.Author.Needs.{needs}
 use mathlib.Core.Path.{_∙_, ap}
 use mathlib.Core.List.{List}
-use Prim.Native.Nat.{_*_}
 use lib.IntN.{ℤ}
-use Rattle.grid.specs.Pasted.{pasted}
-use Rattle.lattice.specs.Lattice.{d3q19}
-use Rattle.nine.specs.Cells.{partOf9}
-use Rattle.turn.specs.Born.{testedOf}
+use Rattle.flume.specs.Spread.{spreadLattice}
+use Rattle.nine.specs.Cells.{partOf9, pasted9}
 use Rattle.turn.proofs.Means.{born-tame}
 use Rattle.turn.proofs.Births.{born-list, born-fair}
 use Rattle.flumeturn.proofs.birth.put_born9.Statement.{statement}
@@ -19,10 +16,7 @@ mean-flow9-requires c κs = search needs
 equilibrium9-requires : tie.Need-equilibrium9-requires
 equilibrium9-requires c κs =
     let s = c .before .before .before in
-    born-tame (spreadLattice .weight) (s .args .flags .now) (partOf9 (s .args .parts .now)) (s .args .fill .now) (s .args .off .now) (s .args .low) (s .args .g) (s .args .c) (testedOf (s .pre .0)) (s .pre .1) (c .mean-flow9 .ensures) (s .pre .2)
-
-mul-paste9 : tie.Need-mul-paste9
-mul-paste9 c = search needs
+    born-tame (spreadLattice .weight) (s .args .flags .now) (partOf9 (s .args .parts .now)) (s .args .fill .now) (s .args .off .now) (s .args .low) (s .args .g) (s .args .c) (s .pre .0 .cells) (s .pre .1) (c .mean-flow9 .ensures) (s .pre .2)
 
 paste9-requires : tie.Need-paste9-requires
 paste9-requires c κs = search needs
@@ -37,9 +31,9 @@ returns : tie.Need-returns
 returns c =
     let s = c .before .before .before .before .before .before .before .before in
     let b = c .before .before .before .before .before .mean-flow9 .ensures in
-    let v = c .before .before .before .before .equilibrium in
+    let v = c .before .before .before .before .equilibrium9 in
     record {
-      parts = c .before .before .paste9 .ensures ∙ ap (λ (l : List ℤ). pasted (s .args .parts2 .now) (19 * s .args .c) l) (born-list (spreadLattice .weight) (s .args .flags .now) (partOf9 (s .args .parts .now)) (s .args .fill .now) (s .args .off .now) (s .args .low) (s .args .g) (s .args .c) b (v .result) (v .ensures .0));
+      parts = c .before .before .paste9 .ensures ∙ ap (λ (l : List ℤ). pasted9 (s .args .parts2 .now) (s .args .c) l) (born-list (spreadLattice .weight) (s .args .flags .now) (partOf9 (s .args .parts .now)) (s .args .fill .now) (s .args .off .now) (s .args .low) (s .args .g) (s .args .c) b (v .result) (v .ensures .0));
       fair-is = c .fair-parts .ensures ∙ born-fair (spreadLattice .weight) (s .args .flags .now) (partOf9 (s .args .parts .now)) (s .args .fill .now) (s .args .off .now) (s .args .low) (s .args .g) (s .args .c) b (v .result) (v .ensures .0);
     }
 
@@ -49,7 +43,6 @@ put-born9-spec =
     (tie.spec
     mean-flow9-requires
     equilibrium9-requires
-    mul-paste9
     paste9-requires
     fair-parts-requires
     same-length

@@ -3,7 +3,8 @@ use borrow.Author.Needs.{needs}
 use mathlib.Core.Path.{_≡_, sym, _∙_}
 use native.Mathlib.Omega.{arith}
 use Rattle.turn.specs.Born.{newlyBorn}
-use Rattle.turn.proofs.Newborns.{newborn-reads, newborn-empty, visited-yes, visited-no}
+use Rattle.turn.proofs.Newborns.{newborn-reads, newborn-empty}
+use Rattle.flumeturn.proofs.Newborns.{visited-yes, visited-no}
 use Rattle.flumeturn.proofs.birth.visit9.Statement.{statement}
 use Rattle.flumeturn.proofs.birth.visit9.Tie as tie
 
@@ -13,8 +14,8 @@ shared-slice-read-is-newborn c = search needs
 shared-slice-read-is-newborn-2 : tie.Need-shared-slice-read-is-newborn-2
 shared-slice-read-is-newborn-2 c = search needs
 
-is-newborn9-requires : tie.Need-is-newborn9-requires
-is-newborn9-requires c κs = search needs
+is-newborn-requires : tie.Need-is-newborn-requires
+is-newborn-requires c κs = search needs
 
 -- the test of the code
 reads-newborn : (c : tie.After-is-newborn) → let s = c .before .before .before .before .before .before in
@@ -27,7 +28,7 @@ put-born9-requires : tie.Need-put-born9-requires
 put-born9-requires c κs =
     let s = c .before .before .before .before .before .before .before .before in
     let e = sym (reads-newborn (c .before .before)) ∙ c .before .if1 .taken in
-    (s .pre .0 .tested, s .pre .0 .tested .around (s .args .c) (s .pre .1) (newborn-empty (s .args .flags .now) (s .args .flags2 .now) (s .args .c) e), s .pre .0 .fed (s .args .c) (s .pre .1) e, omega (arith, s .pre .1, s .pre .2))
+    (s .pre .0 .tested, s .pre .0 .tested .cells .around (s .args .c) (s .pre .1) (newborn-empty (s .args .flags .now) (s .args .flags2 .now) (s .args .c) e), s .pre .0 .fed (s .args .c) (s .pre .1) e, omega (arith, s .pre .1, s .pre .2))
 
 same-length : tie.Need-same-length
 same-length c = search needs
@@ -44,7 +45,7 @@ visit9-spec =
     (tie.spec
     shared-slice-read-is-newborn
     shared-slice-read-is-newborn-2
-    is-newborn9-requires
+    is-newborn-requires
     put-born9-requires
     same-length
     returns

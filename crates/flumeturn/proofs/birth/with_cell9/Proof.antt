@@ -4,7 +4,7 @@ use mathlib.Core.Path.{_≡_, sym, _∙_, ap}
 use lib.ListN.{getD}
 use Rattle.grid.specs.State.{liquid}
 use Rattle.grid.proofs.Lists.{getD-there}
-use Rattle.lattice.specs.Lattice.{d3q19}
+use Rattle.flume.specs.Spread.{spreadLattice}
 use Rattle.nine.specs.Cells.{partOf9}
 use Rattle.turn.proofs.Births.{counted-in, left-out}
 use Rattle.flumeturn.proofs.birth.with_cell9.Statement.{statement}
