@@ -1,0 +1,2 @@
+// Layer 2 of the flume, stages 1 to 4 of a step: streaming, exchange, gravity with its test, collision. Knows the promises of flow, flume and nine.
+pub mod streaming;
