@@ -1,1 +1,2 @@
 pub mod Newborns
+pub mod Flumes
