@@ -13,10 +13,10 @@ use lib.ListN.{length, getD, set, replicate, length-set}
 use lib.Seq.{getD-set-same, getD-set-other}
 use Rattle.whole.specs.Fold.{tab}
 use Rattle.whole.specs.Search.{Dir, as-dir}
-use Rattle.whole.specs.Tab.{upto-all}
+use Rattle.whole.specs.Tab.{upto-all, getD-tab}
 use Rattle.lattice.specs.Lattice.{V3, dot, d2q9}
 use Rattle.lattice.specs.Cell.{quad, relaxed}
-use Rattle.lattice.specs.Body.{relaxedDir}
+use Rattle.lattice.specs.Body.{partsOf, relaxedDir, collidedPart}
 use Rattle.collision.specs.Estimate.{landed}
 use Rattle.flume.specs.Spread.{wide, narrow, idle, spread, Idle, spreadLattice}
 use Rattle.flume.proofs.Places.{by-eight, by-nine, by-idle, spread-at, spread-none, is-spread, wide-dir}
@@ -121,3 +121,14 @@ unfolding relaxedDir
 idle-stays ρ j p f i n e =
     let Q = quad ρ (dot (spreadLattice .e i) j) (dot j j) in
     ap₂ (λ (w : ℕ) (x : ℤ). relaxed p w Q ρ x) (spread-none 0 (d2q9 .weight) i n) e ∙ relaxed-none p Q ρ
+
+-- so what a collision makes of parts with nothing at the idle places has nothing there either
+pub quiet-collided : (ρ : ℤ) (j : V3) (p : ℤ) (f r : List ℤ) → Quiet f → r ≡ tab 19 (collidedPart spreadLattice ρ j p (partsOf f)) → Quiet r
+unfolding collidedPart idle narrow
+quiet-collided ρ j p f r q e = record { at = go }
+  where
+    go : (i : ℕ) → Idle i → partsOf r i ≡ pos 0
+    go zero n = absurd (false≢true (n .none))
+    go (suc a) n =
+        ap (λ (x : List ℤ). getD x (suc a) (pos 0)) e ∙ getD-tab 19 (collidedPart spreadLattice ρ j p (partsOf f)) (pos 0) (suc a) (omega (arith, n .low))
+        ∙ idle-stays ρ j p (partsOf f) (suc a) n (q .at (suc a) n)
