@@ -1,1 +1,2 @@
 pub mod Nines
+pub mod Gains

@@ -14,7 +14,7 @@ use borrow.Author.Tests.{leb-true}
 use Rattle.whole.specs.Bools.{and-left, and-right, or-cases}
 use Rattle.whole.specs.Fold.{all, tab, open-fold}
 use Rattle.whole.specs.Search.{Dir, all-at, as-dir}
-use Rattle.whole.specs.Tab.{tab-cong}
+use Rattle.whole.specs.Tab.{getD-tab, tab-cong}
 use Rattle.lattice.specs.Lattice.{V3, pairOpp, d3q19, d2q9, open-lattice}
 use Rattle.lattice.specs.declared.Settings.{Settings}
 use Rattle.grid.specs.Step.{streamed}
@@ -24,7 +24,7 @@ use Rattle.flow.proofs.Spans.{Light}
 use Rattle.flume.specs.Spread.{wide, narrow, idle, spread, spreadLattice, Idle}
 use Rattle.flume.proofs.Places.{by-eight, by-nine, spread-at, spread-none, is-spread}
 use Rattle.flume.proofs.Flowing.{streamed-none}
-use Rattle.nine.specs.Cells.{partOf9}
+use Rattle.nine.specs.Cells.{partOf9, Quiet}
 use Rattle.nine.proofs.Places.{Filled, filled-more}
 use Rattle.flumeflow.specs.Seen.{sight9, sourceOf9}
 
@@ -97,6 +97,12 @@ module _ (flags : List ℕ) (parts : List ℤ) (fills off : List ℕ) (low : ℕ
       go zero h = spread-at (pos 0) f 0 (omega arith) ∙ e 0 (omega arith)
       go (suc a) h =
           sym (is-spread (pos 0) (streamed (sight9 flags parts [] fills off low g) c) f (λ k d. sym (e k (omega (arith, d .most)))) idle-streamed (suc a) (as-dir (le-of-suc-le-suc h)))
+
+  -- read into an array
+  pub quiet-streamed : (x : List ℤ) → x ≡ tab 19 (streamed (sight9 flags parts [] fills off low g) c) → Quiet x
+  quiet-streamed x e = record {
+    at = λ i n. ap (λ (y : List ℤ). getD y i (pos 0)) e ∙ getD-tab 19 (streamed (sight9 flags parts [] fills off low g) c) (pos 0) i (omega (arith, n .low)) ∙ idle-streamed i n;
+  }
 
 -- ---- a loop that stores a pair a turn, the second first
 pub filled-pair : (g : ℕ → ℤ) (v : List ℤ) (k i : ℕ) (x y : ℤ) → Filled g v k → Paired k → k + 1 < 9 → i ≡ wide k → y ≡ g k → x ≡ g (k + 1) → Filled g (set (set v (i + 1) x) i y) (k + 2)

@@ -1,2 +1,4 @@
 // Layer 2 of the flume, stages 1 to 4 of a step: streaming, exchange, gravity with its test, collision. Knows the promises of flow, flume and nine.
+pub mod moving;
 pub mod streaming;
+pub mod trading;

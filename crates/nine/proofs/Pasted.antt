@@ -1,5 +1,5 @@
 -- A list of nine parts a cell after one cell's are pasted: among the nineteen places that cell holds what was pasted, and no other cell changes. Assumes nothing.
-use mathlib.Core.Path.{_≡_, sym, ap, _∙_}
+use mathlib.Core.Path.{_≡_, sym, ap, _∙_, subst}
 use mathlib.Core.List.{List, _++_}
 use Prim.Native.Nat.{ℕ, zero, suc, _+_, _*_, _-_, _≤_, _<_}
 use native.Mathlib.Decide.{decLt}
@@ -7,7 +7,7 @@ use native.Mathlib.Nat.{le-of-suc-le-suc}
 use native.Mathlib.Omega.{arith}
 use lib.IntN.{ℤ, pos}
 use lib.ListN.{length, getD, take, drop, length-append, length-drop, List·getD-append}
-use lib.Seq.{length-take-le, getD-append-add, getD-take, getD-drop}
+use lib.Seq.{length-take-le, getD-append-add, getD-take, getD-drop, ext-getD}
 use Rattle.whole.specs.Search.{as-dir}
 use Rattle.whole.specs.Tab.{length-tab, getD-tab}
 use Rattle.lattice.specs.Body.{partsOf}
@@ -86,3 +86,15 @@ module _ (out : List ℤ) (c : ℕ) (v : List ℤ) (fits : 9 * c + 9 ≤ length 
       go : (k : ℕ) → k < 9 → Dec (j < c) → getD (pasted9 out c v) (9 * j + k) (pos 0) ≡ getD out (9 * j + k) (pos 0)
       go k l (yes m) = before (9 * j + k) (omega arith)
       go k l (no m) = after (9 * j + k) (omega arith)
+
+  -- what stands there already changes nothing
+  pub pasted-same : ((k : ℕ) → k < 9 → getD out (9 * c + k) (pos 0) ≡ getD v (wide k) (pos 0)) → pasted9 out c v ≡ out
+  pasted-same same = ext-getD (pos 0) (pasted9 out c v) out length-pasted9 (λ j h. go j (decLt j (9 * c)) (decLt j (9 * c + 9)))
+    where
+      go : (j : ℕ) → Dec (j < 9 * c) → Dec (j < 9 * c + 9) → getD (pasted9 out c v) j (pos 0) ≡ getD out j (pos 0)
+      go j (yes m) d = before j m
+      go j (no m) (yes l) =
+          let k : ℕ = j - 9 * c in
+          let e : j ≡ 9 * c + k = omega arith in
+          subst (λ (i : ℕ). getD (pasted9 out c v) i (pos 0) ≡ getD out i (pos 0)) (sym e) (inside k (omega arith) ∙ sym (same k (omega arith)))
+      go j (no m) (no l) = after j (omega arith)
