@@ -1,14 +1,11 @@
 -- The box's run: an accepted step of a set that is ready leaves one that is ready, so that its course is lawful; and the functions' contracts, one from the
 -- other. Assumes nothing.
 use mathlib.Core.Path.{_≡_, refl, sym, ap, _∙_, subst}
-use mathlib.Core.Bool.{Bool, true, false, _&&_, not, cond}
+use mathlib.Core.Bool.{Bool, true, false, _&&_, not}
 use mathlib.Core.List.{List}
-use Prim.Native.Nat.{ℕ, suc, _+_, _-_, _≤_, _<_}
-use native.Mathlib.Nat.{add-zero}
-use native.Mathlib.Omega.{arith}
-use lib.Dec.{leb}
-use lib.ListN.{length, replicate, length-replicate}
-use borrow.Author.Tests.{eq-eqb, le-leb, lt-leb}
+use Prim.Native.Nat.{ℕ, _+_, _≤_, _<_}
+use lib.ListN.{length, replicate}
+use borrow.Author.Tests.{eq-eqb}
 use Rattle.lattice.specs.Lattice.{d3q19}
 use Rattle.lattice.specs.declared.Settings.{Settings}
 use Rattle.lattice.proofs.Paired.{paired19}
@@ -18,12 +15,12 @@ use Rattle.grid.specs.declared.Answer.the-variants.{Done, Refused}
 use Rattle.grid.specs.Grid.{cellsOf, box, gridOf}
 use Rattle.grid.specs.State.{Lent, stateOf}
 use Rattle.grid.specs.Step.{next}
-use Rattle.grid.specs.Outcome.{accepted, goodAnswer, moveAnswer, lengthsGood, sceneOf, entryAnswer, stepAnswer, nextOf, Ran, ranBy, ran, runEntry, runCount, runAnswer, runFirst, runSecond, runMarks}
+use Rattle.grid.specs.Outcome.{goodAnswer, moveAnswer, lengthsGood, sceneOf, entryAnswer, stepAnswer, nextOf, ran, runEntry, open-outcome}
+use Rattle.grid.specs.Ground.{boxGround}
 use Rattle.grid.specs.Demands.{gridAnswer}
 use Rattle.grid.specs.Between.{Sized, Ready}
 use Rattle.grid.specs.Halfway.{Alike, Stepping, Advanced}
 use Rattle.grid.specs.Promise.{RanTo}
-use Rattle.grid.proofs.Accepted.{passed}
 use Rattle.grid.proofs.Box.{grid-laid}
 use Rattle.grid.proofs.Listed.{same-listed, lengths-listed}
 use Rattle.grid.proofs.Prepared.{sized}
@@ -32,6 +29,7 @@ use Rattle.grid.proofs.Conserved.{good-any}
 use Rattle.step.proofs.Finishes.{alike-sized, like-sized}
 use Rattle.step.proofs.Entrance.{may-step}
 use Rattle.run.specs.Turns.{here, there, Crossed, Evened, Went}
+use Rattle.run.proofs.Admitted.{RanOn, refuses-on, entered-on, admits, not-admitted-on, ended-on}
 use Rattle.run.proofs.Courses
 use Rattle.run.proofs.Courses.{Course, Lawful, Passed, Ended}
 
@@ -154,36 +152,30 @@ module _ (steps : ℕ) (s : Sides) (g : Settings) (start : Lent) (marks₀ : Lis
 
 -- ---- the run itself, by what admitted it
 module _ (steps : ℕ) (s : Sides) (g : Settings) (a b : Lent) (marks : List ℕ) where
-  -- the number of steps is asked first
+  -- the box is one ground
+  on-ground : {count : ℕ} {answer : Answer} {first second : Lent} {after : List ℕ} → RanOn (boxGround s) steps g a b marks count answer first second after
+      → RanTo steps s g a b marks count answer first second after
+  unfolding open-outcome
+  on-ground w = record { count-is = w .count-is; answer-is = w .answer-is; first-is = w .first-is; second-is = w .second-is; marks-are = w .marks-are }
+
   pub refuses-steps : 1000 < steps → Refused 9 0 ≡ runEntry steps s g a b marks
-  unfolding runEntry
-  refuses-steps h = rw (lt-leb steps 1000 h) refl
+  unfolding open-outcome
+  refuses-steps h = refuses-on (boxGround s) steps g a b marks h
 
   pub then-entered : steps ≤ 1000 → entryAnswer s g a b marks Done ≡ runEntry steps s g a b marks
-  unfolding runEntry
-  then-entered h = rw (le-leb steps 1000 h) refl
+  unfolding open-outcome
+  then-entered h = entered-on (boxGround s) steps g a b marks h
 
   pub run-stepping : runEntry steps s g a b marks ≡ Done → Stepping s g a b marks
-  unfolding runEntry
-  run-stepping e = may-step s g a b marks (passed (leb steps 1000) 9 0 _ e .1)
+  unfolding open-outcome
+  run-stepping e = may-step s g a b marks (admits (boxGround s) steps g a b marks e)
 
   pub not-admitted : (n p : ℕ) → Refused n p ≡ runEntry steps s g a b marks → RanTo steps s g a b marks 0 (Refused n p) a b marks
-  unfolding runCount runAnswer runFirst runSecond runMarks
-  not-admitted n p e = record {
-    count-is = ap (λ (t : Answer). cond (accepted t) (ran s g marks steps a .count) 0) e;
-    answer-is = ap (λ (t : Answer). cond (accepted t) (ran s g marks steps a .stop) t) e;
-    first-is = ap (λ (t : Answer). cond (accepted t) (ran s g marks steps a .reached) a) e;
-    second-is = ap (λ (t : Answer). cond (accepted t) (ran s g marks steps a .reached) b) e;
-    marks-are = ap (λ (t : Answer). cond (accepted t) (replicate (cellsOf s) 0) marks) e;
-  }
+  unfolding open-outcome
+  not-admitted n p e = on-ground (not-admitted-on (boxGround s) steps g a b marks e)
 
   pub admitted-went : (count : ℕ) (answer : Answer) (first second : Lent) (after : List ℕ) → Done ≡ runEntry steps s g a b marks
       → Went steps s g a marks count answer first second after → RanTo steps s g a b marks count answer first second after
-  unfolding runCount runAnswer runFirst runSecond runMarks
-  admitted-went count answer first second after e w = record {
-    count-is = w .count-is ∙ ap (λ (t : Answer). cond (accepted t) (ran s g marks steps a .count) 0) e;
-    answer-is = w .answer-is ∙ ap (λ (t : Answer). cond (accepted t) (ran s g marks steps a .stop) t) e;
-    first-is = w .first-is ∙ ap (λ (t : Answer). cond (accepted t) (ran s g marks steps a .reached) a) e;
-    second-is = w .second-is ∙ ap (λ (t : Answer). cond (accepted t) (ran s g marks steps a .reached) b) e;
-    marks-are = w .marks-are ∙ ap (λ (t : Answer). cond (accepted t) (replicate (cellsOf s) 0) marks) e;
-  }
+  unfolding open-outcome
+  admitted-went count answer first second after e w =
+      on-ground (ended-on (boxGround s) steps g a b marks e (w .count-is) (w .answer-is) (w .first-is) (w .second-is) (w .marks-are))
