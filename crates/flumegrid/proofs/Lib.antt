@@ -4,3 +4,5 @@ pub mod Rows
 pub mod Open
 pub mod Rules
 pub mod Checks
+pub mod Entrance
+pub mod Poise

@@ -1,6 +1,7 @@
 -- What the passes of a flume's step ask of its first set: tests 1 to 6 have passed. Assumes nothing.
 use mathlib.Core.Path.{_≡_}
 use mathlib.Core.Bool.{true}
+use mathlib.Core.List.{List}
 use Prim.Native.Nat.{ℕ, _*_, _<_}
 use lib.ListN.{length}
 use Rattle.lattice.specs.Lattice.{d2q9}
@@ -27,7 +28,13 @@ pub record FlumeReady (s : FlumeSides) (g : FlumeSettings) (a : Lent) : Type 0 w
   pub settings : settingsGood (levelSettings g) ≡ true
   pub good : goodAnswer d2q9 (flumeGrid s) (stateOf 8 a) Done ≡ Done
 
--- the same cell by cell and without the carry: what a pass over all cells asks
+-- and of what it writes: a second set and marks of their exact lengths
+pub record FlumeEntered (s : FlumeSides) (g : FlumeSettings) (a b : Lent) (marks : List ℕ) : Type 0 where
+  pub ready : FlumeReady s g a
+  pub second : FlumeSized (flumeCells s) b
+  pub marks-room : length marks ≡ flumeCells s
+
+-- FlumeReady cell by cell and without the carry: what a pass over all cells asks
 pub record FlumePoised (s : FlumeSides) (g : FlumeSettings) (a : Lent) : Type 0 where
   pub sides : flumeSidesGood s ≡ true
   pub settings : settingsGood (levelSettings g) ≡ true

@@ -21,6 +21,7 @@ use Rattle.collision.specs.Estimate.{landed}
 use Rattle.flume.specs.Spread.{wide, narrow, idle, spread, Idle, spreadLattice}
 use Rattle.flume.proofs.Places.{by-eight, by-nine, by-idle, spread-at, spread-none, is-spread, wide-dir}
 use Rattle.flume.proofs.Flowing.{relaxed-none}
+use Rattle.nine.specs.Cells.{Quiet}
 
 -- ---- the place of direction k
 pub place-low : (k : ℕ) → k < 3 → k ≡ wide k
@@ -99,6 +100,15 @@ module _ (g : ℕ → ℤ) where
       go : (i : ℕ) → i < 19 → getD v i (pos 0) ≡ spread (pos 0) g i
       go zero h = f .at 0 (omega arith) ∙ sym (spread-at (pos 0) g 0 (omega arith))
       go (suc a) h = is-spread (pos 0) (λ i. getD v i (pos 0)) g (λ k d. f .at k (omega (arith, d .most))) (f .none) (suc a) (as-dir (le-of-suc-le-suc h))
+
+-- an array of nineteen with nothing at the idle places is the one that its nine parts fill
+pub quiet-all : (v r : List ℤ) → length v ≡ 19 → Quiet v → Filled (λ (j : ℕ). getD v (wide j) (pos 0)) r 9 → r ≡ v
+unfolding wide
+quiet-all v r e q f = filled-all (λ (j : ℕ). getD v (wide j) (pos 0)) r f ∙ sym (upto-all (pos 0) (spread (pos 0) (λ (j : ℕ). getD v (wide j) (pos 0))) v 19 e go)
+  where
+    go : (i : ℕ) → i < 19 → getD v i (pos 0) ≡ spread (pos 0) (λ (j : ℕ). getD v (wide j) (pos 0)) i
+    go zero h = sym (spread-at (pos 0) (λ (j : ℕ). getD v (wide j) (pos 0)) 0 (omega arith))
+    go (suc a) h = is-spread (pos 0) (λ i. getD v i (pos 0)) (λ (j : ℕ). getD v (wide j) (pos 0)) (λ k d. refl) (q .at) (suc a) (as-dir (le-of-suc-le-suc h))
 
 -- ---- an idle part: it lands at 0, where stage 4 leaves it
 pub landed-none : (c : ℤ) → landed 0 (pos 0) c ≡ pos 0
