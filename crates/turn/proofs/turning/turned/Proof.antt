@@ -14,7 +14,7 @@ use Rattle.grid.specs.Step.{newFlag, newPart, newMass}
 use Rattle.grid.specs.Outcome.{sceneOf}
 use Rattle.grid.specs.Between.{movedPart, movedMass, firstMark}
 use Rattle.grid.specs.Halfway.{Moved, Turning, Turned}
-use Rattle.turn.proofs.Turns.{still-turned, turning-on}
+use Rattle.turn.proofs.Converts.{still-turned, turning-on}
 use Rattle.turn.proofs.turning.turned.Statement.{statement}
 use Rattle.turn.proofs.turning.turned.Tie as tie
 
