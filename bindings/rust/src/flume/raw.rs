@@ -1,0 +1,68 @@
+// The flume's calls, as include/skwarzyna.h has them: a slice passes as pointer, then length.
+
+extern "C" {
+    pub fn skw_flume_check(
+        flags: *const u8,
+        flags_len: usize,
+        parts: *const i32,
+        parts_len: usize,
+        masses: *const i32,
+        masses_len: usize,
+        fills: *const u32,
+        fills_len: usize,
+        carry: *const i64,
+        carry_len: usize,
+        nx: usize,
+        nz: usize,
+        place: *mut usize,
+    ) -> u8;
+
+    pub fn skw_flume_read(
+        rec: *const u8,
+        rec_len: usize,
+        parts: *mut i32,
+        parts_len: usize,
+        masses: *mut i32,
+        masses_len: usize,
+        fills: *mut u32,
+        fills_len: usize,
+        carry: *mut i64,
+        carry_len: usize,
+        nx: *mut usize,
+        nz: *mut usize,
+        p: *mut i64,
+        gx: *mut i64,
+        gz: *mut i64,
+        edge: *mut i64,
+        ox: *mut i64,
+        oz: *mut i64,
+        flags_from: *mut usize,
+        flags_to: *mut usize,
+        place: *mut usize,
+    ) -> u8;
+
+    pub fn skw_flume_write(
+        nx: usize,
+        nz: usize,
+        p: i64,
+        gx: i64,
+        gz: i64,
+        edge: i64,
+        ox: i64,
+        oz: i64,
+        flags: *const u8,
+        flags_len: usize,
+        parts: *const i32,
+        parts_len: usize,
+        masses: *const i32,
+        masses_len: usize,
+        fills: *const u32,
+        fills_len: usize,
+        carry: *const i64,
+        carry_len: usize,
+        room: *mut u8,
+        room_len: usize,
+        bytes: *mut usize,
+        place: *mut usize,
+    ) -> u8;
+}
