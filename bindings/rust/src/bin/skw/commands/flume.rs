@@ -1,0 +1,5 @@
+// skw flume: the commands over records of the flume, a file each.
+
+pub mod check;
+pub mod draw;
+pub mod water;
