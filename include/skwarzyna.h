@@ -604,6 +604,58 @@ uint8_t skw_flume_check(const uint8_t *flags, size_t flags_len,
                         size_t *place);
 
 /*
+ * FLUME STEP: the state one step after the first set, into the second. marks is N bytes of work space, whatever they hold.
+ * Tests 1 to 6 (2 on both sets and the marks, 3 on p and gravity, 4 to 6 on the first set alone), then 7, then 8.
+ *
+ *     answer           second set               marks
+ *     accepted         the next state           all 0
+ *     7, 8             a copy of the first      all 0
+ *     1 to 6           as it was                as they were
+ *
+ * The first set is never written, and an accepted step does not change the water by one unit.
+ */
+uint8_t skw_flume_step(const uint8_t *flags, size_t flags_len,
+                       const int32_t *parts, size_t parts_len,
+                       const int32_t *masses, size_t masses_len,
+                       const uint32_t *fills, size_t fills_len,
+                       const int64_t *carry, size_t carry_len,
+                       uint8_t *flags2, size_t flags2_len,
+                       int32_t *parts2, size_t parts2_len,
+                       int32_t *masses2, size_t masses2_len,
+                       uint32_t *fills2, size_t fills2_len,
+                       int64_t *carry2, size_t carry2_len,
+                       uint8_t *marks, size_t marks_len,
+                       size_t nx, size_t nz,
+                       int64_t p, int64_t gx, int64_t gz,
+                       size_t *place);
+
+/*
+ * FLUME RUN: so many steps, 0 to 1,000, from the state in the first set; it stops at the first step that is refused. It returns how
+ * many steps were accepted; *number and *place are those of the refusal that stopped it, 0 0 if none did.
+ * Tests 9, then 1 to 6 as a step makes them, then 7 and 8 of each step.
+ *
+ *     *number          returns                      both sets              marks
+ *     0                the steps asked              the state reached      all 0
+ *     7, 8             the steps before that one    the state reached      all 0
+ *     1 to 6, 9        0                            as they were           as they were
+ */
+size_t skw_flume_run(size_t steps,
+                     uint8_t *flags, size_t flags_len,
+                     int32_t *parts, size_t parts_len,
+                     int32_t *masses, size_t masses_len,
+                     uint32_t *fills, size_t fills_len,
+                     int64_t *carry, size_t carry_len,
+                     uint8_t *flags2, size_t flags2_len,
+                     int32_t *parts2, size_t parts2_len,
+                     int32_t *masses2, size_t masses2_len,
+                     uint32_t *fills2, size_t fills2_len,
+                     int64_t *carry2, size_t carry2_len,
+                     uint8_t *marks, size_t marks_len,
+                     size_t nx, size_t nz,
+                     int64_t p, int64_t gx, int64_t gz,
+                     uint8_t *number, size_t *place);
+
+/*
  * FLUME READ: a record of the flume, rec_len bytes of it, into a set without flags, fills worked out. The flags are the record's own
  * bytes, rec[*flags_from] to rec[*flags_to - 1]. Seven sections in this order, each after its count of numbers (u32), all
  * little-endian; I is the number of interface cells, L that of liquid ones:

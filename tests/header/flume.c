@@ -70,6 +70,7 @@ static struct lengths wrong_lengths(int way)
     *one = way % 2 ? *one + 1 : *one - 1;
     return l;
 }
+#define WRONG_LENGTHS 12
 /* Those of them that are about the set alone. */
 #define WRONG_SET_LENGTHS 10
 
@@ -78,6 +79,26 @@ static long check(const struct set *a, struct lengths l, struct sides s)
     size_t place = (size_t)-1;
     const uint8_t number = skw_flume_check(a->flags, l.flags, a->parts, l.parts, a->masses, l.masses, a->fills, l.fills, a->carry, l.carry,
                                            s.nx, s.nz, &place);
+    return REFUSED(number, place);
+}
+
+static long step(const struct set *a, struct lengths la, struct set *b, struct lengths lb, uint8_t *marks, struct sides s, struct settings g)
+{
+    size_t place = (size_t)-1;
+    const uint8_t number = skw_flume_step(a->flags, la.flags, a->parts, la.parts, a->masses, la.masses, a->fills, la.fills, a->carry, la.carry,
+                                          b->flags, lb.flags, b->parts, lb.parts, b->masses, lb.masses, b->fills, lb.fills, b->carry, lb.carry,
+                                          marks, lb.marks, s.nx, s.nz, g.p, g.gx, g.gz, &place);
+    return REFUSED(number, place);
+}
+
+static long run(size_t steps, struct set *a, struct lengths la, struct set *b, struct lengths lb, uint8_t *marks, struct sides s,
+                struct settings g, size_t *count)
+{
+    size_t place = (size_t)-1;
+    uint8_t number = 77;
+    *count = skw_flume_run(steps, a->flags, la.flags, a->parts, la.parts, a->masses, la.masses, a->fills, la.fills, a->carry, la.carry, b->flags,
+                           lb.flags, b->parts, lb.parts, b->masses, lb.masses, b->fills, lb.fills, b->carry, lb.carry, marks, lb.marks, s.nx, s.nz,
+                           g.p, g.gx, g.gz, &number, &place);
     return REFUSED(number, place);
 }
 
@@ -214,6 +235,123 @@ static void test_check(void)
     EXPECT(check(&a, lengths_of(ROW), FIVE) == REFUSED(SKW_BAD_LAYER, ROW_FLUID));
 }
 
+/* The centre of case F after one step, by the amendment. */
+static const int32_t FALLEN[SKW_FLUME_PARTS] = {262141, 65536, 65536, 65345, 65728, 16337, 16432, 16432, 16337};
+
+/* A cell between walls close to the limit of speed: the amendment's refusal 8. */
+static void fast(struct set *a)
+{
+    /* The equilibrium of density 589,824 and momentum -196,018 along x. */
+    static const int64_t rho = 589824, j = -196018;
+    static const int x[SKW_FLUME_PARTS] = {0, 1, -1, 0, 0, 1, -1, 1, -1};
+    int32_t *const parts = a->parts + SKW_FLUME_PARTS * CENTRE;
+    int k;
+    case_f(a);
+    parts[0] = (int32_t)rho;
+    for (k = 1; k < SKW_FLUME_PARTS; k += 1) {
+        const int64_t q = 2 * rho * rho + 6 * rho * x[k] * j + 9 * x[k] * x[k] * j * j - 3 * j * j;
+        parts[k] = (int32_t)((k < 5 ? 4 : 1) * q / (72 * rho));
+        parts[0] -= parts[k];
+    }
+}
+
+static void test_step(void)
+{
+    static const struct settings speeding = {1500, 1048, 0}, level = {1024, 0, 0};
+    const struct lengths l = lengths_of(CELLS);
+    struct set a, b, kept, dirty;
+    struct settings g = FALLING;
+    uint8_t marks[ROOM];
+    int way;
+    case_f(&a), kept = a, soil(&b), memset(marks, 7, sizeof marks);
+
+    EXPECT(step(&a, l, &b, l, marks, THREE, FALLING) == ACCEPTED);
+    EXPECT(memcmp(b.parts + SKW_FLUME_PARTS * CENTRE, FALLEN, sizeof FALLEN) == 0 && b.masses[CENTRE] == SKW_ONE / 2);
+    EXPECT(b.fills[CENTRE] == SKW_FULL / 2 && b.carry[0] == 0 && memcmp(a.flags, b.flags, CELLS) == 0);
+    EXPECT(all(marks, CELLS, 0) && all(marks + CELLS, ROOM - CELLS, 7) && same(&a, &kept));
+
+    /* What 1 to 6 leave. */
+    soil(&b), soil(&dirty), memset(marks, 7, sizeof marks);
+    {
+        const struct sides flat = {3, 2};
+        EXPECT(step(&a, l, &b, l, marks, flat, FALLING) == REFUSED(SKW_BAD_SIDES, 0));
+    }
+    for (way = 0; way < WRONG_LENGTHS; way += 1) {
+        EXPECT(step(&a, l, &b, wrong_lengths(way), marks, THREE, FALLING) == REFUSED(SKW_BAD_LENGTH, 0));
+        EXPECT(way >= WRONG_SET_LENGTHS || step(&a, wrong_lengths(way), &b, l, marks, THREE, FALLING) == REFUSED(SKW_BAD_LENGTH, 0));
+    }
+    g.p = SKW_P_MOST + 1;
+    EXPECT(step(&a, l, &b, l, marks, THREE, g) == REFUSED(SKW_BAD_SETTING, 0));
+    g.p = 1024, g.gx = 35, g.gz = -1048;
+    EXPECT(step(&a, l, &b, l, marks, THREE, g) == REFUSED(SKW_BAD_SETTING, 0));
+    a.flags[CENTRE] = 4;
+    EXPECT(step(&a, l, &b, l, marks, THREE, FALLING) == REFUSED(SKW_BAD_FLAG, CENTRE));
+    row(&a, 1);
+    EXPECT(step(&a, lengths_of(ROW), &b, lengths_of(ROW), marks, FIVE, FALLING) == REFUSED(SKW_BAD_LAYER, ROW_FLUID));
+    case_f(&a), a.carry[0] = SKW_CARRY_MOST + 1;
+    EXPECT(step(&a, l, &b, l, marks, THREE, FALLING) == REFUSED(SKW_BAD_STATE, CELLS));
+    EXPECT(same(&b, &dirty) && all(marks, sizeof marks, 7));
+
+    /* 8, and then 7, copy the first set. */
+    fast(&a), kept = a;
+    EXPECT(check(&a, l, THREE) == ACCEPTED);
+    EXPECT(step(&a, l, &b, l, marks, THREE, speeding) == REFUSED(SKW_BAD_NEXT, CENTRE));
+    EXPECT(same_state(&a, &b, CELLS) && same(&a, &kept) && all(marks, CELLS, 0));
+    /* Walls turn the momentum around, which is at its limit, and gravity adds to it. */
+    soil(&b), memset(marks, 7, sizeof marks);
+    case_f(&a), a.parts[9 * CENTRE + 1] -= SKW_ONE / 6, a.parts[9 * CENTRE + 2] += SKW_ONE / 6;
+    g.p = 1024, g.gx = 1048, g.gz = 0;
+    EXPECT(step(&a, l, &b, l, marks, THREE, g) == REFUSED(SKW_BAD_FLOW, CENTRE));
+    EXPECT(same_state(&a, &b, CELLS) && all(marks, CELLS, 0));
+
+    /* A cell that fills gives its excess along its normal: 4 by 4, masses after the step by the amendment. */
+    {
+        static const struct sides four = {4, 4};
+        memset(&a, 0, sizeof a), memset(a.flags, SKW_WALL, 16);
+        wet(&a, 5, SKW_INTERFACE, 591424, 65536), wet(&a, 6, SKW_INTERFACE, 147456, 16384);
+        wet(&a, 9, SKW_INTERFACE, 442368, 49152), wet(&a, 10, SKW_INTERFACE, 294912, 32768);
+        EXPECT(step(&a, lengths_of(16), &b, lengths_of(16), marks, four, level) == ACCEPTED);
+        EXPECT(b.flags[5] == SKW_FLUID && b.masses[5] == 589824 && b.fills[5] == SKW_FULL);
+        EXPECT(b.masses[6] == 148056 && b.masses[9] == 442568 && b.masses[10] == 295712);
+    }
+}
+
+static void test_run(void)
+{
+    static const struct settings speeding = {1500, 1048, 0};
+    const struct lengths l = lengths_of(CELLS);
+    struct set a, b, kept, dirty;
+    uint8_t marks[ROOM];
+    size_t count;
+    int way;
+    case_f(&a), kept = a, soil(&b), soil(&dirty), memset(marks, 7, sizeof marks);
+
+    EXPECT(run(SKW_STEPS_MOST + 1, &a, l, &b, l, marks, THREE, FALLING, &count) == REFUSED(SKW_BAD_STEPS, 0) && count == 0);
+    EXPECT(run((size_t)-1, &a, lengths_of(0), &b, l, marks, THREE, FALLING, &count) == REFUSED(SKW_BAD_STEPS, 0) && count == 0);
+    for (way = 0; way < WRONG_LENGTHS; way += 1) {
+        EXPECT(run(3, &a, l, &b, wrong_lengths(way), marks, THREE, FALLING, &count) == REFUSED(SKW_BAD_LENGTH, 0) && count == 0);
+    }
+    EXPECT(same(&a, &kept) && same(&b, &dirty) && all(marks, sizeof marks, 7));
+
+    EXPECT(run(0, &a, l, &b, l, marks, THREE, FALLING, &count) == ACCEPTED && count == 0);
+    EXPECT(same_state(&a, &kept, CELLS) && same_state(&b, &kept, CELLS) && all(marks, CELLS, 0));
+    EXPECT(run(1, &a, l, &b, l, marks, THREE, FALLING, &count) == ACCEPTED && count == 1);
+    EXPECT(memcmp(a.parts + SKW_FLUME_PARTS * CENTRE, FALLEN, sizeof FALLEN) == 0 && same_state(&a, &b, CELLS));
+
+    /* Three more steps at once and one by one. */
+    kept = a;
+    EXPECT(run(3, &a, l, &b, l, marks, THREE, FALLING, &count) == ACCEPTED && count == 3 && same_state(&a, &b, CELLS));
+    for (way = 0; way < 3; way += 1) {
+        EXPECT(step(&kept, l, &b, l, marks, THREE, FALLING) == ACCEPTED);
+        kept = b;
+    }
+    EXPECT(same_state(&a, &kept, CELLS));
+
+    fast(&a), kept = a, soil(&b);
+    EXPECT(run(5, &a, l, &b, l, marks, THREE, speeding, &count) == REFUSED(SKW_BAD_NEXT, CENTRE) && count == 0);
+    EXPECT(same_state(&a, &kept, CELLS) && same_state(&b, &kept, CELLS) && all(marks, CELLS, 0));
+}
+
 static int refused_head(const struct head *h)
 {
     return h->s.nx == 0 && h->s.nz == 0 && h->g.p == 0 && h->g.gx == 0 && h->g.gz == 0 && h->t.edge == 0 && h->t.ox == 0 && h->t.oz == 0 &&
@@ -332,6 +470,8 @@ int main(void)
 {
     uint8_t record[RECORD];
     test_check();
+    test_step();
+    test_run();
     test_write(record);
     test_read(record);
     printf("header, the flume (%s): %d expectations, %d failed\n", LANGUAGE, tried, failed);

@@ -12,6 +12,8 @@
 //! for cell in [sides.cell(1, 1)?, sides.cell(2, 1)?] {
 //!     flume.set_fluid(cell, ONE)?;
 //! }
+//! // A hundred steps.
+//! flume.run(100)?;
 //! assert_eq!(flume.total(), 2 * i64::from(ONE));
 //!
 //! // Its record, and the flume that this holds.
@@ -31,8 +33,9 @@ mod settings;
 mod sides;
 
 use std::fmt::{Debug, Formatter, Result as Written};
+use std::mem::swap;
 
-use crate::{Counts, Refusal, State, StateMut, Water, EMPTY, WALL};
+use crate::{Counts, Refusal, State, StateMut, Stopped, Water, EMPTY, WALL};
 
 pub use settings::{Point, Settings, Site};
 pub use sides::Sides;
@@ -41,12 +44,18 @@ pub use sides::Sides;
 pub const PARTS: usize = 9;
 
 /// A flume with its water, its settings and where it lies.
+///
+/// It owns two sets of buffers and the work space of a step, so that nothing is allocated while it runs.
 #[derive(Clone)]
 pub struct Flume {
     pub settings: Settings,
     pub site: Site,
     sides: Sides,
+    /// The state.
     first: Buffers,
+    /// Where the next one goes.
+    second: Buffers,
+    marks: Vec<u8>,
 }
 
 /// Vectors of one's own from which a state is lent.
@@ -128,7 +137,8 @@ impl Flume {
     }
 
     fn holding(sides: Sides, settings: Settings, site: Site, first: Buffers) -> Flume {
-        Flume { settings, site, sides, first }
+        let cells = first.flags.len();
+        Flume { settings, site, sides, first, second: Buffers::new(cells), marks: vec![0; cells] }
     }
 
     /// The flume's record, which [`from_record`](Flume::from_record) reads back as the same flume. Refusals 3 to 6.
@@ -170,7 +180,7 @@ impl Flume {
         self.first.lend()
     }
 
-    /// The state to change at will; [`check`](Flume::check) says whether it is still good.
+    /// The state to change at will; [`check`](Flume::check) says whether it is still good, and so does the next step.
     pub fn state_mut(&mut self) -> StateMut<'_> {
         self.first.lend_mut()
     }
@@ -178,6 +188,20 @@ impl Flume {
     /// Whether the state is good; else refusal 4, 5 or 6.
     pub fn check(&self) -> Result<(), Refusal> {
         lent::check(self.sides, self.state())
+    }
+
+    /// Makes one step with the flume's settings. Refused, with 3 to 8, it leaves the state as it was.
+    pub fn step(&mut self) -> Result<(), Refusal> {
+        lent::step(self.sides, self.settings, self.first.lend(), self.second.lend_mut(), &mut self.marks)?;
+        swap(&mut self.first, &mut self.second);
+        Ok(())
+    }
+
+    /// Makes so many steps with the flume's settings, at most 1,000, faster than one by one. Where a step is refused, the state is the one
+    /// reached before it.
+    pub fn run(&mut self, steps: usize) -> Result<(), Stopped> {
+        let (first, second) = (self.first.lend_mut(), self.second.lend_mut());
+        lent::run(self.sides, self.settings, steps, first, second, &mut self.marks)
     }
 
     /// How many cells there are of each flag.
@@ -190,7 +214,7 @@ impl Flume {
         self.state().water()
     }
 
-    /// All the water, in the unit of the masses.
+    /// All the water, in the unit of the masses: what no step changes.
     pub fn total(&self) -> i64 {
         self.water().total()
     }

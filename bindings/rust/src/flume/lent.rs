@@ -5,7 +5,7 @@
 
 use super::{raw, Point, Settings, Sides, Site};
 use crate::lent::answered;
-use crate::{Refusal, State};
+use crate::{Refusal, State, StateMut, Stopped};
 
 /// What the reader answers beside the slices that it fills.
 #[derive(Clone, Copy, Debug, PartialEq, Eq)]
@@ -38,6 +38,101 @@ pub fn check(sides: Sides, state: State) -> Result<(), Refusal> {
         )
     };
     answered(number, place)
+}
+
+/// The state one step after the first into the second; marks is a byte per cell of work space, all 0 afterwards.
+///
+/// Refusals 1 to 6 write nothing. After 7 or 8 the second is a copy of the first, and the marks are 0.
+pub fn step(
+    sides: Sides,
+    settings: Settings,
+    first: State,
+    second: StateMut,
+    marks: &mut [u8],
+) -> Result<(), Refusal> {
+    let mut place = 0;
+    let number = unsafe {
+        raw::skw_flume_step(
+            first.flags.as_ptr(),
+            first.flags.len(),
+            first.parts.as_ptr(),
+            first.parts.len(),
+            first.masses.as_ptr(),
+            first.masses.len(),
+            first.fills.as_ptr(),
+            first.fills.len(),
+            first.carry.as_ptr(),
+            first.carry.len(),
+            second.flags.as_mut_ptr(),
+            second.flags.len(),
+            second.parts.as_mut_ptr(),
+            second.parts.len(),
+            second.masses.as_mut_ptr(),
+            second.masses.len(),
+            second.fills.as_mut_ptr(),
+            second.fills.len(),
+            second.carry.as_mut_ptr(),
+            second.carry.len(),
+            marks.as_mut_ptr(),
+            marks.len(),
+            sides.nx,
+            sides.nz,
+            settings.p,
+            settings.gx,
+            settings.gz,
+            &mut place,
+        )
+    };
+    answered(number, place)
+}
+
+/// So many steps, 0 to 1,000, from the state in the first set, until one is refused.
+///
+/// Refusals 9 and 1 to 6 write nothing. Else both hold the state reached, after 7 or 8 too, and the marks are 0.
+pub fn run(
+    sides: Sides,
+    settings: Settings,
+    steps: usize,
+    first: StateMut,
+    second: StateMut,
+    marks: &mut [u8],
+) -> Result<(), Stopped> {
+    let (mut number, mut place) = (0, 0);
+    let count = unsafe {
+        raw::skw_flume_run(
+            steps,
+            first.flags.as_mut_ptr(),
+            first.flags.len(),
+            first.parts.as_mut_ptr(),
+            first.parts.len(),
+            first.masses.as_mut_ptr(),
+            first.masses.len(),
+            first.fills.as_mut_ptr(),
+            first.fills.len(),
+            first.carry.as_mut_ptr(),
+            first.carry.len(),
+            second.flags.as_mut_ptr(),
+            second.flags.len(),
+            second.parts.as_mut_ptr(),
+            second.parts.len(),
+            second.masses.as_mut_ptr(),
+            second.masses.len(),
+            second.fills.as_mut_ptr(),
+            second.fills.len(),
+            second.carry.as_mut_ptr(),
+            second.carry.len(),
+            marks.as_mut_ptr(),
+            marks.len(),
+            sides.nx,
+            sides.nz,
+            settings.p,
+            settings.gx,
+            settings.gz,
+            &mut number,
+            &mut place,
+        )
+    };
+    answered(number, place).map_err(|refusal| Stopped { count, refusal })
 }
 
 /// Reads a record of the flume into a set without its flags, which are a part of the record. A refusal writes nothing.
