@@ -57,6 +57,8 @@ pub const COMMANDS: &[Command] = &[
     invert::COMMAND,
     flume::check::COMMAND,
     flume::water::COMMAND,
+    flume::step::COMMAND,
+    flume::run::COMMAND,
     flume::draw::COMMAND,
 ];
 

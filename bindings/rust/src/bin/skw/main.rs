@@ -12,6 +12,7 @@ mod interrupt;
 mod inverts;
 mod progress;
 mod records;
+mod running;
 mod told;
 
 use std::env::args_os;

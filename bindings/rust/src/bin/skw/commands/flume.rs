@@ -2,4 +2,6 @@
 
 pub mod check;
 pub mod draw;
+pub mod run;
+pub mod step;
 pub mod water;

@@ -17,7 +17,8 @@ and in the carry: together the total, which no step changes by one unit. Litres
 are per metre of the section's width, by the edge of a cell, to the nearest
 millilitre.
 
-    skw flume water weir.rec",
+    skw flume water weir.rec
+    skw flume run 1000 weir.rec | skw flume water   the same total",
     choices: &[OUTPUT],
     act,
 };
