@@ -1,4 +1,4 @@
-// The flume's functions on raw slices by seed, and its records: good, damaged, every prefix and every byte of three small ones, and those of the other
+// The flume's functions on raw slices by seed, its states through steps and runs, and its records: good, damaged, every prefix and every byte of three small ones, and those of the other
 // lattice. After each call its answers and every lent slice, refused or not, are compared with the independent program's.
 
 mod calls;
@@ -10,6 +10,9 @@ mod reference;
 mod small;
 
 use oracle::flume::record::read_whole;
+use oracle::flume::scenes::settings;
+use oracle::flume::state::State;
+use oracle::random::Random;
 
 use crate::library;
 use crate::library::Reply;
@@ -23,6 +26,8 @@ const SEEDS: u64 = 50_000;
 const RECORDS: u64 = 20_000;
 /// Records of each lattice for the other's reader.
 const OTHERS: u64 = 2_000;
+/// States by seed, each through steps and runs.
+const LIVES: u64 = 4_000;
 
 type Call = fn(&mut Case) -> Reply;
 
@@ -33,11 +38,16 @@ const CHECK: Pair = ("check", calls::check, reference::check);
 const READ: Pair = ("read", calls::read, reference::read);
 const WRITE: Pair = ("write", calls::write, reference::write);
 
-const ALL: [Pair; 3] = [CHECK, READ, WRITE];
+const STEP: Pair = ("step", calls::step, reference::step);
+const RUN: Pair = ("run", calls::run, reference::run);
+
+const ALL: [Pair; 5] = [CHECK, STEP, RUN, READ, WRITE];
 
 /// All that the functions can answer.
 const ANSWERS: &Wanted = &[
     ("check", &["0", "1", "2", "4", "5", "6"]),
+    ("step", &["0", "1", "2", "3", "4", "5", "6", "7", "8"]),
+    ("run", &["0", "1", "2", "3", "4", "5", "6", "7", "8", "9"]),
     ("read", &["0", "1", "2", "3", "4", "5", "6", "10", "11"]),
     ("write", &["0", "1", "2", "3", "4", "5", "6", "12"]),
 ];
@@ -55,13 +65,13 @@ fn called((call, library, reference): Pair, case: &Case, name: &str) -> (Outcome
     (Outcome { met: Met::new(call, wanted.number), differs }, wanted, wanted_case)
 }
 
-/// A record through the reader, with slices for n cells, and where it is accepted what was read through check and writer.
+/// A record through the reader, with slices for n cells, and where it is accepted what was read through check, step and writer.
 fn followed(source: Source, n: usize) -> Vec<Outcome> {
     let name = source.to_string();
     let (read, reply, after) = called(READ, &Case::of_record(source.bytes(), n), &name);
     let mut outcomes = vec![read];
     if let Some(case) = after.read(&reply) {
-        outcomes.push(called(CHECK, &case, &name).0);
+        outcomes.extend([CHECK, STEP].map(|pair| called(pair, &case, &name).0));
         let (written, reply, after) = called(WRITE, &case, &name);
         outcomes.push(written);
         // What was accepted is written back as the same bytes.
@@ -70,6 +80,40 @@ fn followed(source: Source, n: usize) -> Vec<Outcome> {
             outcomes.push(Outcome { met: Met::new("write", reply.number), differs });
         }
     }
+    outcomes
+}
+
+/// A good state through steps and runs in random order, with other settings now and then: after each the two agree in every answer and slice, the
+/// check accepts, and the water is what it was.
+fn lived(seed: u64) -> Vec<Outcome> {
+    let random = &mut Random::new(seed ^ 0xf10e_0000);
+    let mut case = Case::lively(seed);
+    let water = State::of(case.first.lend()).total();
+    let mut outcomes = Vec::new();
+    for turn in 0..8 {
+        let name = format!("flume lived seed {seed}, turn {turn}");
+        if random.percent(20) {
+            let chosen = settings(random);
+            (case.p, case.gravity) = (chosen.p.into(), chosen.gravity.map(i64::from));
+        }
+        case.steps = random.pick(&[0, 1, 2, 7, 30]);
+        let pair = random.pick(&[STEP, RUN]);
+        let (outcome, reply, after) = called(pair, &case, &name);
+        outcomes.push(outcome);
+        if [0, 7, 8].contains(&reply.number) {
+            case.first = after.second;
+        }
+        outcomes.push(called(CHECK, &case, &name).0);
+        let now = State::of(case.first.lend()).total();
+        if now != water {
+            let differs = Some(format!("{name}: the water was {water} and is {now}"));
+            outcomes.push(Outcome { met: Met::new("check", 0), differs });
+        }
+    }
+    let (outcome, reply, after) = called(WRITE, &case, &format!("flume lived seed {seed}"));
+    outcomes.push(outcome);
+    let record = after.room[..reply.values[0] as usize].to_vec();
+    outcomes.push(called(READ, &Case { record, ..case }, &format!("flume lived seed {seed}")).0);
     outcomes
 }
 
@@ -118,11 +162,28 @@ pub fn compare(wish: &Wish, total: &mut Total) {
     });
 
     let title = format!(
-        "the flume's reader on {RECORDS} good and {RECORDS} damaged records, seeds from {}, then check and writer on what was read",
+        "the flume's steps, runs and checks in random order, {LIVES} states, seeds from {}, whole outcomes and the water",
         wish.from
     );
-    let wanted: &Wanted =
-        &[("read", &["0", "1", "3", "4", "5", "6", "10", "11"]), ("check", &["0"]), ("write", &["0"])];
+    let wanted: &Wanted = &[
+        ("step", &["0", "7", "8"]),
+        ("run", &["0", "7", "8"]),
+        ("check", &["0"]),
+        ("write", &["0"]),
+        ("read", &["0"]),
+    ];
+    total.compare(&title, wish, LIVES as usize, wanted, |number| lived(wish.from + number as u64));
+
+    let title = format!(
+        "the flume's reader on {RECORDS} good and {RECORDS} damaged records, seeds from {}, then check, step and writer on what was read",
+        wish.from
+    );
+    let wanted: &Wanted = &[
+        ("read", &["0", "1", "3", "4", "5", "6", "10", "11"]),
+        ("check", &["0"]),
+        ("step", &["0", "7", "8"]),
+        ("write", &["0"]),
+    ];
     total.compare(&title, wish, 2 * RECORDS as usize, wanted, |number| {
         let seed = wish.from + number as u64 / 2;
         let source = if number % 2 == 0 { Source::Good(seed) } else { Source::Damaged(seed) };
@@ -138,10 +199,14 @@ pub fn compare(wish: &Wish, total: &mut Total) {
             sources.extend(others.map(|other| (Source::Changed(small, at, other), small)));
         }
     }
-    let title = "the flume's reader, then check and writer, on every prefix of three small records and on each with every single byte \
+    let title = "the flume's reader, then check, step and writer, on every prefix of three small records and on each with every single byte \
                  changed to all 255 others";
-    let wanted: &Wanted =
-        &[("read", &["0", "1", "2", "3", "4", "6", "10", "11"]), ("check", &["0"]), ("write", &["0"])];
+    let wanted: &Wanted = &[
+        ("read", &["0", "1", "2", "3", "4", "6", "10", "11"]),
+        ("check", &["0"]),
+        ("step", &["0", "7"]),
+        ("write", &["0"]),
+    ];
     total.compare(title, wish, sources.len(), wanted, |number| {
         let (source, small) = sources[number];
         followed(source, small.scene().state.cells.len())

@@ -32,6 +32,89 @@ pub fn check(case: &mut Case) -> Reply {
     Reply { number, place, values: vec![] }
 }
 
+pub fn step(case: &mut Case) -> Reply {
+    let [nx, nz] = case.sides;
+    let [gx, gz] = case.gravity;
+    let (first, second) = (&case.first, &mut case.second);
+    let mut place = BEFORE;
+    let number = unsafe {
+        raw::skw_flume_step(
+            first.flags.as_ptr(),
+            first.flags.len(),
+            first.parts.as_ptr(),
+            first.parts.len(),
+            first.masses.as_ptr(),
+            first.masses.len(),
+            first.fills.as_ptr(),
+            first.fills.len(),
+            first.carry.as_ptr(),
+            first.carry.len(),
+            second.flags.as_mut_ptr(),
+            second.flags.len(),
+            second.parts.as_mut_ptr(),
+            second.parts.len(),
+            second.masses.as_mut_ptr(),
+            second.masses.len(),
+            second.fills.as_mut_ptr(),
+            second.fills.len(),
+            second.carry.as_mut_ptr(),
+            second.carry.len(),
+            case.marks.as_mut_ptr(),
+            case.marks.len(),
+            nx,
+            nz,
+            case.p,
+            gx,
+            gz,
+            &mut place,
+        )
+    };
+    Reply { number, place, values: vec![] }
+}
+
+/// Its value is the count.
+pub fn run(case: &mut Case) -> Reply {
+    let [nx, nz] = case.sides;
+    let [gx, gz] = case.gravity;
+    let (first, second) = (&mut case.first, &mut case.second);
+    let (mut number, mut place) = (BEFORE as u8, BEFORE);
+    let count = unsafe {
+        raw::skw_flume_run(
+            case.steps,
+            first.flags.as_mut_ptr(),
+            first.flags.len(),
+            first.parts.as_mut_ptr(),
+            first.parts.len(),
+            first.masses.as_mut_ptr(),
+            first.masses.len(),
+            first.fills.as_mut_ptr(),
+            first.fills.len(),
+            first.carry.as_mut_ptr(),
+            first.carry.len(),
+            second.flags.as_mut_ptr(),
+            second.flags.len(),
+            second.parts.as_mut_ptr(),
+            second.parts.len(),
+            second.masses.as_mut_ptr(),
+            second.masses.len(),
+            second.fills.as_mut_ptr(),
+            second.fills.len(),
+            second.carry.as_mut_ptr(),
+            second.carry.len(),
+            case.marks.as_mut_ptr(),
+            case.marks.len(),
+            nx,
+            nz,
+            case.p,
+            gx,
+            gz,
+            &mut number,
+            &mut place,
+        )
+    };
+    Reply { number, place, values: vec![count as u64] }
+}
+
 /// Its values are sides, p, gravity, edge, origin, and from where to where the flags stand in the record.
 pub fn read(case: &mut Case) -> Reply {
     let lent = &mut case.second;

@@ -21,8 +21,10 @@ pub struct Case {
     pub edge: i64,
     pub origin: [i64; 2],
     pub first: Store,
-    /// The reader writes into all of it but the flags.
+    /// Of step and run; the reader writes into all of it but the flags.
     pub second: Store,
+    pub marks: Vec<u8>,
+    pub steps: usize,
     pub record: Vec<u8>,
     pub room: Vec<u8>,
 }
@@ -65,6 +67,7 @@ impl Case {
         let liquid = first.flags.iter().filter(|&&flag| flag == FLUID || flag == INTERFACE).count();
         let interface = first.flags.iter().filter(|&&flag| flag == INTERFACE).count();
         let need = 76 + n + 4 * interface + 36 * liquid;
+        let steps = random.pick(&[0, 1, 2, 3, 5, 7, 12, 60]);
         let room = random.pick(&[need, need, need, need - 1, need + 1, need + 200, need / 2, 0]);
         Case {
             sides: scene.sides.map(|side| side as usize),
@@ -74,9 +77,18 @@ impl Case {
             origin: scene.origin,
             first,
             second: junk_store(random, n, 1),
+            marks: junk(random, n, |bits| bits as u8),
+            steps: if random.percent(5) { random.pick(&[1001, 4096, 1 << 32, usize::MAX]) } else { steps },
             record: if random.percent(30) { scene.record() } else { bad(seed).bytes },
             room: junk(random, room, |bits| bits as u8),
         }
+    }
+
+    /// A good state with all its room, for steps and runs one after another.
+    pub fn lively(seed: u64) -> Case {
+        let mut case = Case::good(&mut Random::new(seed), seed);
+        case.room = vec![0xa5; 76 + 41 * case.first.flags.len()];
+        case
     }
 
     /// A record for the reader, with slices for n cells.
@@ -90,12 +102,14 @@ impl Case {
             origin: [0; 2],
             first: blank(0),
             second: junk_store(random, n, 1),
+            marks: vec![7; n],
+            steps: 0,
             record,
             room: vec![],
         }
     }
 
-    /// What was read, to be written.
+    /// What was read, to be stepped and written.
     pub fn of_reading(reading: &Reading, first: Store) -> Case {
         let n = first.flags.len();
         Case {
@@ -109,7 +123,7 @@ impl Case {
         }
     }
 
-    /// What an accepted reader left here, to be written into room for its record and a little more.
+    /// What an accepted reader left here, to be stepped, and written into room for its record and a little more.
     pub fn read(&self, reply: &Reply) -> Option<Case> {
         let [nx, nz, p, gx, gz, edge, ox, oz, from, to] = reply.values[..] else {
             return None;
@@ -140,6 +154,7 @@ impl Case {
             self.first.fills.iter_mut().for_each(|fill| *fill %= 65_537);
         }
         self.second = junk_store(random, n, 1);
+        self.marks = vec![1; n];
     }
 
     /// Slices of any small lengths.
@@ -155,6 +170,7 @@ impl Case {
             }
         };
         (self.first, self.second) = (store(random), store(random));
+        self.marks.truncate(random.below(41));
         self.room.truncate(random.below(500));
     }
 
@@ -225,12 +241,13 @@ impl Case {
     fn resize(&mut self, random: &mut Random) {
         let change = random.below(CHANGES);
         let set = if random.percent(50) { &mut self.first } else { &mut self.second };
-        match random.below(5) {
+        match random.below(6) {
             0 => changed(&mut set.flags, change),
             1 => changed(&mut set.parts, change),
             2 => changed(&mut set.masses, change),
             3 => changed(&mut set.fills, change),
-            _ => changed(&mut set.carry, change),
+            4 => changed(&mut set.carry, change),
+            _ => changed(&mut self.marks, change),
         }
     }
 
@@ -245,6 +262,7 @@ impl Case {
                 .or_else(|| apart(&format!("{name} carry"), &wanted.carry, &given.carry))
         });
         differs
+            .or_else(|| apart("marks", &self.marks, &given.marks))
             .or_else(|| apart("record", &self.record, &given.record))
             .or_else(|| apart("room", &self.room, &given.room))
     }

@@ -1,9 +1,9 @@
-// The independent program's functions of the flume, each on what a case lends. Values beside a refusal are 0.
+// The independent program's functions of the flume, each on what a case lends. Values beside a refusal are 0, but for the run's count.
 
 use oracle::flume::{self, Settings};
 
 use super::cases::Case;
-use crate::library::reference::{reply, setting};
+use crate::library::reference::{refused, reply, setting};
 use crate::library::Reply;
 
 /// The widest number of the record's type stands for one beyond it: both are out of every range.
@@ -17,6 +17,25 @@ fn settings(case: &Case) -> Settings {
 
 pub fn check(case: &mut Case) -> Reply {
     reply(flume::check(sides(case), case.first.lend()).map(|()| []))
+}
+
+pub fn step(case: &mut Case) -> Reply {
+    let (sides, settings) = (sides(case), settings(case));
+    let (first, second) = (case.first.lend(), case.second.lend_mut());
+    let outcome = flume::step(sides, settings.p, settings.gravity, first, second, &mut case.marks);
+    reply(outcome.map(|()| []))
+}
+
+pub fn run(case: &mut Case) -> Reply {
+    let (sides, settings) = (sides(case), settings(case));
+    let steps = u32::try_from(case.steps).unwrap_or(u32::MAX);
+    let (first, second) = (case.first.lend_mut(), case.second.lend_mut());
+    let ran = flume::run(sides, settings.p, settings.gravity, steps, first, second, &mut case.marks);
+    let count = vec![ran.count.into()];
+    match ran.refusal {
+        None => Reply { number: 0, place: 0, values: count },
+        Some(refusal) => refused(refusal, count),
+    }
 }
 
 pub fn read(case: &mut Case) -> Reply {

@@ -28,7 +28,7 @@ pub fn reply<const N: usize>(outcome: Result<[u64; N], Refusal>) -> Reply {
     }
 }
 
-fn refused(refusal: Refusal, values: Vec<u64>) -> Reply {
+pub fn refused(refusal: Refusal, values: Vec<u64>) -> Reply {
     Reply { number: refusal.number as u8, place: refusal.place as usize, values }
 }
 
