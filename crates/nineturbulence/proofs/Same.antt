@@ -9,9 +9,11 @@ use Rattle.whole.specs.Search.{Dir}
 use Rattle.lattice.specs.Lattice.{V3, dot, Lattice, d3q19, d2q9}
 use Rattle.lattice.specs.Cell.{still, quad, relaxed}
 use Rattle.lattice.specs.Body.{stillDir, relaxedDir, collidedPart}
-use Rattle.flume.specs.Spread.{wide, Idle, Spreads, spreadLattice}
+use Rattle.grid.specs.State.{Scene}
+use Rattle.grid.specs.Step.{streamed, newDensity, newMomentum}
+use Rattle.flume.specs.Spread.{wide, Idle, Spreads, spreadLattice, plainScene, spreadScene}
 use Rattle.flume.proofs.Places.{by-nine, wide-dir, spread-at, dirs-same}
-use Rattle.flume.proofs.Flowing.{e-at}
+use Rattle.flume.proofs.Flowing.{e-at, streamed-spreads, new-density-same, new-momentum-same}
 use Rattle.nine.proofs.Places.{idle-stays}
 use Rattle.turbulence.specs.Turbulence.{component, beyond, stress, square, tension, own, ownRelaxation, turbulentPart}
 use Rattle.turbulence.proofs.Tensor.{tension-entries}
@@ -86,3 +88,11 @@ module _ (ρ : ℤ) (j : V3) (f h : ℕ → ℤ) (z : Spreads f h) where
   unfolding turbulentPart
   part-same p k l =
       ap (λ (o : ℤ). collidedPart spreadLattice ρ j o f (wide k)) (own-same p) ∙ collided-same (ownRelaxation d2q9 ρ j p h) k l
+
+-- ---- own p of cell c in a step
+pub own-in-step : (S : Scene) (p : ℤ) (c : ℕ)
+    → ownRelaxation spreadLattice (newDensity (spreadScene S) c) (newMomentum (spreadScene S) c) p (streamed (spreadScene S) c)
+    ≡ ownRelaxation d2q9 (newDensity (plainScene S) c) (newMomentum (plainScene S) c) p (streamed (plainScene S) c)
+own-in-step S p c =
+    own-same (newDensity (spreadScene S) c) (newMomentum (spreadScene S) c) (streamed (spreadScene S) c) (streamed (plainScene S) c) (streamed-spreads S c) p
+    ∙ ap₂ (λ (ρ : ℤ) (j : V3). ownRelaxation d2q9 ρ j p (streamed (plainScene S) c)) (new-density-same S c) (new-momentum-same S c)
