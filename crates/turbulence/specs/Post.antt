@@ -9,7 +9,7 @@ use Rattle.lattice.specs.Lattice.{dot}
 use Rattle.lattice.specs.Body.{vec}
 use Rattle.turbulence.specs.declared.stress.Shared.{Shared}
 use Rattle.turbulence.specs.declared.stress.Nine.{Nine}
-use Rattle.turbulence.specs.Turbulence.{square}
+use Rattle.turbulence.specs.Turbulence.{square, own}
 
 -- what the pairs of a cell share: 2ρ² − 3|j|², 6ρ, and floor(2^43/6ρ)
 pub record SharedIs (v : Flow) (k : Shared) : Type 0 where
@@ -78,3 +78,8 @@ tensionOf n =
     + square (n .y +ℤ n .xy +ℤ n .yx +ℤ n .yz +ℤ n .zy)
     + square (n .z +ℤ n .yz +ℤ n .zy +ℤ n .xz +ℤ n .zx)
     + 2 * (square (n .xy -ℤ n .yx) + square (n .yz -ℤ n .zy) + square (n .xz -ℤ n .zx))
+
+-- a tension below 2^60 that keeps p
+pub record Keeps (p k : ℕ) : Type 0 where
+  pub is : own p k ≡ p
+  pub most : k < 1152921504606846976

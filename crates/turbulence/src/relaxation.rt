@@ -8,11 +8,13 @@ use lattice::Flow;
 ghost use mathlib.Core.Path.{_≡_};
 ghost use mathlib.Core.Logic.{_⊎_};
 ghost use mathlib.Core.Bool.{true};
-ghost use Prim.Native.Nat.{_<_, _≤_};
+ghost use Prim.Native.Nat.{_+_, _<_, _≤_};
+ghost use lib.IntN.{natAbs};
 ghost use Rattle.lattice.specs.Lattice.{d3q19};
 ghost use Rattle.lattice.specs.Cell.{relaxationGood};
 ghost use Rattle.lattice.specs.Body.{partsOf, Bounded, vec, steadyFlow};
 ghost use Rattle.turbulence.specs.Turbulence.{under, divisor, nearest, own, ownRelaxation};
+ghost use Rattle.turbulence.specs.Post.{Keeps};
 
 fn under(p: u64, s: u64) -> u64
     requires { ⌜ (0 < p) × (p ≤ 2037) × (s ≤ 1073741824) ⌝ }
@@ -87,10 +89,46 @@ pub fn own(p: u64, t: u64) -> u64
     o
 }
 
-// Own p of a cell that has passed stage 3's test.
-pub fn own_relaxation(f: [i32; 19], v: Flow, p: i64) -> i64
-    requires { ⌜ Bounded f 1572864 1572864 × (steadyFlow v ≡ true) × (relaxationGood p ≡ true) ⌝ }
+// k, or k + d where that tension keeps p too.
+fn raised(p: u64, k: u64, d: u64) -> u64
+    requires { ⌜ (0 < p) × (p ≤ 2037) × (k + d < 1152921504606846976) × Keeps p k ⌝ }
+    ensures { λ r. ⌜ Keeps p r × (r ≤ k + d) ⌝ }
+{
+    if own(p, k + d) == p {
+        return k + d;
+    }
+    k
+}
+
+// A tension that keeps p, and so does any below it. Fifty binary digits make it the largest; nothing but time depends on that.
+pub fn kept(p: u64) -> u64
+    requires { ⌜ (0 < p) × (p ≤ 2037) ⌝ }
+    ensures { λ r. ⌜ Keeps p r ⌝ }
+{
+    let mut k = 0;
+    let mut d = 562949953421312;
+    while d > 0 {
+        k = raised(p, k, d);
+        d = d / 2;
+    }
+    k
+}
+
+// The same as `own`, where the tensions up to `keep` keep p: in calm water no root is worked out, and the collision need not wait for one.
+pub fn own_from(p: u64, t: u64, keep: u64) -> u64
+    requires { ⌜ (0 < p) × (p ≤ 2037) × (t < 1152921504606846976) × Keeps p keep ⌝ }
+    ensures { λ r. ⌜ r ≡ own p t ⌝ }
+{
+    if t <= keep {
+        return p;
+    }
+    own(p, t)
+}
+
+// Own p of a cell that has passed stage 3's test; keep is `kept` of p.
+pub fn own_relaxation(f: [i32; 19], v: Flow, p: i64, keep: u64) -> i64
+    requires { ⌜ Bounded f 1572864 1572864 × (steadyFlow v ≡ true) × (relaxationGood p ≡ true) × Keeps (natAbs p) keep ⌝ }
     ensures { λ r. ⌜ (r ≡ ownRelaxation d3q19 (v .rho) (vec v) p (partsOf f)) × (relaxationGood r ≡ true) ⌝ }
 {
-    own(p as u64, tension(beyond(f, v))) as i64
+    own_from(p as u64, tension(beyond(f, v)), keep) as i64
 }

@@ -22,7 +22,8 @@ use Rattle.nineturbulence.proofs.collide.collided_turbulent9.Tie as tie
 own-relaxation9-requires : tie.Need-own-relaxation9-requires
 own-relaxation9-requires c κs =
     let wider : Bounded (c .args .f) 1572864 1572864 = record { rest = c .pre .0 .rest; at = λ k h l. record { abs = omega (arith, c .pre .0 .at k h l .abs) } } in
-    (wider, c .pre .1, rw (toZ-ofZ (c .fits .p)) (c .pre .2), c .pre .3)
+    let e = toZ-ofZ (c .fits .p) in
+    (wider, c .pre .1, rw e (c .pre .2), rw e (c .pre .3), c .pre .4)
 
 -- own p, as the machine holds it
 own-held : (c : tie.After-own-relaxation9) → toZ w64 (ofZ w64 (c .own-relaxation9 .result)) ≡ c .own-relaxation9 .result
@@ -38,7 +39,7 @@ own-is c =
 collided9-requires : tie.Need-collided9-requires
 collided9-requires c κs =
     let s = c .before in
-    (s .pre .0, s .pre .1, subst (λ (z : ℤ). relaxationGood z ≡ true) (sym (own-held c)) (c .own-relaxation9 .ensures .1), s .pre .3)
+    (s .pre .0, s .pre .1, subst (λ (z : ℤ). relaxationGood z ≡ true) (sym (own-held c)) (c .own-relaxation9 .ensures .1), s .pre .4)
 
 returns : tie.Need-returns
 unfolding turbulentPart

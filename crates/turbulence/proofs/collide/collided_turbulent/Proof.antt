@@ -19,7 +19,7 @@ use Rattle.turbulence.proofs.collide.collided_turbulent.Statement.{stat
 use Rattle.turbulence.proofs.collide.collided_turbulent.Tie as tie
 
 own-relaxation-requires : tie.Need-own-relaxation-requires
-own-relaxation-requires c κs = (c .pre .0, c .pre .1, rw (toZ-ofZ (c .fits .p)) (c .pre .2))
+own-relaxation-requires c κs = let e = toZ-ofZ (c .fits .p) in (c .pre .0, c .pre .1, rw e (c .pre .2), rw e (c .pre .3))
 
 -- own p, as the machine holds it
 own-held : (c : tie.After-own-relaxation) → toZ w64 (ofZ w64 (c .own-relaxation .result)) ≡ c .own-relaxation .result
