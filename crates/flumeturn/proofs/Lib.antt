@@ -1,2 +1,1 @@
 pub mod Newborns
-pub mod Flumes
