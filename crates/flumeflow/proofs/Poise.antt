@@ -1,8 +1,8 @@
 -- From what pass 1 asks of a flume's set to what a function of one cell asks, and from the step's grid to offsets. Assumes nothing.
 use mathlib.Core.Path.{_≡_, refl, sym, ap, ap₂, _∙_, subst}
-use mathlib.Core.Bool.{Bool, true, false, false≢true}
-use mathlib.Core.List.{List, []}
-use Prim.Native.Nat.{ℕ, zero, suc, _+_, _-_, _*_, _≤_, _<_}
+use mathlib.Core.Bool.{true, false, false≢true}
+use mathlib.Core.List.{List}
+use Prim.Native.Nat.{ℕ, _+_, _-_, _*_, _≤_, _<_}
 use native.Mathlib.Omega.{arith}
 use lib.IntN.{ℤ, pos}
 use lib.ListN.{length, getD}
@@ -21,28 +21,34 @@ use Rattle.grid.specs.Sight.{Around}
 use Rattle.grid.proofs.Laid.{inner}
 use Rattle.grid.proofs.Prepared.{cell-body, cell-mass, cell-fill}
 use Rattle.flow.specs.Sources.{Mirrored, Immersed}
-use Rattle.flow.specs.Trade.{Fills, Masses}
 use Rattle.flow.proofs.Poise.{fill-cases}
 use Rattle.flume.specs.declared.FlumeSides.{FlumeSides}
 use Rattle.flume.specs.declared.FlumeSettings.{FlumeSettings}
-use Rattle.flume.specs.Flume.{flumeCells, flumeGrid}
+use Rattle.flume.specs.Flume.{flumeCells, flumeGrid, levelSettings}
 use Rattle.flume.specs.Offsets.{flumeLow, flumeOffset}
-use Rattle.flume.specs.Spread.{wide, spreadLattice, spreadGrid, SpreadOf}
+use Rattle.flume.specs.Outcome.{flumeScene}
+use Rattle.flume.specs.Spread.{spreadLattice, spreadGrid, spreadScene, SpreadOf}
 use Rattle.flume.proofs.Bridge.{cell-good-same}
 use Rattle.flume.proofs.Places.{at-places, spread-at, spread-none}
 use Rattle.nine.specs.Cells.{partOf9}
 use Rattle.flumegrid.specs.Ready.{FlumePoised}
 use Rattle.flumegrid.proofs.GoodSides.{few}
-use Rattle.flumegrid.proofs.Offsets.{near-self, place-is, low-few, inner-of}
+use Rattle.flumegrid.proofs.Offsets.{near-self, place-is, inner-of}
 use Rattle.flumegrid.proofs.Offsets as flumegrid
 use Rattle.flumeflow.specs.Seen.{Bodied9, Traders9}
-use Rattle.flumeflow.specs.Flowed.{alongSettings}
+use Rattle.flumeflow.specs.Flowed.{alongSettings, wideScene}
 use Rattle.flumeflow.proofs.Nines.{part-at, part-none}
 
 -- the box's settings with gy = 0
 pub settings-good : (s : FlumeSides) (g : Settings) {flags : List ℕ} {parts masses : List ℤ} {fills : List ℕ} → FlumePoised s (alongSettings g) (uncarried flags parts masses fills) → g .gy ≡ pos 0
     → settingsGood g ≡ true
 settings-good s g r e = ap (λ (y : ℤ). settingsGood (record { p = g .p; gx = g .gx; gy = y; gz = g .gz })) e ∙ r .settings
+
+-- the scene of pass 1 is the flume's own, spread
+pub wide-scene : (s : FlumeSides) (h : FlumeSettings) (flags : List ℕ) (parts masses : List ℤ) (fills : List ℕ)
+    → wideScene s (levelSettings h) flags parts masses fills ≡ spreadScene (flumeScene s h (uncarried flags parts masses fills))
+unfolding flumeScene stateOf partOf9
+wide-scene s h flags parts masses fills = refl
 
 -- no rule of a cell reads a weight
 unweighed : (t : State) (c : ℕ) → cellGood d3q19 t c ≡ cellGood spreadLattice t c

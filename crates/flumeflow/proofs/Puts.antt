@@ -1,5 +1,5 @@
 -- Pass 1's second set, cell by cell: once cell c's parts are pasted, one more cell holds its moved parts. Assumes nothing.
-use mathlib.Core.Path.{_≡_, refl, sym, ap, _∙_, subst}
+use mathlib.Core.Path.{_≡_, refl, sym, ap, _∙_}
 use mathlib.Core.List.{List, []}
 use Prim.Native.Nat.{ℕ, zero, suc, _+_, _*_, _≤_, _<_}
 use native.Mathlib.Decide.{ℕ-discrete}
@@ -14,7 +14,6 @@ use Rattle.grid.specs.State.{Scene, byFlag}
 use Rattle.grid.specs.Step.{collided}
 use Rattle.grid.specs.Between.{movedPart}
 use Rattle.grid.specs.Sight.{sight}
-use Rattle.flume.specs.Spread.{Idle}
 use Rattle.flume.proofs.Flowing.{collided-none}
 use Rattle.nine.specs.Cells.{partOf9, pasted9, Quiet}
 use Rattle.nine.proofs.Pasted.{pasted-here, pasted-other}

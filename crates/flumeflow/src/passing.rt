@@ -30,18 +30,7 @@ pub fn flowing9(
     let mut still = true;
     let mut c = 0;
     while c < flags.len() {
-        let o = moving::put_parts9(
-            flags,
-            parts,
-            fill,
-            parts2,
-            marks[c],
-            &off,
-            &from,
-            low,
-            c,
-            g,
-        );
+        let o = moving::put_parts9(flags, parts, fill, parts2, marks[c], &off, &from, low, c, g);
         if !o.ok {
             return Passed::Stopped(c);
         }

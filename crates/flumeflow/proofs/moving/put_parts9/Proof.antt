@@ -1,19 +1,16 @@
 -- `flumeflow::moving::put_parts9` does stages 1 to 4 of any cell: what is not liquid gets zeros. Assumes nothing.
-use mathlib.Core.Path.{_≡_, refl, sym, ap, _∙_}
-use mathlib.Core.Bool.{true, false}
-use mathlib.Core.List.{List}
-use Prim.Native.Nat.{ℕ, _+_, _*_, _<_, _≤_}
+use mathlib.Core.Path.{_≡_, sym, ap, _∙_}
+use mathlib.Core.Bool.{true}
+use Prim.Native.Nat.{_+_, _*_, _≤_}
 use native.Mathlib.Omega.{arith}
-use lib.IntN.{ℤ, pos}
 use lib.ListN.{length, getD}
-use Rattle.whole.specs.Tab.{getD-tab}
 use Rattle.grid.specs.State.{liquid}
 use Rattle.grid.specs.Sight.{noSettings}
 use Rattle.grid.proofs.Lists.{getD-there}
 use Rattle.flow.proofs.Collisions.{told-dry, none}
 use Rattle.flow.proofs.Spans.{bounded-streamed}
 use Rattle.flume.specs.Spread.{spreadLattice}
-use Rattle.nine.specs.Cells.{partOf9, pasted9, Quiet}
+use Rattle.nine.specs.Cells.{partOf9, pasted9}
 use Rattle.nine.proofs.Pasted.{length-pasted9}
 use Rattle.flumeflow.proofs.Nines.{light9, quiet-streamed}
 use borrow.Author.Needs.{needs}
