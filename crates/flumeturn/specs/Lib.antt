@@ -1,2 +1,3 @@
 pub mod Born
 pub mod Filled
+pub mod Turned

@@ -1,28 +1,14 @@
 // Stage 7 in the flume: the fills, worked out afresh, and whether interface masses are still in their range.
+use flumegrid::fill::interface_fill9;
 use grid::seeking::next_of;
-use lattice::fill::part_fill;
 use lattice::limits::fair_mass;
-use lattice::moments::density;
-use nine::cells::own9;
 use turn::filling::plain_fills;
 use whole::wide;
 ghost use mathlib.Core.Path.{_≡_};
-ghost use Prim.Native.Nat.{_+_, _*_, _≤_};
 ghost use lib.ListN.{length};
-ghost use Rattle.lattice.specs.Lattice.{d3q19, density};
-ghost use Rattle.lattice.specs.Cell.{fillOf};
-ghost use Rattle.grid.specs.Fill.{Weighty};
 ghost use Rattle.turn.specs.Filled.{Refilled};
 ghost use Rattle.nine.specs.Cells.{partOf9};
 ghost use Rattle.flumeturn.specs.Filled.{Fillable9};
-
-// The fill of interface cell c, whose mass is m.
-fn interface_fill9(parts: &[i32], m: i64, c: usize) -> u32
-    requires { ⌜ (9 * c + 9 ≤ length (now parts)) × Weighty (partOf9 (now parts) c) ⌝ }
-    ensures { λ r. ⌜ r ≡ fillOf m (density d3q19 (partOf9 (now (parts .entry)) c)) ⌝ }
-{
-    part_fill(m, wide(density(own9(parts, c))))
-}
 
 // The fill of every cell; whether every interface cell's mass is in its range.
 pub fn new_fills9(flags: &[u8], parts: &[i32], mass: &[i32], fill: &mut [u32]) -> bool

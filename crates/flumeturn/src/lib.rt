@@ -2,3 +2,4 @@
 // flumeflow and flumeexcess.
 pub mod birth;
 pub mod filling;
+pub mod turning;
