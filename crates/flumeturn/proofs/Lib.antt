@@ -1,4 +1,3 @@
 pub mod Fields
 pub mod Newborns
-pub mod Flumes
 pub mod Turns
