@@ -1,8 +1,8 @@
 // Pass 0 in the flume, and the settings of its passes.
-use flow::marks;
 use flume::FlumeSettings;
 use flume::FlumeSides;
 use flumegrid::neighbours;
+use flumemarks::passes;
 use lattice::Settings;
 ghost use mathlib.Core.Path.{_≡_};
 ghost use mathlib.Core.Bool.{true};
@@ -31,5 +31,5 @@ pub(crate) fn mark_open9(flags: &[u8], marks: &mut [u8], s: FlumeSides)
 {
     let off = neighbours::offsets(s);
     let low = neighbours::low_of(s);
-    marks::mark_open_by(flags, marks, &off, low);
+    passes::mark_open9(flags, marks, &off, low);
 }
