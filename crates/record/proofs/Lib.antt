@@ -1,7 +1,10 @@
 pub mod Numbers
 pub mod Gathered
 pub mod Assembled
+pub mod Standing
+pub mod Again
 pub mod Answers
+pub mod Sections
 pub mod Shaped
 pub mod FlagPart
 pub mod ByFlag
