@@ -16,7 +16,7 @@ use Rattle.pumps.specs.Three.{numberIn}
 use Rattle.record.specs.declared.Site.{Site}
 use Rattle.record.specs.declared.Counts.{Counts}
 use Rattle.record.specs.Bytes.{bytesOf, join, u32Of}
-use Rattle.record.specs.Places.{counts, cellsFrom, massesFrom, partsFrom, lengthOf}
+use Rattle.record.specs.Places.{past, counts, cellsFrom, lengthOf}
 use Rattle.record.specs.Layout.{section, interfaces, liquids, massBytes, partNumbers, cellSections, siteBytes, totalsBytes, headBytes, cellsBytes, recordOf, recordLength}
 use Rattle.record.proofs.Numbers.{length-bytesOf, then-put}
 use Rattle.record.proofs.Gathered.{length-masses, length-parts}
@@ -65,23 +65,23 @@ length-record s g t a e =
     ∙ length-cells counts 3 (cellsOf s) (a .flags) (h .mass) (h .part) e
 
 -- ---- what the writer's calls leave, one after the other
-pub cells-put : (K : Counts) (k : ℕ) (l flags : List ℕ) (mass : ℕ → ℤ) (part : ℕ → ℕ → ℤ) (n at : ℕ) {r q o : List ℕ} → length flags ≡ n
-    → at ≡ partsFrom K k n (interfaces n (flagOf flags))
-    → r ≡ sets l (cellsFrom K k) (section n (flags ∷ []))
-    → q ≡ sets r (massesFrom K k n) (section (interfaces n (flagOf flags)) (massBytes n (flagOf flags) mass ∷ []))
-    → o ≡ sets q at (section (K .parts * liquids n (flagOf flags)) (partNumbers (K .parts) n (flagOf flags) part ∷ []))
-    → o ≡ sets l (cellsFrom K k) (cellSections (K .parts) n flags mass part)
+pub cells-put : (from w : ℕ) (l flags : List ℕ) (mass : ℕ → ℤ) (part : ℕ → ℕ → ℤ) (n at : ℕ) {r q o : List ℕ} → length flags ≡ n
+    → at ≡ past (from + 4 + n) 4 (interfaces n (flagOf flags))
+    → r ≡ sets l from (section n (flags ∷ []))
+    → q ≡ sets r (from + 4 + n) (section (interfaces n (flagOf flags)) (massBytes n (flagOf flags) mass ∷ []))
+    → o ≡ sets q at (section (w * liquids n (flagOf flags)) (partNumbers w n (flagOf flags) part ∷ []))
+    → o ≡ sets l from (cellSections w n flags mass part)
 unfolding cellSections join
-cells-put K k l flags mass part n at e h x y z =
+cells-put from w l flags mass part n at e h x y z =
     let f = flagOf flags in
     let five = section n (flags ∷ []) in
     let six = section (interfaces n f) (massBytes n f mass ∷ []) in
-    let seven = section (K .parts * liquids n f) (partNumbers (K .parts) n f part ∷ []) in
-    then-put l (cellsFrom K k) at (five ++ six) seven
-    (then-put l (cellsFrom K k) (massesFrom K k n) five six x y (omega (arith, length-section n flags)))
+    let seven = section (w * liquids n f) (partNumbers w n f part ∷ []) in
+    then-put l from at (five ++ six) seven
+    (then-put l from (from + 4 + n) five six x y (omega (arith, length-section n flags)))
     z
     (omega (arith, length-append five six, length-section n flags, length-section (interfaces n f) (massBytes n f mass), length-masses n f mass))
-    ∙ ap (sets l (cellsFrom K k)) (append-assoc five six seven ∙ ap (λ (t : List ℕ). five ++ (six ++ t)) (sym (append-nil seven)))
+    ∙ ap (sets l from) (append-assoc five six seven ∙ ap (λ (t : List ℕ). five ++ (six ++ t)) (sym (append-nil seven)))
 
 -- written from the front, the record stands before what the room held past it
 pub front-put : (l x : List ℕ) → length x ≤ length l → sets l 0 x ≡ x ++ drop (length x) l

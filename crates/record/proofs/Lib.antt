@@ -2,6 +2,8 @@ pub mod Numbers
 pub mod Gathered
 pub mod Assembled
 pub mod Standing
+pub mod Rules
+pub mod GridBack
 pub mod Again
 pub mod Answers
 pub mod Sections

@@ -7,6 +7,10 @@ use Rattle.record.specs.declared.Counts.{Counts}
 abbrev pub past : ℕ → ℕ → ℕ → ℕ
 past from size n = from + 4 + size * n
 
+-- the end of a record whose section 5 begins at `from`, with n flags, i masses and m parts
+abbrev pub endFrom : ℕ → ℕ → ℕ → ℕ → ℕ
+endFrom from n i m = past (past (from + 4 + n) 4 i) 4 m
+
 -- the byte where each section begins, that of its count; section 4 holds k numbers, section 5 n, section 6 i, section 7 m
 module _ (K : Counts) where
   abbrev pub settingsFrom : ℕ
@@ -29,7 +33,7 @@ module _ (K : Counts) where
 
   -- and the record's length
   abbrev pub lengthOf : ℕ → ℕ → ℕ → ℕ → ℕ
-  lengthOf k n i m = past (partsFrom k n i) 4 m
+  lengthOf k n i m = endFrom (cellsFrom k) n i m
 
 -- the grid record: 3 sides, 5 settings, 3 origin numbers, 19 parts a cell, so that sections begin at 0, 16, 40, 68, 72 + 8k, 76 + 8k + N, 80 + 8k + N + 4I
 abbrev pub counts : Counts

@@ -52,6 +52,17 @@ module _ (flag : ℕ → ℕ) where
       carry = carry;
     }
 
+-- the whole of it, of n cells with these flags
+module _ (L : Lattice) (K : Counts) (k n : ℕ) (flags r : List ℕ) where
+  abbrev pub partsRead : ℕ → ℕ → ℤ
+  partsRead = partsBy (flagOf flags) (partRead K k n (flagOf flags) r (interfaces n (flagOf flags)))
+
+  abbrev pub massesRead : ℕ → ℤ
+  massesRead = massesBy (flagOf flags) L partsRead (massRead K k n (flagOf flags) r)
+
+  abbrev pub stateRead : ℤ → State
+  stateRead carry = stateBy (flagOf flags) L partsRead massesRead carry
+
 -- ---- what the sections of the grid record hold, were they whole
 
 -- number i of sections 1 to 4: sides, settings, origin, totals
