@@ -40,12 +40,13 @@ module _ (g : ℕ → ℤ) where
 
   -- each place is in its range
   within : ((k : ℕ) → k < 9 → Within (g k) 1179648) → (i : ℕ) → i < 19 → Within (spread (pos 0) g i) 1179648
+  unfolding wide
   within h zero l = subst (λ (z : ℤ). Within z 1179648) (sym (spread-at (pos 0) g 0 (omega arith))) (h 0 (omega arith))
   within h (suc i) l =
       at-places (λ j. Within (spread (pos 0) g j) 1179648)
       (λ k d. subst (λ (z : ℤ). Within z 1179648) (sym (spread-at (pos 0) g k (d .most))) (h k (let m = d .most in omega arith)))
       (λ j n. subst (λ (z : ℤ). Within z 1179648) (sym (spread-none (pos 0) g j n)) (record { abs = omega arith }))
-      (suc i) (record { least = omega arith; most = omega arith })
+      (suc i) (record { some = omega arith; most = omega arith })
 
   module _ (v : List ℤ) (is : v ≡ tab 19 (spread (pos 0) g)) where
     at : (k : ℕ) → k < 19 → partsOf v k ≡ spread (pos 0) g k
