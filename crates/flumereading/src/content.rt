@@ -1,12 +1,12 @@
 // The reader's last tests, of a record whose sections passed: 3, 5 and 6.
 use crate::fair::first_unfair;
-use grid::Answer;
 use flume::FlumeSides;
 use flume::extent::cells;
 use flumegrid::fluid::first_open;
 use flumerecord::given::good_site;
 use flumerecord::given::settings_in;
 use flumerecord::given::site_in;
+use grid::Answer;
 use lattice::limits::fair_carry;
 use record::count::interface_cells;
 use record::number::i64_at;

@@ -1,13 +1,13 @@
 // The reader's sections in their order, with tests 1, 2 and 4 on the way.
-use grid::Answer;
 use flume::FlumeSides;
 use flume::extent::cells;
 use flumegrid::layer::first_bad_flag;
 use flumerecord::given::opening;
 use flumerecord::given::sides_in;
+use grid::Answer;
+use record::Counts;
 use record::count::interface_cells;
 use record::count::liquid_cells;
-use record::Counts;
 use record::section::passed;
 use record::section::sections_behind;
 use record::section::sections_to_end;

@@ -38,11 +38,7 @@ pub fn settings_in(rec: &[u8]) -> FlumeSettings
     let p = setting_at(rec, 16);
     let x = setting_at(rec, 20);
     let z = setting_at(rec, 24);
-    FlumeSettings {
-        p: p,
-        gx: x,
-        gz: z,
-    }
+    FlumeSettings { p: p, gx: x, gz: z }
 }
 
 pub fn site_in(rec: &[u8]) -> FlumeSite
