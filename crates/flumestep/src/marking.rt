@@ -1,8 +1,8 @@
 // Pass 0 in the flume, and the settings of its passes.
-use flow::marks;
 use flume::FlumeSettings;
 use flume::FlumeSides;
 use flumegrid::neighbours;
+use flumemarks::passes;
 use lattice::Settings;
 ghost use mathlib.Core.Path.{_≡_};
 ghost use mathlib.Core.Bool.{true};
@@ -25,11 +25,11 @@ pub(crate) fn level(g: FlumeSettings) -> Settings
 }
 
 // Marks 1 at fluid cells with no wall beside them.
-pub(crate) fn mark_open9(flags: &[u8], marks: &mut [u8], s: FlumeSides)
+pub(crate) fn mark_open(flags: &[u8], marks: &mut [u8], s: FlumeSides)
     requires { ⌜ (flumeSidesGood s ≡ true) × (length (now flags) ≡ flumeCells s) × (length (now marks) ≡ flumeCells s) ⌝ }
     ensures { λ r. ⌜ now (marks .exit) ≡ tab (length (now (flags .entry))) (openedBy (now (flags .entry)) (now (marks .entry)) (tab 19 (flumeOffset s)) (flumeLow s)) ⌝ }
 {
     let off = neighbours::offsets(s);
     let low = neighbours::low_of(s);
-    marks::mark_open_by(flags, marks, &off, low);
+    passes::mark_open9(flags, marks, &off, low);
 }
