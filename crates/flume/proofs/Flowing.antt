@@ -91,7 +91,7 @@ trades-nothing (suc zero) u v = u
 trades-nothing (suc (suc zero)) u v = v
 trades-nothing (suc (suc (suc n))) u v = refl
 
--- on any grid, where no part stands at an idle place: nothing arrives there, streams into it, or is traded
+-- on any grid, where no part stands at an idle place: nothing streams into one, is traded there, or is left there by a collision
 module _ (G : Grid) (old : State) (g : V3) (relax : ℕ → ℤ) (quiet : (c i : ℕ) → Idle i → old .part c i ≡ pos 0) where
   abbrev Q : Scene
   Q = record { lat = spreadLattice; grid = G; old = old; g = g; relax = relax }
@@ -114,6 +114,17 @@ module _ (G : Grid) (old : State) (g : V3) (relax : ℕ → ℤ) (quiet : (c i :
   unfolding streamed idle narrow
   streamed-none c zero n = absurd (false≢true (n .none))
   streamed-none c (suc a) n = arrives-idle c (suc a) n
+
+  pub collided-dir-none : (c i : ℕ) → Idle i → collidedDir Q c i ≡ pos 0
+  unfolding collidedDir
+  collided-dir-none c i n =
+      let R = quad (newDensity Q c) (dot (d3q19 .e i) (newMomentum Q c)) (dot (newMomentum Q c) (newMomentum Q c)) in
+      ap₂ (λ (w : ℕ) (x : ℤ). relaxed (relax c) w R (newDensity Q c) x) (spread-none 0 (d2q9 .weight) i n) (streamed-none c i n) ∙ relaxed-none (relax c) R (newDensity Q c)
+
+  pub collided-none : (c i : ℕ) → Idle i → collided Q c i ≡ pos 0
+  unfolding collided idle narrow
+  collided-none c zero n = absurd (false≢true (n .none))
+  collided-none c (suc a) n = collided-dir-none c (suc a) n
 
   pub traded-none : (c i : ℕ) → Idle i → traded Q c i ≡ pos 0
   unfolding traded difference
@@ -246,15 +257,9 @@ module _ (S : Scene) where
       let ρ = new-density-same c j in
       relaxed (S .relax c) (weight-at k d j) (quad ρ (dot (e-at k d j) m) (dot m m)) ρ (streamed-spreads c .at k (d .most) j)
 
-  collided-none : (c i : ℕ) → Idle i → collidedDir T c i ≡ pos 0
-  unfolding collidedDir
-  collided-none c i n =
-      let Q = quad (newDensity T c) (dot (d3q19 .e i) (newMomentum T c)) (dot (newMomentum T c) (newMomentum T c)) in
-      ap₂ (λ (w : ℕ) (x : ℤ). relaxed (S .relax c) w Q (newDensity T c) x) (weight-none i n) (streamed-spreads c .none i n) ∙ relaxed-none (S .relax c) Q (newDensity T c)
-
   pub collided-spreads : (c : ℕ) → Spreads (collided T c) (collided P c)
   unfolding collided d3q19 d2q9
   collided-spreads c =
       spreads (collided T c) (collided P c) (collidedDir T c) (collidedDir P c) (λ a. refl) (λ a. refl)
-      (ap₂ (λ (x y : ℤ). x -ℤ y) (new-density-same c) (dirs-same (collidedDir T c) (collidedDir P c) (collided-at c) (collided-none c)))
-      (collided-at c) (collided-none c)
+      (ap₂ (λ (x y : ℤ). x -ℤ y) (new-density-same c) (dirs-same (collidedDir T c) (collidedDir P c) (collided-at c) (collided-dir-none (T .grid) (T .old) (S .g) (S .relax) part-none c)))
+      (collided-at c) (collided-dir-none (T .grid) (T .old) (S .g) (S .relax) part-none c)

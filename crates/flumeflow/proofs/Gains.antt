@@ -1,13 +1,12 @@
 -- What an interface cell of the flume gains, by its eight directions: the same as stage 2's sum over all places, since an idle place trades nothing.
 -- Assumes nothing.
-use mathlib.Core.Path.{_≡_, refl, sym, ap, ap₂, _∙_}
+use mathlib.Core.Path.{_≡_, sym, ap, ap₂, _∙_}
 use mathlib.Core.List.{List}
-use Prim.Native.Nat.{ℕ, suc, _+_, _-_, _*_, _≤_, _<_}
+use Prim.Native.Nat.{ℕ, suc, _+_, _-_, _≤_, _<_}
 use native.Mathlib.Nat.{le-of-suc-le-suc}
 use native.Mathlib.Omega.{arith}
 use lib.IntN.{ℤ, pos, _+ℤ_}
 use lib.ListN.{length, getD}
-use Rattle.whole.specs.Fold.{dirs}
 use Rattle.whole.specs.Machine.{Within}
 use Rattle.lattice.specs.Lattice.{pairOpp, d3q19}
 use Rattle.grid.specs.Step.{traded, tradedMass}

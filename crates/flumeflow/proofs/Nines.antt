@@ -1,21 +1,21 @@
 -- Nine stored parts among the nineteen places: where a part lies, the pairs of directions, the weights, and that nothing is at an idle place. Assumes nothing.
 use mathlib.Core.Path.{_≡_, refl, sym, ap, _∙_, subst}
 use mathlib.Core.Logic.{_⊎_, inl, inr, ⊎-elim}
-use mathlib.Core.Bool.{Bool, true, false, _&&_, _||_}
+use mathlib.Core.Bool.{Bool, true, _&&_, _||_}
 use mathlib.Core.List.{List, []}
 use Prim.Native.Nat.{ℕ, zero, suc, _+_, _-_, _*_, _%_, _≤_, _<_}
 use native.Mathlib.Nat.{le-of-suc-le-suc}
 use native.Mathlib.Omega.{arith}
 use lib.Dec.{leb}
 use lib.IntN.{ℤ, pos, natAbs}
-use lib.ListN.{length, getD, set}
+use lib.ListN.{getD, set}
 use lib.Seq.{set-comm}
 use borrow.Author.Tests.{leb-true}
 use Rattle.whole.specs.Bools.{and-left, and-right, or-cases}
 use Rattle.whole.specs.Fold.{all, tab, open-fold}
-use Rattle.whole.specs.Search.{Dir, all-at, as-dir}
+use Rattle.whole.specs.Search.{all-at, as-dir}
 use Rattle.whole.specs.Tab.{getD-tab, tab-cong}
-use Rattle.lattice.specs.Lattice.{V3, pairOpp, d3q19, d2q9, open-lattice}
+use Rattle.lattice.specs.Lattice.{pairOpp, d3q19, open-lattice}
 use Rattle.lattice.specs.declared.Settings.{Settings}
 use Rattle.grid.specs.Step.{streamed}
 use Rattle.grid.specs.Sight.{sight}
@@ -58,8 +58,11 @@ place-low k h =
     by-nine (λ k. wide k < 19) (omega arith) (by-eight (λ k. wide k < 19) (omega arith) (omega arith) (omega arith) (omega arith) (omega arith) (omega arith) (omega arith) (omega arith)) k (le-of-suc-le-suc h)
 
 -- ---- an axis has weight 4, any other direction at most 2
+abbrev e-long : ℕ → ℕ
+e-long i = natAbs (d3q19 .e i .x) + natAbs (d3q19 .e i .y) + natAbs (d3q19 .e i .z)
+
 light-test : ℕ → Bool
-light-test i = (leb (spreadLattice .weight i) 4 && leb (natAbs (d3q19 .e i .x) + natAbs (d3q19 .e i .y) + natAbs (d3q19 .e i .z)) 1) || leb (spreadLattice .weight i) 2
+light-test i = (leb (spreadLattice .weight i) 4 && leb (e-long i) 1) || leb (spreadLattice .weight i) 2
 
 light-tests : all 18 (λ a. light-test (suc a)) ≡ true
 unfolding open-fold open-lattice spread narrow idle light-test
@@ -69,17 +72,14 @@ pub light9 : Light (spreadLattice .weight)
 unfolding light-test
 light9 = record { each = go }
   where
-    e-long : ℕ → ℕ
-    e-long i = natAbs (d3q19 .e i .x) + natAbs (d3q19 .e i .y) + natAbs (d3q19 .e i .z)
-
-    go : (i : ℕ) → 0 < i → i < 19 → ((spreadLattice .weight i ≤ 4) × (natAbs (d3q19 .e i .x) + natAbs (d3q19 .e i .y) + natAbs (d3q19 .e i .z) ≤ 1)) ⊎ (spreadLattice .weight i ≤ 2)
+    go : (i : ℕ) → 0 < i → i < 19 → ((spreadLattice .weight i ≤ 4) × (e-long i ≤ 1)) ⊎ (spreadLattice .weight i ≤ 2)
     go zero z h = absurd (omega arith)
     go (suc a) z h =
+        let i = suc a in
         ⊎-elim
-        (λ t. inl (leb-true _ _ (and-left (leb (spreadLattice .weight (suc a)) 4) _ t), leb-true _ _ (and-right (leb (spreadLattice .weight (suc a)) 4) _ t)))
+        (λ t. inl (leb-true _ _ (and-left (leb (spreadLattice .weight i) 4) _ t), leb-true _ _ (and-right (leb (spreadLattice .weight i) 4) _ t)))
         (λ t. inr (leb-true _ _ t))
-        (or-cases (leb (spreadLattice .weight (suc a)) 4 && leb (natAbs (d3q19 .e (suc a) .x) + natAbs (d3q19 .e (suc a) .y) + natAbs (d3q19 .e (suc a) .z)) 1) (leb (spreadLattice .weight (suc a)) 2)
-        (all-at 18 (λ a. light-test (suc a)) light-tests a (le-of-suc-le-suc h)))
+        (or-cases (leb (spreadLattice .weight i) 4 && leb (e-long i) 1) (leb (spreadLattice .weight i) 2) (all-at 18 (λ a. light-test (suc a)) light-tests a (le-of-suc-le-suc h)))
 
 -- ---- what streams in: nothing at an idle place
 module _ (flags : List ℕ) (parts : List ℤ) (fills off : List ℕ) (low : ℕ) (g : Settings) (c : ℕ) where

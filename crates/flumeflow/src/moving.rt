@@ -10,6 +10,7 @@ use lattice::rules::all_inside;
 use lattice::rules::all_zero;
 use nine::cells::own9;
 use nine::cells::paste9;
+use nine::cells::quieted;
 use nine::collide::collided9;
 ghost use mathlib.Core.Path.{_≡_};
 ghost use mathlib.Core.Bool.{true};
@@ -50,7 +51,7 @@ fn put_moved9(f: [i32; 19], parts2: &mut [i32], c: usize, g: Settings) -> Put
             rho: 0,
         };
     }
-    let r = collided9(f, v, g.p);
+    let r = quieted(collided9(f, v, g.p));
     paste9(parts2, c, r);
     Put {
         ok: true,
@@ -87,7 +88,7 @@ pub(crate) fn put_parts9(
 {
     if is_liquid(flags[c]) {
         return put_moved9(
-            chosen9(flags, parts, fill, mark, off, from, low, c),
+            quieted(chosen9(flags, parts, fill, mark, off, from, low, c)),
             parts2,
             c,
             g,

@@ -16,15 +16,7 @@ ghost use Rattle.nine.specs.Cells.{partOf9};
 ghost use Rattle.flumeflow.specs.Seen.{sight9, Bodied9, Traders9};
 
 // What cell c gains from cell b in direction k, whose opposite is m.
-fn traded9(
-    flags: &[u8],
-    parts: &[i32],
-    fill: &[u32],
-    c: usize,
-    b: usize,
-    k: usize,
-    m: usize,
-) -> i64
+fn traded9(flags: &[u8], parts: &[i32], fill: &[u32], c: usize, b: usize, k: usize, m: usize) -> i64
     requires { ⌜ Bodied9 (now flags) (now parts) × Fills (now flags) (now fill) × (c < length (now flags)) × (b < length (now flags)) × (k < 9) × (m < 9) ⌝ }
     ensures { λ r. ⌜ r ≡ passed (now (flags .entry)) (partOf9 (now (parts .entry))) (now (fill .entry)) c b (wide k) (wide m) ⌝ }
 {

@@ -76,11 +76,19 @@ module _ {s : FlumeSides} {flags : List ℕ} (w : FlumeFlagged s flags) where
       ap (λ (n : ℕ). first n (openAt flags (tab 19 (flumeOffset s)) (flumeLow s))) (w .count)
       ∙ first-cong (flumeCells s) 0 (openAt flags (tab 19 (flumeOffset s)) (flumeLow s)) (openFluid 18 (wideGrid s) (flagOf flags)) (λ a h. test (0 + a) (omega arith))
 
-  pub open-flume : openPlace flags (tab 19 (flumeOffset s)) (flumeLow s) ≡ badFluid 8 (flumeGrid s) (flagOf flags)
-  open-flume = wide-open ∙ bad-fluid-same (flumeGrid s) (flagOf flags)
+  here : openPlace flags (tab 19 (flumeOffset s)) (flumeLow s) ≡ badFluid 8 (flumeGrid s) (flagOf flags)
+  here = wide-open ∙ bad-fluid-same (flumeGrid s) (flagOf flags)
 
-  pub embedded : Embedded flags (tab 19 (flumeOffset s)) (flumeLow s)
-  embedded = record {
+  asked : Embedded flags (tab 19 (flumeOffset s)) (flumeLow s)
+  asked = record {
     reaching = subst (λ (n : ℕ). Reaching n (tab 19 (flumeOffset s)) (flumeLow s)) (sym (w .count)) (reaching s (w .sides));
     fluid = λ c h e. subst (λ (n : ℕ). Amid n (flumeLow s) c) (sym (w .count)) (inner c (omega (arith, w .count)) (λ t. absurd (omega arith)));
   }
+
+  -- by an array of these offsets
+  module _ (off : List ℕ) (low : ℕ) (e : off ≡ tab 19 (flumeOffset s)) (l : low ≡ flumeLow s) where
+    pub open-flume : openPlace flags off low ≡ badFluid 8 (flumeGrid s) (flagOf flags)
+    open-flume = ap₂ (openPlace flags) e l ∙ here
+
+    pub embedded : Embedded flags off low
+    embedded = rw (e, l) asked

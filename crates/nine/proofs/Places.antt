@@ -13,14 +13,15 @@ use lib.ListN.{length, getD, set, replicate, length-set}
 use lib.Seq.{getD-set-same, getD-set-other}
 use Rattle.whole.specs.Fold.{tab}
 use Rattle.whole.specs.Search.{Dir, as-dir}
-use Rattle.whole.specs.Tab.{upto-all}
+use Rattle.whole.specs.Tab.{upto-all, getD-tab}
 use Rattle.lattice.specs.Lattice.{V3, dot, d2q9}
 use Rattle.lattice.specs.Cell.{quad, relaxed}
-use Rattle.lattice.specs.Body.{relaxedDir}
+use Rattle.lattice.specs.Body.{partsOf, relaxedDir, collidedPart}
 use Rattle.collision.specs.Estimate.{landed}
 use Rattle.flume.specs.Spread.{wide, narrow, idle, spread, Idle, spreadLattice}
 use Rattle.flume.proofs.Places.{by-eight, by-nine, by-idle, spread-at, spread-none, is-spread, wide-dir}
 use Rattle.flume.proofs.Flowing.{relaxed-none}
+use Rattle.nine.specs.Cells.{Quiet}
 
 -- ---- the place of direction k
 pub place-low : (k : ℕ) → k < 3 → k ≡ wide k
@@ -100,6 +101,15 @@ module _ (g : ℕ → ℤ) where
       go zero h = f .at 0 (omega arith) ∙ sym (spread-at (pos 0) g 0 (omega arith))
       go (suc a) h = is-spread (pos 0) (λ i. getD v i (pos 0)) g (λ k d. f .at k (omega (arith, d .most))) (f .none) (suc a) (as-dir (le-of-suc-le-suc h))
 
+-- an array of nineteen with nothing at the idle places is the one that its nine parts fill
+pub quiet-all : (v r : List ℤ) → length v ≡ 19 → Quiet v → Filled (λ (j : ℕ). getD v (wide j) (pos 0)) r 9 → r ≡ v
+unfolding wide
+quiet-all v r e q f = filled-all (λ (j : ℕ). getD v (wide j) (pos 0)) r f ∙ sym (upto-all (pos 0) (spread (pos 0) (λ (j : ℕ). getD v (wide j) (pos 0))) v 19 e go)
+  where
+    go : (i : ℕ) → i < 19 → getD v i (pos 0) ≡ spread (pos 0) (λ (j : ℕ). getD v (wide j) (pos 0)) i
+    go zero h = sym (spread-at (pos 0) (λ (j : ℕ). getD v (wide j) (pos 0)) 0 (omega arith))
+    go (suc a) h = is-spread (pos 0) (λ i. getD v i (pos 0)) (λ (j : ℕ). getD v (wide j) (pos 0)) (λ k d. refl) (q .at) (suc a) (as-dir (le-of-suc-le-suc h))
+
 -- ---- an idle part: it lands at 0, where stage 4 leaves it
 pub landed-none : (c : ℤ) → landed 0 (pos 0) c ≡ pos 0
 unfolding landed
@@ -111,3 +121,14 @@ unfolding relaxedDir
 idle-stays ρ j p f i n e =
     let Q = quad ρ (dot (spreadLattice .e i) j) (dot j j) in
     ap₂ (λ (w : ℕ) (x : ℤ). relaxed p w Q ρ x) (spread-none 0 (d2q9 .weight) i n) e ∙ relaxed-none p Q ρ
+
+-- so what a collision makes of parts with nothing at the idle places has nothing there either
+pub quiet-collided : (ρ : ℤ) (j : V3) (p : ℤ) (f r : List ℤ) → Quiet f → r ≡ tab 19 (collidedPart spreadLattice ρ j p (partsOf f)) → Quiet r
+unfolding collidedPart idle narrow
+quiet-collided ρ j p f r q e = record { at = go }
+  where
+    go : (i : ℕ) → Idle i → partsOf r i ≡ pos 0
+    go zero n = absurd (false≢true (n .none))
+    go (suc a) n =
+        ap (λ (x : List ℤ). getD x (suc a) (pos 0)) e ∙ getD-tab 19 (collidedPart spreadLattice ρ j p (partsOf f)) (pos 0) (suc a) (omega (arith, n .low))
+        ∙ idle-stays ρ j p (partsOf f) (suc a) n (q .at (suc a) n)

@@ -5,7 +5,7 @@ ghost use lib.IntN.{pos};
 ghost use lib.ListN.{length, getD};
 ghost use Rattle.whole.specs.Fold.{tab};
 ghost use Rattle.flume.specs.Spread.{wide, spread};
-ghost use Rattle.nine.specs.Cells.{pasted9};
+ghost use Rattle.nine.specs.Cells.{pasted9, Quiet};
 
 // The place of direction k.
 pub fn place(k: usize) -> usize
@@ -45,4 +45,19 @@ pub fn paste9(out: &mut [i32], c: usize, v: [i32; 19])
         out[9 * c + k] = v[place(k)];
         k += 1;
     }
+}
+
+// The same parts with the idle places written as 0 again: the compiler then knows that they are, and drops what is done with them. Where parts come
+// from a call it cannot tell.
+pub fn quieted(v: [i32; 19]) -> [i32; 19]
+    requires { ⌜ Quiet v ⌝ }
+    ensures { λ r. ⌜ r ≡ v ⌝ }
+{
+    let mut r = [0i32; 19];
+    let mut k = 0;
+    while k < 9 {
+        r[place(k)] = v[place(k)];
+        k += 1;
+    }
+    r
 }

@@ -4,4 +4,5 @@ pub mod Opened
 pub mod Uncarried
 pub mod Tests
 pub mod Finishes
+pub mod Entered
 pub mod Entrance

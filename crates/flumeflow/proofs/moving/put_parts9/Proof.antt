@@ -1,19 +1,16 @@
 -- `flumeflow::moving::put_parts9` does stages 1 to 4 of any cell: what is not liquid gets zeros. Assumes nothing.
-use mathlib.Core.Path.{_≡_, refl, sym, ap, _∙_}
-use mathlib.Core.Bool.{true, false}
-use mathlib.Core.List.{List}
-use Prim.Native.Nat.{ℕ, _+_, _*_, _<_, _≤_}
+use mathlib.Core.Path.{_≡_, sym, ap, _∙_}
+use mathlib.Core.Bool.{true}
+use Prim.Native.Nat.{_+_, _*_, _≤_}
 use native.Mathlib.Omega.{arith}
-use lib.IntN.{ℤ, pos}
 use lib.ListN.{length, getD}
-use Rattle.whole.specs.Tab.{getD-tab}
 use Rattle.grid.specs.State.{liquid}
 use Rattle.grid.specs.Sight.{noSettings}
 use Rattle.grid.proofs.Lists.{getD-there}
 use Rattle.flow.proofs.Collisions.{told-dry, none}
 use Rattle.flow.proofs.Spans.{bounded-streamed}
 use Rattle.flume.specs.Spread.{spreadLattice}
-use Rattle.nine.specs.Cells.{partOf9, pasted9, Quiet}
+use Rattle.nine.specs.Cells.{partOf9, pasted9}
 use Rattle.nine.proofs.Pasted.{length-pasted9}
 use Rattle.flumeflow.proofs.Nines.{light9, quiet-streamed}
 use borrow.Author.Needs.{needs}
@@ -43,11 +40,14 @@ chosen9-requires c κs =
     let l = kind c in
     (p .bodied, p .filled, p .around l, l, p .mirrored, p .sources, p .marked l)
 
+quieted-requires : tie.Need-quieted-requires
+quieted-requires c κs = quiet-streamed _ _ _ _ _ _ _ _ (c .chosen9 .ensures)
+
 put-moved9-requires : tie.Need-put-moved9-requires
 put-moved9-requires c κs =
-    let t = c .before .before in
+    let t = c .before .before .before in
     let s = t .before .before .before .before .before in
-    let e = c .before .chosen9 .ensures in
+    let e = c .before .quieted .ensures ∙ c .before .before .chosen9 .ensures in
     (bounded-streamed _ light9 _ _ _ _ _ noSettings (s .pre .bodied .bodies) _ (s .pre .around (kind t)) (kind t) _ e _ _ (omega arith) (omega arith), quiet-streamed _ _ _ _ _ _ _ _ e, s .pre .settings, room s)
 
 same-length : tie.Need-same-length
@@ -55,9 +55,10 @@ same-length c = search needs
 
 returns : tie.Need-returns
 returns c =
-    let t = c .before .before .before .before in
+    let t = c .before .before .before .before .before in
     let s = t .before .before .before .before .before in
-    c .before .put-moved9 .ensures (s .args .flags .now) (s .args .parts .now) (s .args .fill .now) (s .args .off .now) (s .args .low) (kind t) (c .before .before .before .chosen9 .ensures)
+    c .before .put-moved9 .ensures (s .args .flags .now) (s .args .parts .now) (s .args .fill .now) (s .args .off .now) (s .args .low) (kind t)
+    (c .before .before .before .quieted .ensures ∙ c .before .before .before .before .chosen9 .ensures)
 
 dry-out9-requires : tie.Need-dry-out9-requires
 dry-out9-requires c κs = room (c .before .before .before .before .before .before)
@@ -84,6 +85,7 @@ put-parts9-spec =
     shared-slice-read-is-liquid
     is-liquid-requires
     chosen9-requires
+    quieted-requires
     put-moved9-requires
     same-length
     returns

@@ -1,19 +1,18 @@
 -- `flumeflow::streaming::arriving9` is what arrives from one direction, by the neighbour's flag. What is rebuilt fits, since gas and own part are bounded.
 -- Assumes nothing.
 use mathlib.Core.Path.{_≡_, sym, ap, ap₂, _∙_, subst}
-use mathlib.Core.Bool.{Bool, true, _||_}
-use mathlib.Core.List.{List}
+use mathlib.Core.Bool.{Bool, _||_}
 use Prim.Native.Nat.{ℕ, _+_, _*_, _≤_, _<_}
 use native.Mathlib.Omega.{arith}
-use lib.IntN.{ℤ, pos, natAbs, _-ℤ_}
+use lib.IntN.{ℤ, pos, natAbs}
 use lib.Signed.{_≤ℤ_, ltZ}
 use lib.Dec.{eqb}
-use lib.ListN.{length, getD}
+use lib.ListN.{getD}
 use mir.Syntax.{w32, w64}
 use mir.Val.{toZ, ofZ}
 use mir.Facts.{toZ-ofZ}
 use Rattle.whole.specs.Parts.{parts-≤}
-use Rattle.whole.specs.Machine.{Val, Within, machine, v32, v64, same, does-fit, reads-as, within-by}
+use Rattle.whole.specs.Machine.{Val, machine, v32, v64, same, does-fit, reads-as, within-by}
 use Rattle.lattice.specs.Lattice.{V3, dot, d3q19, density, momentum}
 use Rattle.lattice.specs.Cell.{gas, isPositive}
 use Rattle.lattice.specs.Body.{vec}
@@ -23,7 +22,7 @@ use Rattle.grid.proofs.Lists.{getD-there}
 use Rattle.flow.proofs.Arrivals.{arrives-wall, arrives-rebuilt, arrives-liquid}
 use Rattle.flow.proofs.Leans.{above-zero}
 use Rattle.flow.proofs.Spans.{gas-body, along-body, tame-body}
-use Rattle.flume.specs.Spread.{wide, spreadLattice}
+use Rattle.flume.specs.Spread.{spreadLattice}
 use Rattle.nine.specs.Cells.{partOf9}
 use Rattle.nine.proofs.Weighed.{weight-in}
 use Rattle.flumeflow.proofs.Nines.{light9, part-at}

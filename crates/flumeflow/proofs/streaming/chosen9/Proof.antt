@@ -1,10 +1,10 @@
 -- `flumeflow::streaming::chosen9` is the same either way: with liquid all around, every part comes straight from its source. Assumes nothing.
-use mathlib.Core.Path.{_≡_, refl, sym, ap, _∙_, subst}
+use mathlib.Core.Path.{_≡_, sym, ap, _∙_}
 use mathlib.Core.List.{List}
 use Prim.Native.Nat.{ℕ, _+_, _*_, _-_, _<_}
 use native.Mathlib.Omega.{arith}
 use lib.IntN.{pos}
-use lib.ListN.{length, getD}
+use lib.ListN.{getD}
 use Rattle.whole.specs.Tab.{getD-tab}
 use Rattle.lattice.specs.Lattice.{pairOpp}
 use Rattle.grid.specs.Sight.{noSettings}

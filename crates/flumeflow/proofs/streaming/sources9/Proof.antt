@@ -1,8 +1,8 @@
 -- `flumeflow::streaming::sources9` gives where each part that streams straight in lies: the mirrored offset is the opposite neighbour's. Assumes nothing.
 use mathlib.Core.Path.{_≡_, refl}
-use Prim.Native.Nat.{ℕ, _+_, _*_, _-_, _≤_, _<_}
+use Prim.Native.Nat.{_-_, _≤_, _<_}
 use native.Mathlib.Omega.{arith}
-use lib.ListN.{length, getD, replicate, length-set}
+use lib.ListN.{length, replicate, length-set}
 use Rattle.whole.specs.Tab.{Upto, upto-zero, upto-more, upto-all}
 use Rattle.flumeflow.specs.Seen.{sourceOf9}
 use Rattle.flumeflow.proofs.Nines.{source-is}

@@ -27,14 +27,14 @@ place c =
 first-bad-flag-requires : tie.Need-first-bad-flag-requires
 first-bad-flag-requires c κs = search needs
 
+first-open-requires : tie.Need-first-open-requires
+first-open-requires c κs = search needs
+
 returns : tie.Need-returns
 unfolding flumeGrid flume flumeCells d2q9 stateOf
 returns c =
     let w = c .before .before .before .before in
     stops-at-flag d2q9 (flumeGrid (w .args .s)) (stateOf 8 (lent w)) _ (c .before .first-bad-flag .ensures) (omega (arith, w .pre .1 .flags, c .if1 .taken))
-
-first-open-requires : tie.Need-first-open-requires
-first-open-requires c κs = search needs
 
 returns-2 : tie.Need-returns-2
 unfolding flumeGrid flume flumeCells d2q9 stateOf

@@ -12,10 +12,10 @@ low-of-requires : tie.Need-low-of-requires
 low-of-requires c κs = search needs
 
 first-open-by-requires : tie.Need-first-open-by-requires
-first-open-by-requires c κs = rw (c .before .before .offsets .ensures, c .before .low-of .ensures) (embedded (c .before .before .before .before .pre))
+first-open-by-requires c κs = embedded (c .before .before .before .before .pre) _ _ (c .before .before .offsets .ensures) (c .before .low-of .ensures)
 
 returns : tie.Need-returns
-returns c = rw (c .before .before .before .offsets .ensures, c .before .before .low-of .ensures) at (c .first-open-by .ensures) ∙ open-flume (c .before .before .before .before .before .pre)
+returns c = c .first-open-by .ensures ∙ open-flume (c .before .before .before .before .before .pre) _ _ (c .before .before .before .offsets .ensures) (c .before .before .low-of .ensures)
 
 pub first-open-spec : {M : Type 1} → statement M
 first-open-spec = tie.close (tie.spec offsets-requires low-of-requires first-open-by-requires returns)
