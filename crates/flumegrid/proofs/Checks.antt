@@ -2,7 +2,7 @@
 -- lets the next answer. And tests 1 and 2 of a flume before them. Assumes nothing.
 use mathlib.Core.Path.{_≡_, refl, sym, ap, _∙_}
 use mathlib.Core.Bool.{Bool, true, false, _&&_}
-use mathlib.Core.List.{List, [], _∷_}
+use mathlib.Core.List.{[], _∷_}
 use Prim.Native.Nat.{ℕ, suc, _*_, _≤_, _<_}
 use native.Mathlib.Omega.{arith}
 use lib.IntN.{ℤ, pos}
@@ -11,19 +11,17 @@ use lib.ListN.{length, getD}
 use borrow.Author.Tests.{eqb-true}
 use Rattle.whole.specs.Bools.{and-left, and-right}
 use Rattle.lattice.specs.Lattice.{Lattice, d2q9}
-use Rattle.lattice.specs.Cell.{relaxationGood, gravityGood}
 use Rattle.grid.specs.declared.Answer.{Answer}
 use Rattle.grid.specs.declared.Answer.the-variants.{Done, Refused}
 use Rattle.grid.specs.Grid.{Grid}
 use Rattle.grid.specs.State.{Lent, State, stateOf}
 use Rattle.grid.specs.Good.{badFlag, badFluid, badRule, cellGood, dryGood, interfaceGood, fluidGood, fillGood}
-use Rattle.grid.specs.Outcome.{ifNone, goodAnswer, settingsGood}
+use Rattle.grid.specs.Outcome.{ifNone, goodAnswer}
 use Rattle.grid.proofs.Accepted.{skip}
 use Rattle.grid.proofs.Checks.{stop}
 use Rattle.flume.specs.declared.FlumeSides.{FlumeSides}
-use Rattle.flume.specs.declared.FlumeSettings.{FlumeSettings}
-use Rattle.flume.specs.Flume.{flumeSidesGood, flumeCells, flumeGrid, flumeLengths, levelSettings}
-use Rattle.flume.specs.Outcome.{flumeCheck, flumeEntry}
+use Rattle.flume.specs.Flume.{flumeSidesGood, flumeCells, flumeGrid, flumeLengths}
+use Rattle.flume.specs.Outcome.{flumeCheck}
 use Rattle.flumegrid.specs.Ready.{FlumeSized}
 
 module _ (L : Lattice) (G : Grid) (t : State) where

@@ -1,5 +1,5 @@
 -- Tests 1 to 6 before a flume's step, in the outcome's order; and what an answer Done tells of the sets. Assumes nothing.
-use mathlib.Core.Path.{_≡_, refl, sym, ap, _∙_}
+use mathlib.Core.Path.{_≡_, refl}
 use mathlib.Core.Bool.{Bool, true, false, _&&_}
 use mathlib.Core.List.{List}
 use Prim.Native.Nat.{ℕ, _*_}
@@ -10,7 +10,7 @@ use Rattle.whole.specs.Bools.{and-left, and-right}
 use Rattle.lattice.specs.Lattice.{d2q9}
 use Rattle.grid.specs.declared.Answer.the-variants.{Done, Refused}
 use Rattle.grid.specs.State.{Lent, stateOf}
-use Rattle.grid.specs.Outcome.{orRefuse, goodAnswer, settingsGood}
+use Rattle.grid.specs.Outcome.{goodAnswer, settingsGood}
 use Rattle.grid.proofs.Accepted.{passed}
 use Rattle.flume.specs.declared.FlumeSides.{FlumeSides}
 use Rattle.flume.specs.declared.FlumeSettings.{FlumeSettings}

@@ -1,7 +1,7 @@
 -- Good sides of a flume, as bounds that `omega` reads: each side is 3 to 512, and N is at most 262,144. Assumes nothing.
 use mathlib.Core.Path.{_≡_}
 use mathlib.Core.Bool.{true}
-use Prim.Native.Nat.{ℕ, _*_, _≤_}
+use Prim.Native.Nat.{ℕ, _≤_}
 use native.Mathlib.Nat.{mul-le-mul}
 use lib.Dec.{leb}
 use borrow.Author.Tests.{leb-true}

@@ -1,8 +1,8 @@
 -- The neighbours of a flume's cells by offsets, among the nineteen places: for a cell from the lowest inner one on, (c − low) + offset i is its neighbour i;
 -- a cell that is not in the outer layer has all its neighbours, and each leads back. Assumes nothing.
-use mathlib.Core.Path.{_≡_, refl, sym, ap, ap₂, _∙_, subst}
+use mathlib.Core.Path.{_≡_, sym, _∙_, subst}
 use mathlib.Core.Bool.{true, false}
-use mathlib.Core.List.{List, [], _∷_}
+use mathlib.Core.List.{[], _∷_}
 use Prim.Native.Nat.{ℕ, zero, suc, _+_, _-_, _*_, _/_, _%_, _≤_, _<_}
 use native.Mathlib.Nat.{mod-lt, mod-add-div, mul-le-mul-left, div-lt-iff-lt-mul, mul-comm, le-of-suc-le-suc}
 use native.Mathlib.Omega.{arith}
@@ -13,7 +13,7 @@ use Rattle.whole.specs.Bools.{or-false}
 use Rattle.whole.specs.Fold.{tab, open-fold}
 use Rattle.whole.specs.Tab.{getD-tab}
 use Rattle.whole.specs.Search.{Dir, as-dir}
-use Rattle.lattice.specs.Lattice.{pairOpp, d3q19, d2q9, open-lattice}
+use Rattle.lattice.specs.Lattice.{pairOpp, d3q19, open-lattice}
 use Rattle.grid.specs.Grid.{Grid, atEnd, flume, toward}
 use Rattle.grid.specs.Passes.{Reaching, Amid}
 use Rattle.grid.proofs.Laid.{Laid}
@@ -21,8 +21,8 @@ use Rattle.grid.proofs.Offsets.{listed}
 use Rattle.flume.specs.declared.FlumeSides.{FlumeSides}
 use Rattle.flume.specs.Flume.{flumeSidesGood, flumeCells, flumeGrid}
 use Rattle.flume.specs.Offsets.{flumeLow, flumeOffset}
-use Rattle.flume.specs.Spread.{wide, narrow, idle, spread, Idle, spreadLattice, spreadGrid}
-use Rattle.flume.proofs.Places.{by-eight, by-idle, at-places, spread-at, spread-none}
+use Rattle.flume.specs.Spread.{wide, narrow, idle, spread, spreadLattice, spreadGrid}
+use Rattle.flume.proofs.Places.{by-eight, by-idle, at-places, spread-none}
 use Rattle.flume.proofs.Bridge.{spread-laid}
 use Rattle.flume.proofs.Demands.{flume-laid}
 use Rattle.flumegrid.proofs.GoodSides.{good-sides, few}

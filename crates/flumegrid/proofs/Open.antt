@@ -1,13 +1,13 @@
 -- Flags of a flume that passed test 4: a cell that is not wall has all its neighbours in the grid. So test 5 by offsets is test 5's place. Assumes nothing.
-use borrow.Author.Tests.{eqb-true, ltb-true, not-false}
+use borrow.Author.Tests.{eqb-true, not-false}
 use mathlib.Core.Path.{_≡_, refl, sym, ap, ap₂, _∙_, subst}
 use mathlib.Core.Bool.{Bool, true, false, _&&_, not, _||_}
 use mathlib.Core.List.{List}
-use Prim.Native.Nat.{ℕ, suc, _+_, _-_, _≤_, _<_}
+use Prim.Native.Nat.{ℕ, suc, _+_, _-_, _<_}
 use native.Mathlib.Omega.{arith}
 use lib.Dec.{ltb, eqb}
 use lib.ListN.{length, getD}
-use Rattle.whole.specs.Bools.{and-left, and-right, where-then, never}
+use Rattle.whole.specs.Bools.{and-right, where-then, never}
 use Rattle.whole.specs.Fold.{first, anyDir, tab}
 use Rattle.whole.specs.Search.{first-none, first-cong}
 use Rattle.grid.specs.Grid.{flume}

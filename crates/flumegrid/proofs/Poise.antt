@@ -1,13 +1,12 @@
 -- From tests 1 to 6 of a flume to what a pass asks, and from that to what a law over the nineteen places asks of a cell. Assumes nothing.
-use mathlib.Core.Path.{_≡_, refl, sym, ap, _∙_, subst}
-use mathlib.Core.Bool.{Bool, true, false, not, cond, false≢true}
-use mathlib.Core.List.{List}
-use Prim.Native.Nat.{ℕ, zero, suc, _+_, _*_, _≤_, _<_}
+use mathlib.Core.Path.{_≡_, refl, sym, ap, _∙_}
+use mathlib.Core.Bool.{Bool, true, not, cond, false≢true}
+use Prim.Native.Nat.{ℕ, zero, suc, _≤_, _<_}
 use native.Mathlib.Nat.{lt-suc-self}
 use native.Mathlib.Omega.{arith}
 use lib.IntN.{ℤ, pos}
 use lib.Dec.{eqb}
-use lib.ListN.{length, getD}
+use lib.ListN.{getD}
 use borrow.Author.Tests.{eq-eqb, not-false}
 use Rattle.whole.specs.Machine.{Within}
 use Rattle.whole.specs.Search.{Dir, first-none}
@@ -30,10 +29,10 @@ use Rattle.grid.proofs.Laid.{inner}
 use Rattle.grid.proofs.Prepared.{cell-body, cell-mass, cell-fill}
 use Rattle.flume.specs.declared.FlumeSides.{FlumeSides}
 use Rattle.flume.specs.declared.FlumeSettings.{FlumeSettings}
-use Rattle.flume.specs.Flume.{flumeCells, flumeGrid, levelSettings}
+use Rattle.flume.specs.Flume.{flumeCells, flumeGrid}
 use Rattle.flume.specs.Offsets.{flumeLow}
 use Rattle.flume.specs.Outcome.{flumeScene}
-use Rattle.flume.specs.Spread.{wide, spread, spreadLattice, spreadState}
+use Rattle.flume.specs.Spread.{spreadLattice, spreadState}
 use Rattle.flume.proofs.Bridge.{cell-good-same, spread-of}
 use Rattle.flume.proofs.Places.{at-places, spread-at, spread-none}
 use Rattle.nine.specs.Cells.{partOf9}

@@ -1,5 +1,5 @@
 -- Rows of a flume: cell x of the row that begins at nx·z stands at x, z, so its test is the rule's; and the next row begins where it ends. Assumes nothing.
-use mathlib.Core.Path.{_≡_, refl, sym, ap, ap₂, _∙_, subst}
+use mathlib.Core.Path.{_≡_, sym, ap, ap₂, _∙_, subst}
 use mathlib.Core.Bool.{Bool, true, false, not, _&&_, _||_}
 use mathlib.Core.List.{List}
 use Prim.Native.Nat.{ℕ, _+_, _-_, _*_, _/_, _%_, _≤_, _<_}
@@ -11,7 +11,6 @@ use lib.ListN.{length, getD}
 use Rattle.whole.specs.Search.{first-is, first-all}
 use Rattle.grid.specs.Grid.{atEnd, flume}
 use Rattle.grid.specs.Good.{flagGood, badFlag}
-use Rattle.grid.specs.Passes.{flagOf}
 use Rattle.grid.proofs.Lists.{getD-there}
 use Rattle.flume.specs.declared.FlumeSides.{FlumeSides}
 use Rattle.flume.specs.Flume.{flumeCells, flumeGrid}

@@ -1,9 +1,9 @@
 -- Test 6's place over any lattice: the lowest cell that breaks a rule, N for the carry alone, N + 1 if nothing is broken. And a flume cell's rules, read from
 -- its nine parts at their places: an idle place holds 0 and adds nothing. Assumes nothing.
-use mathlib.Core.Path.{_≡_, refl, sym, ap, _∙_, subst}
+use mathlib.Core.Path.{_≡_, refl, sym, ap, _∙_}
 use mathlib.Core.Bool.{Bool, true, false, not, cond, _&&_}
 use mathlib.Core.List.{List, [], _∷_}
-use Prim.Native.Nat.{ℕ, zero, suc, _+_, _*_, _≤_, _<_}
+use Prim.Native.Nat.{ℕ, zero, suc, _+_, _*_, _<_}
 use native.Mathlib.Decide.{ℕ-discrete}
 use native.Mathlib.Numerals.{add-one}
 use native.Mathlib.Omega.{arith}
@@ -20,8 +20,7 @@ use Rattle.whole.specs.Search.{first-is, first-all}
 use Rattle.lattice.specs.Lattice.{Lattice, d3q19, d2q9, density, momentum}
 use Rattle.lattice.specs.Cell.{carryGood}
 use Rattle.lattice.specs.Body.{partsOf, bodyGood, goodFluid, goodInterface, eqZ}
-use Rattle.grid.specs.Grid.{Grid}
-use Rattle.grid.specs.State.{Lent, State, Scene, stateOf, liquid}
+use Rattle.grid.specs.State.{State, stateOf, liquid}
 use Rattle.grid.specs.Good.{dryGood, interfaceGood, fluidGood, fillGood, cellGood, badRule}
 use Rattle.grid.specs.Passes.{carryless}
 use Rattle.grid.specs.Demands.{Same}

@@ -57,8 +57,9 @@ turned-same flags marks off low c idling from only =
     turned-cases (getD flags c 0) (getD marks c 0) _ _ _ _ (λ e. sym (eight-same marks off low c 1 idling from e)) (λ e. sym (eight-same marks off low c 2 idling from e)) only
 
 -- the flume's own offsets
-pub idling : (s : FlumeSides) → Idling (tab 19 (flumeOffset s)) (flumeLow s)
+pub idling : (s : FlumeSides) {off : List ℕ} {low : ℕ} → off ≡ tab 19 (flumeOffset s) → low ≡ flumeLow s → Idling off low
 unfolding flumeOffset
-idling s = record {
-  at = λ i n. getD-tab 19 (flumeOffset s) 0 i (omega (arith, n .low)) ∙ spread-none (flumeLow s) (flumeGrid s .near (flumeLow s)) i n;
+idling s e l = record {
+  at = λ i n.
+      ap (λ (x : List ℕ). getD x i 0) e ∙ getD-tab 19 (flumeOffset s) 0 i (omega (arith, n .low)) ∙ spread-none (flumeLow s) (flumeGrid s .near (flumeLow s)) i n ∙ sym l;
 }

@@ -11,6 +11,7 @@ use Rattle.whole.specs.Bounds.{held}
 use Rattle.whole.specs.Machine.{Within}
 use Rattle.whole.specs.Tab.{length-tab}
 use Rattle.flumeturn.proofs.Turns.{carry-within, asks-emptying, asks-marked, asks-fertile, parts-long, flags-long, asks-straying, asks-gathering, carry-told, asks-settling, parts-kept, converted}
+use Rattle.flumemarks.proofs.Alike.{idling}
 use Rattle.flumeturn.proofs.turning.converted9.Statement.{statement}
 use Rattle.flumeturn.proofs.turning.converted9.Tie as tie
 
@@ -30,12 +31,12 @@ settle-marks-by-requires c κs =
     let t = l .before .before .before .before .before .before in
     asks-emptying (t .pre .0) (l .before .offsets .ensures) (l .low-of .ensures)
 
-new-flags-by-requires : tie.Need-new-flags-by-requires
-new-flags-by-requires c κs =
+new-flags9-requires : tie.Need-new-flags9-requires
+new-flags9-requires c κs =
     let m = c .before .before .before .before .before in
     let l = m .before .before .before in
     let t = l .before .before .before .before .before .before in
-    (asks-marked (t .pre .0) (l .before .offsets .ensures) (l .low-of .ensures) (m .settle-marks-by .ensures), t .pre .1)
+    (asks-marked (t .pre .0) (l .before .offsets .ensures) (l .low-of .ensures) (m .settle-marks-by .ensures), idling (t .args .s) (l .before .offsets .ensures) (l .low-of .ensures), t .pre .1)
 
 newborn9-requires : tie.Need-newborn9-requires
 newborn9-requires c κs =
@@ -43,7 +44,7 @@ newborn9-requires c κs =
     let m = f .before .before .before .before .before .before in
     let l = m .before .before .before in
     let t = l .before .before .before .before .before .before in
-    (asks-fertile (t .pre .0) (l .before .offsets .ensures) (l .low-of .ensures) (m .settle-marks-by .ensures) (f .new-flags-by .ensures), parts-long (t .pre .0) (l .before .offsets .ensures) (l .low-of .ensures) (m .settle-marks-by .ensures) (f .new-flags-by .ensures))
+    (asks-fertile (t .pre .0) (l .before .offsets .ensures) (l .low-of .ensures) (m .settle-marks-by .ensures) (f .new-flags9 .ensures), parts-long (t .pre .0) (l .before .offsets .ensures) (l .low-of .ensures) (m .settle-marks-by .ensures) (f .new-flags9 .ensures))
 
 shared-slice-copy-out-new-carry9 : tie.Need-shared-slice-copy-out-new-carry9
 shared-slice-copy-out-new-carry9 c =
@@ -61,7 +62,7 @@ new-carry9-requires c κs =
     let m = f .before .before .before .before .before .before in
     let l = m .before .before .before in
     let t = l .before .before .before .before .before .before in
-    (asks-straying (t .pre .0) (l .before .offsets .ensures) (l .low-of .ensures) (m .settle-marks-by .ensures) (f .new-flags-by .ensures) (b .newborn9 .ensures), rw (kept _ (carry-within (t .pre .0) (l .before .offsets .ensures) (l .low-of .ensures))) (carry-within (t .pre .0) (l .before .offsets .ensures) (l .low-of .ensures)))
+    (asks-straying (t .pre .0) (l .before .offsets .ensures) (l .low-of .ensures) (m .settle-marks-by .ensures) (f .new-flags9 .ensures) (b .newborn9 .ensures), rw (kept _ (carry-within (t .pre .0) (l .before .offsets .ensures) (l .low-of .ensures))) (carry-within (t .pre .0) (l .before .offsets .ensures) (l .low-of .ensures)))
 
 slice-set-from-k : tie.Need-slice-set-from-k
 slice-set-from-k c =
@@ -81,7 +82,7 @@ gather9-requires c κs =
     let m = f .before .before .before .before .before .before in
     let l = m .before .before .before in
     let t = l .before .before .before .before .before .before in
-    asks-gathering (t .pre .0) (l .before .offsets .ensures) (l .low-of .ensures) (m .settle-marks-by .ensures) (f .new-flags-by .ensures) (b .newborn9 .ensures)
+    asks-gathering (t .pre .0) (l .before .offsets .ensures) (l .low-of .ensures) (m .settle-marks-by .ensures) (f .new-flags9 .ensures) (b .newborn9 .ensures)
 
 settle9-requires : tie.Need-settle9-requires
 settle9-requires c κs =
@@ -92,7 +93,7 @@ settle9-requires c κs =
     let m = f .before .before .before .before .before .before in
     let l = m .before .before .before in
     let t = l .before .before .before .before .before .before in
-    asks-settling (t .pre .0) (l .before .offsets .ensures) (l .low-of .ensures) (m .settle-marks-by .ensures) (f .new-flags-by .ensures) (b .newborn9 .ensures) (q .gather9 .ensures)
+    asks-settling (t .pre .0) (l .before .offsets .ensures) (l .low-of .ensures) (m .settle-marks-by .ensures) (f .new-flags9 .ensures) (b .newborn9 .ensures) (q .gather9 .ensures)
 
 fair-carry-requires : tie.Need-fair-carry-requires
 fair-carry-requires c κs = tt
@@ -107,7 +108,7 @@ same-length c =
     let m = f .before .before .before .before .before .before in
     let l = m .before .before .before in
     let t = l .before .before .before .before .before .before in
-    flags-long (t .pre .0) (l .before .offsets .ensures) (l .low-of .ensures) (m .settle-marks-by .ensures) (f .new-flags-by .ensures) ∙ sym (t .pre .0 .flags-room)
+    flags-long (t .pre .0) (l .before .offsets .ensures) (l .low-of .ensures) (m .settle-marks-by .ensures) (f .new-flags9 .ensures) ∙ sym (t .pre .0 .flags-room)
 
 same-length-2 : tie.Need-same-length-2
 same-length-2 c =
@@ -119,7 +120,7 @@ same-length-2 c =
     let m = f .before .before .before .before .before .before in
     let l = m .before .before .before in
     let t = l .before .before .before .before .before .before in
-    parts-kept (t .pre .0) (l .before .offsets .ensures) (l .low-of .ensures) (m .settle-marks-by .ensures) (f .new-flags-by .ensures) (b .newborn9 .ensures) (q .gather9 .ensures) (z .settle9 .ensures) ∙ sym (t .pre .0 .parts-room)
+    parts-kept (t .pre .0) (l .before .offsets .ensures) (l .low-of .ensures) (m .settle-marks-by .ensures) (f .new-flags9 .ensures) (b .newborn9 .ensures) (q .gather9 .ensures) (z .settle9 .ensures) ∙ sym (t .pre .0 .parts-room)
 
 same-length-3 : tie.Need-same-length-3
 same-length-3 c =
@@ -131,7 +132,7 @@ same-length-3 c =
     let m = f .before .before .before .before .before .before in
     let l = m .before .before .before in
     let t = l .before .before .before .before .before .before in
-    ap length ((converted (t .pre .0) (l .before .offsets .ensures) (l .low-of .ensures) (m .settle-marks-by .ensures) (f .new-flags-by .ensures) (b .newborn9 .ensures) (q .gather9 .ensures) (z .settle9 .ensures) (toZ-ofZ {w = w64} (record { sfits = k .new-carry9 .ok }) ∙ carry-told (t .pre .0) (l .before .offsets .ensures) (l .low-of .ensures) (m .settle-marks-by .ensures) (f .new-flags-by .ensures) (b .newborn9 .ensures) (kept _ (carry-within (t .pre .0) (l .before .offsets .ensures) (l .low-of .ensures))) (k .new-carry9 .ensures)) (c .fair-carry .ensures)) .turned .masses-are) ∙ length-tab _ _ ∙ sym (ap length (t .pre .0 .moved .masses-are) ∙ length-tab _ _)
+    ap length ((converted (t .pre .0) (l .before .offsets .ensures) (l .low-of .ensures) (m .settle-marks-by .ensures) (f .new-flags9 .ensures) (b .newborn9 .ensures) (q .gather9 .ensures) (z .settle9 .ensures) (toZ-ofZ {w = w64} (record { sfits = k .new-carry9 .ok }) ∙ carry-told (t .pre .0) (l .before .offsets .ensures) (l .low-of .ensures) (m .settle-marks-by .ensures) (f .new-flags9 .ensures) (b .newborn9 .ensures) (kept _ (carry-within (t .pre .0) (l .before .offsets .ensures) (l .low-of .ensures))) (k .new-carry9 .ensures)) (c .fair-carry .ensures)) .turned .masses-are) ∙ length-tab _ _ ∙ sym (ap length (t .pre .0 .moved .masses-are) ∙ length-tab _ _)
 
 same-length-4 : tie.Need-same-length-4
 same-length-4 c = simp length-set
@@ -146,7 +147,7 @@ same-length-5 c =
     let m = f .before .before .before .before .before .before in
     let l = m .before .before .before in
     let t = l .before .before .before .before .before .before in
-    ap length ((converted (t .pre .0) (l .before .offsets .ensures) (l .low-of .ensures) (m .settle-marks-by .ensures) (f .new-flags-by .ensures) (b .newborn9 .ensures) (q .gather9 .ensures) (z .settle9 .ensures) (toZ-ofZ {w = w64} (record { sfits = k .new-carry9 .ok }) ∙ carry-told (t .pre .0) (l .before .offsets .ensures) (l .low-of .ensures) (m .settle-marks-by .ensures) (f .new-flags-by .ensures) (b .newborn9 .ensures) (kept _ (carry-within (t .pre .0) (l .before .offsets .ensures) (l .low-of .ensures))) (k .new-carry9 .ensures)) (c .fair-carry .ensures)) .turned .marks-are) ∙ length-replicate _ _ ∙ sym (ap length (t .pre .0 .moved .marks-are) ∙ length-tab _ _)
+    ap length ((converted (t .pre .0) (l .before .offsets .ensures) (l .low-of .ensures) (m .settle-marks-by .ensures) (f .new-flags9 .ensures) (b .newborn9 .ensures) (q .gather9 .ensures) (z .settle9 .ensures) (toZ-ofZ {w = w64} (record { sfits = k .new-carry9 .ok }) ∙ carry-told (t .pre .0) (l .before .offsets .ensures) (l .low-of .ensures) (m .settle-marks-by .ensures) (f .new-flags9 .ensures) (b .newborn9 .ensures) (kept _ (carry-within (t .pre .0) (l .before .offsets .ensures) (l .low-of .ensures))) (k .new-carry9 .ensures)) (c .fair-carry .ensures)) .turned .marks-are) ∙ length-replicate _ _ ∙ sym (ap length (t .pre .0 .moved .marks-are) ∙ length-tab _ _)
 
 returns : tie.Need-returns
 returns c =
@@ -158,7 +159,7 @@ returns c =
     let m = f .before .before .before .before .before .before in
     let l = m .before .before .before in
     let t = l .before .before .before .before .before .before in
-    converted (t .pre .0) (l .before .offsets .ensures) (l .low-of .ensures) (m .settle-marks-by .ensures) (f .new-flags-by .ensures) (b .newborn9 .ensures) (q .gather9 .ensures) (z .settle9 .ensures) (toZ-ofZ {w = w64} (record { sfits = k .new-carry9 .ok }) ∙ carry-told (t .pre .0) (l .before .offsets .ensures) (l .low-of .ensures) (m .settle-marks-by .ensures) (f .new-flags-by .ensures) (b .newborn9 .ensures) (kept _ (carry-within (t .pre .0) (l .before .offsets .ensures) (l .low-of .ensures))) (k .new-carry9 .ensures)) (c .fair-carry .ensures)
+    converted (t .pre .0) (l .before .offsets .ensures) (l .low-of .ensures) (m .settle-marks-by .ensures) (f .new-flags9 .ensures) (b .newborn9 .ensures) (q .gather9 .ensures) (z .settle9 .ensures) (toZ-ofZ {w = w64} (record { sfits = k .new-carry9 .ok }) ∙ carry-told (t .pre .0) (l .before .offsets .ensures) (l .low-of .ensures) (m .settle-marks-by .ensures) (f .new-flags9 .ensures) (b .newborn9 .ensures) (kept _ (carry-within (t .pre .0) (l .before .offsets .ensures) (l .low-of .ensures))) (k .new-carry9 .ensures)) (c .fair-carry .ensures)
 
 pub converted9-spec : {M : Type 1} → statement M
 converted9-spec =
@@ -167,7 +168,7 @@ converted9-spec =
     offsets-requires
     low-of-requires
     settle-marks-by-requires
-    new-flags-by-requires
+    new-flags9-requires
     newborn9-requires
     shared-slice-copy-out-new-carry9
     new-carry9-requires
