@@ -11,7 +11,6 @@ use lib.ListN.{length, getD, replicate, length-replicate}
 use lib.Seq.{ext-getD}
 use Rattle.whole.specs.Bools.{and-left, and-right}
 use Rattle.whole.specs.Fold.{tab, first}
-use Rattle.whole.specs.Search.{Dir}
 use Rattle.whole.specs.Tab.{length-tab, getD-tab}
 use Rattle.lattice.specs.Lattice.{d3q19, d2q9}
 use Rattle.lattice.specs.Body.{bodyGood}
@@ -22,7 +21,7 @@ use Rattle.grid.specs.State.{Lent, Scene, liquid, stateOf}
 use Rattle.grid.specs.Step.{tooFast, collided, newFlag, newPart, newMass, newFill}
 use Rattle.grid.specs.Good.{badRule}
 use Rattle.grid.specs.Outcome.{accepted, ifNone, moveAnswer}
-use Rattle.grid.specs.Between.{movedMass, firstMark}
+use Rattle.grid.specs.Between.{firstMark}
 use Rattle.grid.specs.Halfway.{Alike}
 use Rattle.grid.specs.Passes.{openedBy}
 use Rattle.grid.proofs.Listed.{lengths-fit}

@@ -25,7 +25,7 @@ pub(crate) fn level(g: FlumeSettings) -> Settings
 }
 
 // Marks 1 at fluid cells with no wall beside them.
-pub(crate) fn mark_open9(flags: &[u8], marks: &mut [u8], s: FlumeSides)
+pub(crate) fn mark_open(flags: &[u8], marks: &mut [u8], s: FlumeSides)
     requires { ⌜ (flumeSidesGood s ≡ true) × (length (now flags) ≡ flumeCells s) × (length (now marks) ≡ flumeCells s) ⌝ }
     ensures { λ r. ⌜ now (marks .exit) ≡ tab (length (now (flags .entry))) (openedBy (now (flags .entry)) (now (marks .entry)) (tab 19 (flumeOffset s)) (flumeLow s)) ⌝ }
 {

@@ -97,7 +97,7 @@ fn advanced(
     requires { ⌜ FlumeEntered s g (record { flags = now flags; parts = now parts; masses = now mass; fills = now fill; carry = now carry }) (record { flags = now flags2; parts = now parts2; masses = now mass2; fills = now fill2; carry = now carry2 }) (now marks) ⌝ }
     ensures { λ r. ⌜ FlumeTried s g (record { flags = now (flags .entry); parts = now (parts .entry); masses = now (mass .entry); fills = now (fill .entry); carry = now (carry .entry) }) r (record { flags = now (flags2 .exit); parts = now (parts2 .exit); masses = now (mass2 .exit); fills = now (fill2 .exit); carry = now (carry2 .exit) }) (now (marks .exit)) ⌝ }
 {
-    marking::mark_open9(flags, marks, s);
+    marking::mark_open(flags, marks, s);
     let h = marking::level(g);
     let a = passing::flowing9(flags, parts, mass, fill, parts2, mass2, marks, s, h);
     match a {

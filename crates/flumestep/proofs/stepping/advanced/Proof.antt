@@ -10,14 +10,14 @@ use Rattle.flumestep.proofs.stepping.advanced.Tie as tie
 abbrev first : tie.Start → Lent
 first w = record { flags = w .args .flags .now; parts = w .args .parts .now; masses = w .args .mass .now; fills = w .args .fill .now; carry = w .args .carry .now }
 
-mark-open9-requires : tie.Need-mark-open9-requires
-mark-open9-requires c κs = let w = c .before .before .before .before .before .before in (w .pre .ready .sides, w .pre .ready .sized .flags, w .pre .marks-room)
+mark-open-requires : tie.Need-mark-open-requires
+mark-open-requires c κs = let w = c .before .before .before .before .before .before in (w .pre .ready .sides, w .pre .ready .sized .flags, w .pre .marks-room)
 
 level-requires : tie.Need-level-requires
 level-requires c κs = search needs
 
 flowing9-requires : tie.Need-flowing9-requires
-flowing9-requires c κs = flowing (c .before .before .before .before .before .before .before .before .before .before .before .before .before .pre) (c .before .before .before .level .ensures) (c .before .before .before .before .before .before .mark-open9 .ensures)
+flowing9-requires c κs = flowing (c .before .before .before .before .before .before .before .before .before .before .before .before .before .pre) (c .before .before .before .level .ensures) (c .before .before .before .before .before .before .mark-open .ensures)
 
 enum-known-a : tie.Need-enum-known-a
 enum-known-a c = search needs
@@ -65,7 +65,7 @@ pub advanced-spec : {M : Type 1} → statement M
 advanced-spec =
     tie.close
     (tie.spec
-    mark-open9-requires
+    mark-open-requires
     level-requires
     flowing9-requires
     enum-known-a

@@ -1,4 +1,4 @@
--- `flumestep::marking::mark_open9`: pass 0 by the flume's offsets. Assumes nothing.
+-- `flumestep::marking::mark_open`: pass 0 by the flume's offsets. Assumes nothing.
 use borrow.Author.Needs.{needs}
 use mathlib.Core.Path.{_≡_, sym, ap₂, _∙_}
 use mathlib.Core.Bool.{true}
@@ -12,8 +12,8 @@ use Rattle.flume.specs.Flume.{flumeSidesGood, flumeCells}
 use Rattle.flume.specs.Offsets.{flumeLow, flumeOffset}
 use Rattle.flumegrid.proofs.Offsets.{reaching}
 use Rattle.flumemarks.proofs.Alike.{idling}
-use Rattle.flumestep.proofs.marking.mark_open9.Statement.{statement}
-use Rattle.flumestep.proofs.marking.mark_open9.Tie as tie
+use Rattle.flumestep.proofs.marking.mark_open.Statement.{statement}
+use Rattle.flumestep.proofs.marking.mark_open.Tie as tie
 
 -- the offsets that the code has
 reached : (s : FlumeSides) → flumeSidesGood s ≡ true → {off : List ℕ} {low n : ℕ} → off ≡ tab 19 (flumeOffset s) → low ≡ flumeLow s → n ≡ flumeCells s → Reaching n off low
@@ -41,6 +41,6 @@ returns c =
     c .before .before .mark-open9 .ensures
     ∙ ap₂ (λ (o : List ℕ) (l : ℕ). tab (length (s .args .flags .now)) (openedBy (s .args .flags .now) (s .args .marks .now) o l)) (b .before .offsets .ensures) (b .low-of .ensures)
 
-pub mark-open9-spec : {M : Type 1} → statement M
-mark-open9-spec =
+pub mark-open-spec : {M : Type 1} → statement M
+mark-open-spec =
     tie.close (tie.spec offsets-requires low-of-requires mark-open9-requires same-length returns)
