@@ -39,7 +39,7 @@ use Rattle.flume.specs.declared.FlumeSettings.{FlumeSettings}
 use Rattle.flume.specs.Flume.{flumeCells, flumeGrid, flumeLengths, levelSettings}
 use Rattle.flume.specs.Offsets.{flumeLow, flumeOffset}
 use Rattle.flume.specs.Outcome.{flumeScene, flumeNext}
-use Rattle.flume.specs.Spread.{wide, spreadLattice, spreadScene}
+use Rattle.flume.specs.Spread.{wide, spreadLattice}
 use Rattle.flume.proofs.Bridge.{bad-rule-same, spread-of}
 use Rattle.flume.proofs.Places.{wide-dir, spread-at}
 use Rattle.flume.proofs.Sets.{flume-move, flume-next}
@@ -51,7 +51,7 @@ use Rattle.flumeflow.specs.Flowed.{wideScene, FlumeFlowable, FlumeWent, stopped
 use Rattle.flumeflow.proofs.Nines.{part-at, place-low}
 use Rattle.flumeturn.specs.Filled.{Fillable9}
 use Rattle.flumeturn.specs.Turned.{turnScene, FlumeTurning, FlumeTurned}
-use Rattle.flumeturn.proofs.Fields.{flumeField, flume-sound}
+use Rattle.flumeturn.proofs.Flumes.{flumeField, flume-scene, flume-sound}
 use Rattle.flumestep.specs.Finished.{FlumeFinishing, FlumeFinished, FlumeTried, FlumeAdvanced}
 
 -- what pass 1 answered
@@ -105,17 +105,13 @@ module _ (s : FlumeSides) (g : FlumeSettings) (a : Lent) where
 
   -- the field, its scene, and the same without the carry, as pass 1 has it
   abbrev F : Field
-  F = flumeField s (levelSettings g) a (tab 19 (flumeOffset s)) (flumeLow s)
+  F = flumeField s g a
 
   abbrev S : Scene
   S = sceneIn F
 
   abbrev U : Scene
   U = wideScene s (levelSettings g) (a .flags) (a .parts) (a .masses) (a .fills)
-
-  scene-is : S ≡ spreadScene (flumeScene s g a)
-  unfolding flumeScene stateOf partOf9
-  scene-is = refl
 
   -- ---- pass 1
   pub moved-carried : {part : ℕ → ℕ → ℤ} {masses : List ℤ} {marks : List ℕ} {fair still : Bool} → MovedTo U n part masses marks fair still → MovedTo S n part masses marks fair still
@@ -126,10 +122,10 @@ module _ (s : FlumeSides) (g : FlumeSettings) (a : Lent) where
 
   module _ (r : FlumeReady s g a) where
     field : Sound F
-    field = flume-sound s (levelSettings g) a r refl refl refl
+    field = flume-sound s g a r
 
     move-is : moveAnswer S ≡ moveAnswer (flumeScene s g a)
-    move-is = ap moveAnswer scene-is ∙ flume-move s g a (r .sized .flags)
+    move-is = ap moveAnswer (flume-scene s g a) ∙ flume-move s g a (r .sized .flags)
 
     -- a cell that is too fast: refusal 7 there
     pub stopped-answer : {c : ℕ} → c < n → first n (tooFast U) ≡ c → Refused 7 c ≡ moveAnswer (flumeScene s g a)
