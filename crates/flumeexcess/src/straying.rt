@@ -7,7 +7,7 @@ ghost use mathlib.Core.Path.{_≡_};
 ghost use Prim.Native.Nat.{_<_};
 ghost use lib.IntN.{_+ℤ_};
 ghost use lib.ListN.{length};
-ghost use Rattle.whole.specs.Fold.{sum, tab};
+ghost use Rattle.whole.specs.Fold.{sum};
 ghost use Rattle.whole.specs.Machine.{Within};
 ghost use Rattle.grid.specs.Sight.{Around};
 ghost use Rattle.excess.specs.Gifts.{Weighed, lostAt, strayAt};

@@ -1,13 +1,11 @@
 -- The flume is a field: its nine directions among the nineteen places, its offsets, its stored parts at their places. A set that is ready is a sound one, and
 -- the field's scene is the flume's own, spread. So the laws of a field serve the flume. Assumes nothing.
 use mathlib.Core.Path.{_≡_, refl}
-use Prim.Native.Nat.{ℕ}
 use lib.IntN.{pos}
 use lib.ListN.{getD}
 use Rattle.whole.specs.Fold.{tab}
-use Rattle.lattice.specs.Lattice.{d2q9}
 use Rattle.grid.specs.Grid.{flume}
-use Rattle.grid.specs.State.{Lent, Scene, stateOf}
+use Rattle.grid.specs.State.{Lent, stateOf}
 use Rattle.grid.specs.Between.{uncarried}
 use Rattle.flume.specs.declared.FlumeSides.{FlumeSides}
 use Rattle.flume.specs.declared.FlumeSettings.{FlumeSettings}

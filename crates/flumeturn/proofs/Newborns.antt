@@ -1,8 +1,8 @@
 -- The pass over new interface cells in a list of nine parts a cell: one visit there is that visit among the nineteen places. The visits one after another are
 -- the box's, over any parts. Assumes nothing.
-use mathlib.Core.Path.{_≡_, refl, sym, ap, _∙_, subst}
-use mathlib.Core.Bool.{Bool, true, false, cond, false≢true}
-use mathlib.Core.List.{List, []}
+use mathlib.Core.Path.{_≡_, refl, sym, ap, _∙_}
+use mathlib.Core.Bool.{Bool, true, false, cond}
+use mathlib.Core.List.{List}
 use Prim.Native.Nat.{ℕ, zero, suc, _+_, _*_, _≤_, _<_}
 use native.Mathlib.Omega.{arith}
 use lib.IntN.{ℤ, pos}
@@ -19,7 +19,7 @@ use Rattle.grid.specs.Step.{bornDensity, bornMomentum, bornDir, born}
 use Rattle.grid.specs.Sight.{sight}
 use Rattle.turn.specs.Born.{laterFair}
 use Rattle.turn.proofs.Newborns.{VisitedTo}
-use Rattle.flume.specs.Spread.{Idle, idle, narrow, spread}
+use Rattle.flume.specs.Spread.{Idle}
 use Rattle.flume.proofs.Places.{spread-none, idle-dir}
 use Rattle.flume.proofs.Turning.{still-none}
 use Rattle.nine.specs.Cells.{partOf9, pasted9, Quiet}

@@ -1,6 +1,6 @@
 -- The conversion in the flume, pass by pass: what each of passes 2 to 7 asks of the lists that the one before it left, and that the last leaves the next state.
 -- All of it is the flume's instance of the laws of a field. Assumes nothing.
-use mathlib.Core.Path.{_≡_, refl, sym, ap, ap₂, _∙_, subst}
+use mathlib.Core.Path.{_≡_, refl, sym, ap, _∙_, subst}
 use mathlib.Core.Bool.{Bool, true, false, _&&_, false≢true}
 use mathlib.Core.List.{List, [], _∷_}
 use Prim.Native.Nat.{ℕ, _+_, _*_, _≤_, _<_}
@@ -14,14 +14,14 @@ use Rattle.lattice.specs.Cell.{carryGood}
 use Rattle.lattice.specs.declared.Settings.{Settings}
 use Rattle.grid.specs.State.{Lent, Scene}
 use Rattle.grid.specs.Step.{newFlag, newCarry}
-use Rattle.grid.specs.Between.{movedMass, settledMark, gatheredMass}
+use Rattle.grid.specs.Between.{settledMark, gatheredMass}
 use Rattle.grid.specs.Passes.{keptBy, turnedBy, EmptyingBy, MarkedBy}
 use Rattle.flow.specs.Flowed.{MovedTo}
 use Rattle.excess.specs.Gifts.{strayAt, gatheredAt}
 use Rattle.turn.specs.Born.{newlyBorn}
 use Rattle.turn.specs.Turned.{TurnedTo}
 use Rattle.turn.proofs.Amounts.{moved-mass-in}
-use Rattle.turn.proofs.Field.{Field, sceneIn, Sound}
+use Rattle.turn.proofs.Field.{Field, Sound}
 use Rattle.turn.proofs.Given.{Midway, mass-is}
 use Rattle.turn.proofs.Handed.{flags-count, marks-count, cell, around, giver-inner, giving, weighed, countable}
 use Rattle.turn.proofs.Offspring.{tested, fills-good, gravity, flags-there, fed}

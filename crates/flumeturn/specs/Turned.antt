@@ -10,7 +10,6 @@ use Rattle.grid.specs.State.{Lent, Scene}
 use Rattle.flow.specs.Flowed.{MovedTo}
 use Rattle.turn.specs.Turned.{TurnedTo}
 use Rattle.flume.specs.declared.FlumeSides.{FlumeSides}
-use Rattle.flume.specs.declared.FlumeSettings.{FlumeSettings}
 use Rattle.flume.specs.Flume.{flumeCells, flumeGrid}
 use Rattle.flume.specs.Spread.{spreadLattice, spreadGrid}
 use Rattle.nine.specs.Cells.{partOf9}

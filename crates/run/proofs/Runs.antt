@@ -1,6 +1,6 @@
 -- The box's run: an accepted step of a set that is ready leaves one that is ready, so that its course is lawful; and the functions' contracts, one from the
 -- other. Assumes nothing.
-use mathlib.Core.Path.{_≡_, refl, sym, ap, _∙_, subst}
+use mathlib.Core.Path.{_≡_, refl, sym, _∙_, subst}
 use mathlib.Core.Bool.{Bool, true, false, _&&_, not}
 use mathlib.Core.List.{List}
 use Prim.Native.Nat.{ℕ, _+_, _≤_, _<_}

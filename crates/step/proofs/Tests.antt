@@ -3,10 +3,10 @@
 use mathlib.Core.Path.{_≡_, refl, sym, ap, _∙_, subst}
 use mathlib.Core.Bool.{Bool, true, false, _&&_}
 use mathlib.Core.List.{List}
-use Prim.Native.Nat.{ℕ, suc, _+_, _≤_, _<_}
+use Prim.Native.Nat.{ℕ, suc, _≤_, _<_}
 use native.Mathlib.Omega.{arith}
 use lib.IntN.{ℤ, pos}
-use lib.ListN.{length, getD}
+use lib.ListN.{getD}
 use Rattle.whole.specs.Bools.{and-left, and-right}
 use Rattle.whole.specs.Fold.{tab, all, first}
 use Rattle.whole.specs.Tab.{getD-tab}
@@ -16,11 +16,10 @@ use Rattle.lattice.specs.Cell.{partGood, dense, slow}
 use Rattle.grid.specs.declared.Answer.{Answer}
 use Rattle.grid.specs.declared.Answer.the-variants.{Done, Refused}
 use Rattle.grid.specs.State.{State, Scene, liquid}
-use Rattle.grid.specs.Step.{newDensity, tooFast, collided, filled, emptied, besideFilled, besideEmptied, newFlag, newPart, newMass, newFill, newCarry, next}
+use Rattle.grid.specs.Step.{newDensity, tooFast, collided, filled, emptied, besideFilled, besideEmptied, newFlag, newPart, newMass, newFill, next}
 use Rattle.grid.specs.Good.{badRule}
 use Rattle.grid.specs.Outcome.{ifNone, moveAnswer}
 use Rattle.grid.specs.Demands.{Same}
-use Rattle.grid.specs.Sight.{weighing}
 use Rattle.grid.proofs.Accepted.{skip}
 use Rattle.grid.proofs.Accurate.{stays}
 use Rattle.grid.proofs.Checks.{stop}

@@ -1,13 +1,13 @@
 -- The conversion in the box, pass by pass: from a set that is ready with stages 1 to 4 made, what each of passes 2 to 7 asks, and that their outcome is the
 -- next state. All of it is the box's instance of the laws of a field. Assumes nothing.
 use mathlib.Core.Path.{_≡_, refl, sym, ap, _∙_, subst}
-use mathlib.Core.Bool.{Bool, true, false, _&&_, false≢true}
+use mathlib.Core.Bool.{Bool, true, false, false≢true}
 use mathlib.Core.List.{List, [], _∷_}
-use Prim.Native.Nat.{ℕ, zero, suc, _+_, _*_, _/_, _%_, _≤_, _<_}
+use Prim.Native.Nat.{ℕ, _*_, _/_, _%_, _≤_, _<_}
 use native.Mathlib.Nat.{mod-lt, div-add-mod}
 use native.Mathlib.Omega.{arith}
 use lib.IntN.{ℤ, pos, _+ℤ_}
-use lib.ListN.{length, getD, replicate}
+use lib.ListN.{length, getD}
 use Rattle.whole.specs.Fold.{tab, first, sum}
 use Rattle.whole.specs.Machine.{Within}
 use Rattle.whole.specs.Tab.{length-tab, tab-cong}
@@ -18,7 +18,7 @@ use Rattle.grid.specs.declared.Sides.{Sides}
 use Rattle.grid.specs.Fill.{partOf}
 use Rattle.grid.specs.Grid.{cellsOf, gridOf, box}
 use Rattle.grid.specs.State.{Lent, Scene, stateOf}
-use Rattle.grid.specs.Step.{flagAt, tooFast, newFlag, newPart, newMass, newCarry}
+use Rattle.grid.specs.Step.{flagAt, tooFast, newFlag, newPart, newCarry}
 use Rattle.grid.specs.Outcome.{sceneOf, goodAnswer}
 use Rattle.grid.specs.Between.{Ready, Poised, movedPart, movedMass, firstMark, settledMark, bornPart}
 use Rattle.grid.specs.Halfway.{Moved, Turning, Turned}
@@ -35,7 +35,7 @@ use Rattle.flow.proofs.Poise.{poised-bodied}
 use Rattle.excess.specs.Gifts.{strayAt}
 use Rattle.turn.specs.Born.{flowSight, newlyBorn, laterPart, Tested, Fertile, Peopled}
 use Rattle.turn.specs.Turned.{TurnedTo}
-use Rattle.turn.proofs.Field.{Field, fieldOf, standing, Sound, sound}
+use Rattle.turn.proofs.Field.{Field, fieldOf, Sound, sound}
 use Rattle.turn.proofs.Given.{Midway, carry-is}
 use Rattle.turn.proofs.Handed.{Listed}
 use Rattle.turn.proofs.Offspring.{tested, fills-good, gravity, flags-there, fed, later-is, newborn-fair}

@@ -1,6 +1,6 @@
 -- A step's field: weights, a grid with offsets that lead to its neighbours, settings, and a set whose parts are a function; and what the laws of the conversion
 -- ask of it. The box is one field; any lattice in the nineteen places is another. Assumes nothing.
-use mathlib.Core.Path.{_≡_, refl, sym, ap, _∙_, subst}
+use mathlib.Core.Path.{_≡_, refl, sym, subst}
 use mathlib.Core.Bool.{true, false}
 use mathlib.Core.List.{List, []}
 use Prim.Native.Nat.{ℕ, _+_, _-_, _≤_, _<_}

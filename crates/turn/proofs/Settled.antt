@@ -9,7 +9,7 @@ use native.Mathlib.Omega.{arith}
 use lib.Dec.{leb, ltb, eqb}
 use lib.ListN.{length, getD}
 use borrow.Author.Tests.{le-leb, lt-ltb}
-use Rattle.whole.specs.Bools.{and-true, cond-yes, cond-no}
+use Rattle.whole.specs.Bools.{and-true, cond-yes}
 use Rattle.whole.specs.Fold.{tab, anyDir, first}
 use Rattle.whole.specs.Tab.{length-tab, getD-tab, tab-cong}
 use Rattle.lattice.specs.Lattice.{d3q19}

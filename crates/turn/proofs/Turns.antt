@@ -1,9 +1,9 @@
 -- From stages 1 to 4 to the conversion made, in any field: passes 2 to 7 one after the other, and the case that nothing converts, where copies of flags and
 -- carry are the next state's. Assumes nothing.
-use mathlib.Core.Path.{_≡_, refl, sym, ap, ap₂, _∙_, subst}
-use mathlib.Core.Bool.{Bool, true, false, _&&_}
+use mathlib.Core.Path.{_≡_, refl, sym, ap, _∙_, subst}
+use mathlib.Core.Bool.{Bool, true, _&&_}
 use mathlib.Core.List.{List, [], _∷_}
-use Prim.Native.Nat.{ℕ, _+_, _≤_, _<_}
+use Prim.Native.Nat.{ℕ, _<_}
 use native.Mathlib.Omega.{arith}
 use lib.IntN.{ℤ, pos, natAbs, _+ℤ_}
 use lib.ListN.{length, getD, replicate}
@@ -11,12 +11,11 @@ use borrow.Author.Tests.{leb-true}
 use Rattle.whole.specs.Bools.{and-left, and-right}
 use Rattle.whole.specs.Fold.{tab, all, sum}
 use Rattle.whole.specs.Machine.{Within}
-use Rattle.whole.specs.Tab.{length-tab, tab-cong, tab-self}
-use Rattle.lattice.specs.Lattice.{d3q19}
+use Rattle.whole.specs.Tab.{tab-cong, tab-self}
 use Rattle.lattice.specs.Cell.{carryGood}
 use Rattle.grid.specs.State.{Scene}
-use Rattle.grid.specs.Step.{newFlag, newPart, newMass, newCarry}
-use Rattle.grid.specs.Between.{movedPart, movedMass, firstMark, settledMark, gatheredMass}
+use Rattle.grid.specs.Step.{newFlag, newMass, newCarry}
+use Rattle.grid.specs.Between.{movedMass, firstMark, settledMark, gatheredMass}
 use Rattle.flow.specs.Flowed.{MovedTo}
 use Rattle.excess.specs.Gifts.{gatheredAt, strayAt, settledMass, settledPart}
 use Rattle.excess.proofs.Settles.{tab-replicate}

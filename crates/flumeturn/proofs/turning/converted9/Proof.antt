@@ -1,5 +1,4 @@
 -- `flumeturn::turning::converted9`: passes 2 to 7, one after the other; Turns says what each asks and leaves. Assumes nothing.
-use borrow.Author.Needs.{needs}
 use mathlib.Core.Path.{_≡_, refl, sym, ap, _∙_}
 use native.Mathlib.Omega.{arith}
 use lib.IntN.{ℤ}

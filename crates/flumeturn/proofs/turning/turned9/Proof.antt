@@ -1,5 +1,4 @@
 -- `flumeturn::turning::turned9`: flags and carry are copied; where nothing converts that is the next state, else passes 2 to 7 make it. Assumes nothing.
-use borrow.Author.Needs.{needs}
 use mathlib.Core.Path.{sym, ap, _∙_}
 use lib.ListN.{length, length-replicate}
 use Rattle.whole.specs.Tab.{length-tab}

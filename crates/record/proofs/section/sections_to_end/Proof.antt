@@ -1,4 +1,4 @@
--- `record::section::cell_sections`: a section that is refused answers, else the next one, and last the end of the record. Assumes nothing.
+-- `record::section::sections_to_end`: a section that is refused answers, else the next one, and last the end of the record. Assumes nothing.
 use borrow.Author.Needs.{needs}
 use mathlib.Core.Path.{_≡_, sym, ap, _∙_}
 use mathlib.Core.Bool.{Bool}
@@ -13,21 +13,21 @@ use Rattle.grid.specs.Outcome.{orRefuse}
 use Rattle.record.specs.Places.{past}
 use Rattle.record.specs.Reading.{whole}
 use Rattle.record.proofs.Answers.{stopped, went-on}
-use Rattle.record.proofs.section.cell_sections.Statement.{statement}
-use Rattle.record.proofs.section.cell_sections.Tie as tie
+use Rattle.record.proofs.section.sections_to_end.Statement.{statement}
+use Rattle.record.proofs.section.sections_to_end.Tie as tie
 
 -- where section 7 begins and the record ends, and what is tested behind each section
 abbrev from : tie.Start → ℕ
 from d = past (d .args .from) 4 (d .args .i)
 
 abbrev end : tie.Start → ℕ
-end d = past (from d) 4 (19 * d .args .l)
+end d = past (from d) 4 (d .args .m)
 
 abbrev last : tie.Start → Answer
 last d = orRefuse (leb (length (now (d .args .rec))) (end d)) 10 (end d) Done
 
 abbrev seven : tie.Start → Answer
-seven d = whole (now (d .args .rec)) 7 (from d) (19 * d .args .l) 4 (last d)
+seven d = whole (now (d .args .rec)) 7 (from d) (d .args .m) 4 (last d)
 
 -- each section that passed lets the rest answer
 abbrev first : tie.Else1 → tie.Start
@@ -41,10 +41,10 @@ masses-on c rest =
 abbrev second : tie.Else2 → tie.Start
 second c = first (c .before .before .before)
 
-parts-on : (c : tie.Else2) (rest : Answer) → let d = second c in whole (now (d .args .rec)) 7 (from d) (19 * d .args .l) 4 rest ≡ rest
+parts-on : (c : tie.Else2) (rest : Answer) → let d = second c in whole (now (d .args .rec)) 7 (from d) (d .args .m) 4 rest ≡ rest
 parts-on c rest =
     let d = second c in
-    went-on (now (d .args .rec)) 7 (from d) (19 * d .args .l) 4 rest (c .before .before .section2 .ensures) (c .before .passed2 .ensures) (c .if2 .left)
+    went-on (now (d .args .rec)) 7 (from d) (d .args .m) 4 rest (c .before .before .section2 .ensures) (c .before .passed2 .ensures) (c .if2 .left)
 
 section-requires : tie.Need-section-requires
 section-requires c κs = search needs
@@ -66,9 +66,6 @@ mul-behind c = search needs
 add-behind-2 : tie.Need-add-behind-2
 add-behind-2 c = search needs
 
-mul-section : tie.Need-mul-section
-mul-section c = search needs
-
 section-requires-2 : tie.Need-section-requires-2
 section-requires-2 c κs = search needs
 
@@ -79,7 +76,7 @@ returns-2 : tie.Need-returns-2
 returns-2 c =
     let e = c .before .before .before in
     let d = first e in
-    stopped (now (d .args .rec)) 7 (from d) (19 * d .args .l) 4 (last d) (c .before .before .section2 .ensures) (c .before .passed2 .ensures) (c .if2 .taken)
+    stopped (now (d .args .rec)) 7 (from d) (d .args .m) 4 (last d) (c .before .before .section2 .ensures) (c .before .passed2 .ensures) (c .if2 .taken)
     ∙ sym (masses-on e (seven d))
 
 add-end : tie.Need-add-end
@@ -87,9 +84,6 @@ add-end c = search needs
 
 mul-end : tie.Need-mul-end
 mul-end c = search needs
-
-mul-end-2 : tie.Need-mul-end-2
-mul-end-2 c = search needs
 
 add-end-2 : tie.Need-add-end-2
 add-end-2 c = search needs
@@ -108,8 +102,8 @@ returns-4 c =
     ap (λ (t : Bool). orRefuse t 10 (end d) Done) (sym (le-leb (length (now (d .args .rec))) (end d) (c .if3 .left)))
     ∙ sym (parts-on e (last d)) ∙ sym (masses-on (e .before .before .before) (seven d))
 
-pub cell-sections-spec : {M : Type 1} → statement M
-cell-sections-spec =
+pub sections-to-end-spec : {M : Type 1} → statement M
+sections-to-end-spec =
     tie.close
     (tie.spec
     section-requires
@@ -118,13 +112,11 @@ cell-sections-spec =
     add-behind
     mul-behind
     add-behind-2
-    mul-section
     section-requires-2
     passed-requires-2
     returns-2
     add-end
     mul-end
-    mul-end-2
     add-end-2
     returns-3
     returns-4)
