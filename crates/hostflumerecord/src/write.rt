@@ -32,11 +32,7 @@ pub extern "C" fn skw_flume_write(
 {
     let s = FlumeSides { nx, nz };
     let g = FlumeSettings { p, gx, gz };
-    let t = FlumeSite {
-        edge,
-        x: ox,
-        z: oz,
-    };
+    let t = FlumeSite { edge, x: ox, z: oz };
     let w = writer::write(s, g, t, flags, parts, masses, fills, carry, room);
     let a = w.answer;
     *bytes = w.bytes;
