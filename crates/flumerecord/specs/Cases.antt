@@ -16,9 +16,9 @@ use Rattle.flumerecord.specs.Layout.{flumeCounts, flumeRecordOf, flumeRe
 use Rattle.flumerecord.specs.Reading.{flumeReadAnswer}
 use Rattle.flumerecord.specs.Writing.{flumeWriteAnswer}
 
--- case F's edge is 10 mm, its origin (0, 0)
+-- case F's edge is 50 mm, its origin (0, 0)
 abbrev pub plain : FlumeSite
-plain = record { edge = pos 10; x = pos 0; z = pos 0 }
+plain = record { edge = pos 50; x = pos 0; z = pos 0 }
 
 abbrev pub recordF : List ℕ
 recordF = flumeRecordOf (square 3) falling plain caseF
