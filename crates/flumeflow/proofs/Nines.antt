@@ -7,15 +7,17 @@ use Prim.Native.Nat.{ℕ, zero, suc, _+_, _-_, _*_, _%_, _≤_, _<_}
 use native.Mathlib.Nat.{le-of-suc-le-suc}
 use native.Mathlib.Omega.{arith}
 use lib.Dec.{leb}
-use lib.IntN.{ℤ, pos, natAbs}
+use lib.IntN.{ℤ, pos, natAbs, -ℤ-+ℤ-cancel}
 use lib.ListN.{getD, set}
 use lib.Seq.{set-comm}
 use borrow.Author.Tests.{leb-true}
 use Rattle.whole.specs.Bools.{and-left, and-right, or-cases}
-use Rattle.whole.specs.Fold.{all, tab, open-fold}
+use Rattle.whole.specs.Fold.{all, tab, dirs, open-fold}
 use Rattle.whole.specs.Search.{all-at, as-dir}
+use Rattle.whole.specs.Sums.{sum-cong, sum-first}
 use Rattle.whole.specs.Tab.{getD-tab, tab-cong}
-use Rattle.lattice.specs.Lattice.{pairOpp, d3q19, open-lattice}
+use Rattle.lattice.specs.Lattice.{V3, pairOpp, d3q19, density, open-lattice}
+use Rattle.lattice.specs.Body.{partsOf, relaxedDir, collidedPart}
 use Rattle.lattice.specs.declared.Settings.{Settings}
 use Rattle.grid.specs.Step.{streamed}
 use Rattle.grid.specs.Sight.{sight}
@@ -120,3 +122,10 @@ source-is off low k i m h e = rw e (omega (arith, m .pair (wide k) (place-low k 
 pub at-source : (off : List ℕ) (low c k : ℕ) → 9 * (c - low) + sourceOf9 off k ≡ 9 * (c - low + getD off (pairOpp (wide k)) 0) + k
 unfolding sourceOf9
 at-source off low c k = omega arith
+
+-- ---- what a collision leaves adds up to the density that it was given
+pub density-made : (ρ : ℤ) (j : V3) (p : ℤ) (f r : List ℤ) → r ≡ tab 19 (collidedPart spreadLattice ρ j p (partsOf f)) → density d3q19 (partsOf r) ≡ ρ
+unfolding density collidedPart d3q19
+density-made ρ j p f r e =
+    sum-cong 19 (partsOf r) (collidedPart spreadLattice ρ j p (partsOf f)) (λ k h. ap (λ (x : List ℤ). getD x k (pos 0)) e ∙ getD-tab 19 (collidedPart spreadLattice ρ j p (partsOf f)) (pos 0) k h)
+    ∙ sum-first 18 (collidedPart spreadLattice ρ j p (partsOf f)) ∙ -ℤ-+ℤ-cancel ρ (dirs 18 (relaxedDir spreadLattice ρ j p (partsOf f)))

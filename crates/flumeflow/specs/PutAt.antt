@@ -7,6 +7,7 @@ use Prim.Native.Nat.{ℕ, _<_}
 use lib.IntN.{ℤ}
 use lib.ListN.{length, getD}
 use Rattle.whole.specs.Fold.{tab}
+use Rattle.lattice.specs.declared.Flow.{Flow}
 use Rattle.lattice.specs.declared.Settings.{Settings}
 use Rattle.grid.specs.State.{Scene, liquid}
 use Rattle.grid.specs.Between.{movedPart}
@@ -18,6 +19,10 @@ use Rattle.flow.specs.Sources.{Mirrored, Immersed}
 use Rattle.flow.specs.Trade.{Fills}
 use Rattle.nine.specs.Cells.{pasted9}
 use Rattle.flumeflow.specs.Seen.{Bodied9, sourceOf9}
+
+-- a flow with its density put in its place
+abbrev pub atDensity : Flow → ℤ → Flow
+atDensity v rho = record { rho = rho; x = v .x; y = v .y; z = v .z }
 
 -- after a refusal only the length is told
 pub record PutAt9 (S : Scene) (c : ℕ) (before after : List ℤ) (r : Put) : Type 0 where

@@ -3,6 +3,7 @@ use crate::streaming::chosen9;
 use collision::gravity::pulled;
 use flow::moving::Put;
 use grid::kinds::is_liquid;
+use lattice::Flow;
 use lattice::Settings;
 use lattice::moments::flow_of;
 use lattice::moments::steady;
@@ -19,7 +20,7 @@ ghost use Prim.Native.Nat.{ℕ, _+_, _*_, _≤_};
 ghost use lib.IntN.{ℤ, pos};
 ghost use lib.ListN.{length, getD, replicate};
 ghost use Rattle.whole.specs.Fold.{tab};
-ghost use Rattle.lattice.specs.Lattice.{d3q19};
+ghost use Rattle.lattice.specs.Lattice.{d3q19, density};
 ghost use Rattle.lattice.specs.Body.{partsOf, Bounded, bodyGood};
 ghost use Rattle.grid.specs.State.{liquid};
 ghost use Rattle.grid.specs.Step.{streamed};
@@ -27,15 +28,27 @@ ghost use Rattle.grid.specs.Outcome.{settingsGood};
 ghost use Rattle.grid.specs.Sight.{noSettings};
 ghost use Rattle.nine.specs.Cells.{Quiet, pasted9};
 ghost use Rattle.flumeflow.specs.Seen.{sight9};
-ghost use Rattle.flumeflow.specs.PutAt.{PutAt9, Putting9};
+ghost use Rattle.flumeflow.specs.PutAt.{PutAt9, Putting9, atDensity};
 
-// Whether new parts keep test 6's rules. As lattice's `fair_parts`, which has other callers: with one alone it melts into the pass over all
+// A flow whose density is known: its own sum then need not be made.
+fn at_density(v: Flow, rho: i32) -> Flow
+    ensures { λ r. ⌜ r ≡ atDensity v rho ⌝ }
+{
+    Flow {
+        rho: rho,
+        x: v.x,
+        y: v.y,
+        z: v.z,
+    }
+}
+
+// Whether new parts of density rho keep test 6's rules. As lattice's `fair_parts`, which has other callers: with one alone it melts into the pass over all
 // cells, and the parts stay in registers.
-fn fair(f: [i32; 19]) -> bool
-    requires { ⌜ Bounded f 1073741824 33554432 ⌝ }
+fn fair(f: [i32; 19], rho: i32) -> bool
+    requires { ⌜ Bounded f 1073741824 33554432 × (density d3q19 (partsOf f) ≡ rho) ⌝ }
     ensures { λ r. ⌜ r ≡ bodyGood d3q19 (partsOf f) ⌝ }
 {
-    all_inside(f) & steady(flow_of(f))
+    all_inside(f) & steady(at_density(flow_of(f), rho))
 }
 
 // Stages 3 and 4 of a liquid cell c into which f streamed.
@@ -55,7 +68,7 @@ fn put_moved9(f: [i32; 19], parts2: &mut [i32], c: usize, g: Settings) -> Put
     paste9(parts2, c, r);
     Put {
         ok: true,
-        fair: fair(r),
+        fair: fair(r, v.rho),
         rho: v.rho,
     }
 }

@@ -7,7 +7,7 @@ use native.Mathlib.Omega.{arith}
 use lib.IntN.{ℤ}
 use lib.ListN.{length}
 use borrow.Author.Tests.{not-true, not-false}
-use mir.Syntax.{w64}
+use mir.Syntax.{w32, w64}
 use mir.Val.{toZ, ofZ}
 use mir.Facts.{toZ-ofZ}
 use Rattle.whole.specs.Fold.{tab}
@@ -18,6 +18,7 @@ use Rattle.flume.specs.Spread.{spreadLattice}
 use Rattle.nine.specs.Cells.{partOf9, pasted9}
 use Rattle.nine.proofs.Pasted.{length-pasted9}
 use Rattle.nine.proofs.Places.{quiet-collided}
+use Rattle.flumeflow.proofs.Nines.{density-made}
 use borrow.Author.Needs.{needs}
 use Rattle.flumeflow.proofs.moving.put_moved9.Statement.{statement}
 use Rattle.flumeflow.proofs.moving.put_moved9.Tie as tie
@@ -74,25 +75,32 @@ paste9-requires : tie.Need-paste9-requires
 paste9-requires c κs = search needs
 
 fair-requires : tie.Need-fair-requires
-fair-requires c κs = subst (λ (x : List ℤ). Bounded x 1073741824 33554432) (sym (c .before .before .before .quieted .ensures)) (c .before .before .before .before .collided9 .ensures .1)
+fair-requires c κs =
+    let q = c .before .before .before .before in
+    let k = q .before in
+    let s = k .before .before .before .before .before .before in
+    let v = k .before .before .before .before .pulled .result in (
+      subst (λ (x : List ℤ). Bounded x 1073741824 33554432) (sym (q .quieted .ensures)) (k .collided9 .ensures .1),
+      density-made (v .rho) (vec v) (toZ w64 (ofZ w64 (s .args .g .p))) (s .args .f) (q .quieted .result) (q .quieted .ensures ∙ k .collided9 .ensures .0) ∙ sym (toZ-ofZ {w = w32} (record { sfits = c .struct-told2 .given .0 .1 })),
+    )
 
 same-length : tie.Need-same-length
 same-length c = search needs
 
 returns-2 : tie.Need-returns-2
 returns-2 c flags parts fills off low l e =
-    let w = c .before .before .before .before .before in
+    let w = c .before .before .before .before .before .before in
     let k = w .before in
     let a = k .before .before .before in
     let s = a .before .before .before in
     let u = a .before .before .flow-of .ensures in
     let made = subst (λ (p : ℤ). k .collided9 .result ≡ tab 19 (collidedPart spreadLattice (a .before .pulled .result .rho) (vec (a .before .pulled .result)) p (partsOf (s .args .f)))) (relaxation (k .before)) (k .collided9 .ensures .0) in
     let quiet : w .quieted .result ≡ tab 19 (collidedPart spreadLattice (a .before .pulled .result .rho) (vec (a .before .pulled .result)) (s .args .g .p) (partsOf (s .args .f))) = w .quieted .ensures ∙ made in
-    let put = c .before .before .before .paste9 .ensures in
+    let put = c .before .before .before .before .paste9 .ensures in
     record {
       kept = ap length put ∙ length-pasted9 _ _ _ (s .pre .3);
       told = told-accepted (spreadLattice .weight) flags (partOf9 parts) fills off low _ _ _ e _ _ (u .0) (u .1) (a .before .pulled .ensures) l (w .quieted .result) quiet _ refl
-          (sym (a .steady .ensures) ∙ not-false _ (k .before .before .if1 .left)) (toZ-ofZ (record { sfits = c .struct-told2 .given .0 .1 })) (c .before .fair .ensures);
+          (sym (a .steady .ensures) ∙ not-false _ (k .before .before .if1 .left)) (toZ-ofZ (record { sfits = c .struct-told3 .given .0 .1 })) (c .before .fair .ensures);
       parts = λ h. put ∙ ap (pasted9 (s .args .parts2 .now) (s .args .c)) (moved (spreadLattice .weight) flags (partOf9 parts) fills off low _ _ _ e _ _ (u .0) (u .1) (a .before .pulled .ensures) l (w .quieted .result) quiet);
     }
 
