@@ -584,6 +584,146 @@ uint8_t skw_wall_remove(uint8_t *map, size_t map_len,
                         size_t nx, size_t ny, size_t nz,
                         size_t cell, size_t *place);
 
+/*
+ * THE FLUME: a long section in two dimensions, x along and z up, beside the box and with calls of its own. Sides nx, nz are 3 to 512
+ * cells, N = nx*nz; cell (x, z) has the number c = x + nx*z, and the cells with x or z at 0 or at the last are all wall. A SET of it
+ * is lent as five slices:
+ *
+ *     flags     N      SKW_EMPTY, SKW_INTERFACE, SKW_FLUID or SKW_WALL
+ *     parts     9*N    part k of cell c at [9*c + k]; a cell's density is the sum of its parts, and SKW_ONE is one density unit
+ *     masses    N      the water in the cell, in the unit of the parts
+ *     fills     N      how full the cell is, in 65,536ths: 0 to SKW_FULL
+ *     carry     1      in the unit of the parts: water that found no cell to go to
+ *
+ * DIRECTIONS of the nine parts (x, z): 0 rest; 1 (1, 0), 2 (-1, 0), 3 (0, 1), 4 (0, -1); 5 (1, 1), 6 (-1, -1), 7 (1, -1), 8 (-1, 1).
+ * A cell's neighbours are those of directions 1 to 8. At rest the parts have 16, then 4, then 1 thirty-sixths of the density.
+ *
+ * A GOOD STATE is the box's with these eight neighbours and nine parts: no fluid cell has an empty neighbour; wall and empty cells
+ * have parts, mass and fill 0; a liquid cell has parts within +-1,179,648, density rho of 294,912 to 1,179,648 and momentum j = (x,
+ * z) with 9*|j|*|j| <= rho*rho; a fluid cell has mass rho and fill 65,536, an interface cell mass m within +-2,359,296 and fill
+ * floor(65,536*m/rho), held to 0..65,536; the carry is within +-10^12. The water of a set is the sum of its masses and its carry.
+ *
+ * SETTINGS: p of 1 to 2037; gx, gz, the sum of their squares at most 1,099,511; edge of 1 to 1,000 mm; ox, oz in whole mm within
+ * +-10^10. Units are the box's, and so are the refusals, their order, and what every call keeps and a caller owes. There is no index,
+ * no pour and no take.
+ */
+#define SKW_FLUME_PARTS 9
+#define SKW_FLUME_SIDE_MOST 512
+
+/* Length in bytes of the record of a flume with so many cells, interface cells and liquid cells (fluid and interface). */
+#define SKW_FLUME_RECORD_BYTES(cells, interfaces, liquids) \
+    ((size_t)76 + (size_t)(cells) + (size_t)4 * (size_t)(interfaces) + (size_t)36 * (size_t)(liquids))
+/* Room in bytes that the record of any flume with so many cells fits into. */
+#define SKW_FLUME_RECORD_BYTES_MOST(cells) SKW_FLUME_RECORD_BYTES(cells, cells, cells)
+
+/*
+ * FLUME CHECK: is this set a good state of a flume with these sides?
+ * Tests 1, 2, 4, 5, 6. Writes *place alone; 6's place is N for the carry alone.
+ */
+uint8_t skw_flume_check(const uint8_t *flags, size_t flags_len,
+                        const int32_t *parts, size_t parts_len,
+                        const int32_t *masses, size_t masses_len,
+                        const uint32_t *fills, size_t fills_len,
+                        const int64_t *carry, size_t carry_len,
+                        size_t nx, size_t nz,
+                        size_t *place);
+
+/*
+ * FLUME STEP: the state one step after the first set, into the second. marks is N bytes of work space, whatever they hold.
+ * Tests 1 to 6 (2 on both sets and the marks, 3 on p and gravity, 4 to 6 on the first set alone), then 7, then 8.
+ *
+ *     answer           second set               marks
+ *     accepted         the next state           all 0
+ *     7, 8             a copy of the first      all 0
+ *     1 to 6           as it was                as they were
+ *
+ * The first set is never written, and an accepted step does not change the water by one unit.
+ */
+uint8_t skw_flume_step(const uint8_t *flags, size_t flags_len,
+                       const int32_t *parts, size_t parts_len,
+                       const int32_t *masses, size_t masses_len,
+                       const uint32_t *fills, size_t fills_len,
+                       const int64_t *carry, size_t carry_len,
+                       uint8_t *flags2, size_t flags2_len,
+                       int32_t *parts2, size_t parts2_len,
+                       int32_t *masses2, size_t masses2_len,
+                       uint32_t *fills2, size_t fills2_len,
+                       int64_t *carry2, size_t carry2_len,
+                       uint8_t *marks, size_t marks_len,
+                       size_t nx, size_t nz,
+                       int64_t p, int64_t gx, int64_t gz,
+                       size_t *place);
+
+/*
+ * FLUME RUN: so many steps, 0 to 1,000, from the state in the first set; it stops at the first step that is refused. It returns how
+ * many steps were accepted; *number and *place are those of the refusal that stopped it, 0 0 if none did.
+ * Tests 9, then 1 to 6 as a step makes them, then 7 and 8 of each step.
+ *
+ *     *number          returns                      both sets              marks
+ *     0                the steps asked              the state reached      all 0
+ *     7, 8             the steps before that one    the state reached      all 0
+ *     1 to 6, 9        0                            as they were           as they were
+ */
+size_t skw_flume_run(size_t steps,
+                     uint8_t *flags, size_t flags_len,
+                     int32_t *parts, size_t parts_len,
+                     int32_t *masses, size_t masses_len,
+                     uint32_t *fills, size_t fills_len,
+                     int64_t *carry, size_t carry_len,
+                     uint8_t *flags2, size_t flags2_len,
+                     int32_t *parts2, size_t parts2_len,
+                     int32_t *masses2, size_t masses2_len,
+                     uint32_t *fills2, size_t fills2_len,
+                     int64_t *carry2, size_t carry2_len,
+                     uint8_t *marks, size_t marks_len,
+                     size_t nx, size_t nz,
+                     int64_t p, int64_t gx, int64_t gz,
+                     uint8_t *number, size_t *place);
+
+/*
+ * FLUME READ: a record of the flume, rec_len bytes of it, into a set without flags, fills worked out. The flags are the record's own
+ * bytes, rec[*flags_from] to rec[*flags_to - 1]. Seven sections in this order, each after its count of numbers (u32), all
+ * little-endian; I is the number of interface cells, L that of liquid ones:
+ *
+ *     section      1 sides   2 p, gx, gz, edge   3 origin   4 carry   5 flags   6 interface masses   7 parts of liquid cells   rest
+ *     numbers      2 u32     4 i32               2 i64      1 i64     N u8      I i32                9*L i32
+ *     its byte     0         12                  32         52        64        68 + N               72 + N + 4*I              76 + N + 4*I + 36*L
+ *
+ * How much to lend: the record begins with nx at byte 4 and nz at byte 8, behind the count 2; where a record is too short for them or
+ * they are out of range, lend slices of any length. A record of the box is refused by its first count, and one of the flume by
+ * skw_read: 11, place 1.
+ *
+ * Tests, in this order: a section that is not whole is 10, its count 11, in the order of the bytes; after section 1 tests 1 and 2,
+ * after section 5 test 4; left-over bytes are 10; then 3, 5, 6. Beside a refusal the slices are as they were, and the numbers 0.
+ */
+uint8_t skw_flume_read(const uint8_t *rec, size_t rec_len,
+                       int32_t *parts, size_t parts_len,
+                       int32_t *masses, size_t masses_len,
+                       uint32_t *fills, size_t fills_len,
+                       int64_t *carry, size_t carry_len,
+                       size_t *nx, size_t *nz,
+                       int64_t *p, int64_t *gx, int64_t *gz,
+                       int64_t *edge, int64_t *ox, int64_t *oz,
+                       size_t *flags_from, size_t *flags_to,
+                       size_t *place);
+
+/*
+ * FLUME WRITE: the record of a set, settings, edge and origin, from the front of the room; *bytes is its length,
+ * SKW_FLUME_RECORD_BYTES. Room past the record stays as it was; beside a refusal all of it does, and *bytes is 0. What is written
+ * reads back as the same flume.
+ * Tests 1 to 6, then 12, whose place is the bytes needed.
+ */
+uint8_t skw_flume_write(size_t nx, size_t nz,
+                        int64_t p, int64_t gx, int64_t gz,
+                        int64_t edge, int64_t ox, int64_t oz,
+                        const uint8_t *flags, size_t flags_len,
+                        const int32_t *parts, size_t parts_len,
+                        const int32_t *masses, size_t masses_len,
+                        const uint32_t *fills, size_t fills_len,
+                        const int64_t *carry, size_t carry_len,
+                        uint8_t *room, size_t room_len,
+                        size_t *bytes, size_t *place);
+
 #ifdef __cplusplus
 }
 #endif

@@ -6,6 +6,7 @@ use oracle::Store;
 
 use bench::engine::{Engine, ACCEPTED};
 use bench::float::{self, FloatStore};
+use bench::flume;
 use bench::growth;
 use bench::heights;
 use bench::identical::{hunt, same_run, same_step, Case, Inputs, ORACLE};
@@ -17,10 +18,11 @@ use bench::report::{self, Totals};
 use bench::scenes::{self, Scene};
 use bench::sweep;
 
-const USAGE: &str = "bench [--quick] [--pools] [--heights] [--sides A,B,..]
+const USAGE: &str = "bench [--quick] [--pools] [--heights] [--flume] [--sides A,B,..]
   --quick   little of everything, to see that it works: its times say nothing
   --pools   the pools alone, at the largest side
   --heights the height grids alone
+  --flume   the flume alone
   --sides   of the cubes, 8 to 64; 32,48,64 if not said";
 
 struct Wish {
@@ -35,6 +37,7 @@ struct Wish {
     sweep_sides: Vec<usize>,
     pools_alone: bool,
     heights_alone: bool,
+    flume_alone: bool,
 }
 
 fn wish(mut words: impl Iterator<Item = String>) -> Result<Wish, String> {
@@ -47,6 +50,7 @@ fn wish(mut words: impl Iterator<Item = String>) -> Result<Wish, String> {
         sweep_sides: vec![32, 64],
         pools_alone: false,
         heights_alone: false,
+        flume_alone: false,
     };
     while let Some(word) = words.next() {
         match word.as_str() {
@@ -58,6 +62,7 @@ fn wish(mut words: impl Iterator<Item = String>) -> Result<Wish, String> {
             }
             "--pools" => wish.pools_alone = true,
             "--heights" => wish.heights_alone = true,
+            "--flume" => wish.flume_alone = true,
             "--sides" => {
                 let given = words.next().unwrap_or_default();
                 let side = |text: &str| text.parse().ok().filter(|side| (8..=64).contains(side));
@@ -147,12 +152,15 @@ fn measure_heights(wish: &Wish) {
 fn bench(wish: &Wish) -> Result<(), String> {
     let proved = native::proved();
     report::machine(proved);
-    if wish.pools_alone || wish.heights_alone {
+    if wish.pools_alone || wish.heights_alone || wish.flume_alone {
         if wish.pools_alone {
             measure_pools(wish);
         }
         if wish.heights_alone {
             measure_heights(wish);
+        }
+        if wish.flume_alone {
+            flume::report::flume(wish.effort, wish.seeds, wish.steps)?;
         }
         return Ok(());
     }
@@ -186,6 +194,7 @@ fn bench(wish: &Wish) -> Result<(), String> {
     report::growth(&engines, &over_cells, &over_share);
     measure_pools(wish);
     measure_heights(wish);
+    flume::report::flume(wish.effort, wish.seeds, wish.steps)?;
 
     match totals.iter().find(|row| row.lost != 0) {
         Some(row) => Err(format!("{}, side {}: {} units lost", row.scene, row.side, row.lost)),

@@ -26,7 +26,7 @@ pub struct Totals {
 }
 
 /// Prints rows under a heading as a table that Markdown reads too.
-fn table(heading: &[&str], rows: &[Vec<String>]) {
+pub(crate) fn table(heading: &[&str], rows: &[Vec<String>]) {
     let length = |text: &str| text.chars().count();
     let widths: Vec<usize> = heading
         .iter()
@@ -84,11 +84,11 @@ pub fn machine(proved: Option<Engine>) {
 }
 
 /// Million cell updates per second.
-fn rate(cells: usize, seconds: f64) -> String {
+pub(crate) fn rate(cells: usize, seconds: f64) -> String {
     format!("{:.2}", cells as f64 / seconds / 1e6)
 }
 
-fn percent(part: f64) -> String {
+pub(crate) fn percent(part: f64) -> String {
     format!("{:.1}%", 100.0 * part)
 }
 

@@ -3,7 +3,7 @@
 
 pub mod calls;
 pub mod cases;
-mod reference;
+pub mod reference;
 
 use std::fmt::{Display, Formatter};
 

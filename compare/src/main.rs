@@ -1,5 +1,6 @@
 // The comparison: the proved programs and the proved library beside the independent program, by seed. Status 1 if anything differs.
 
+mod flume;
 mod heights;
 mod lengths;
 mod library;
@@ -21,7 +22,7 @@ use programs::{gridread, gridrun, gridstep, Starter};
 use report::{Total, Wish};
 
 const USAGE: &str = "compare [--from SEED] [--first] [PART...], from the top of the repository
-  PART      gridstep, gridrun, gridread, library, profile, pools, schemes, heights or mirror; all if not said
+  PART      gridstep, gridrun, gridread, library, profile, pools, schemes, heights, mirror or flume; all if not said
   --from    the first seed, 0 if not said
   --first   stop at the first difference";
 
@@ -32,7 +33,7 @@ enum Part {
     Library(&'static str, fn(&Wish, &mut Total)),
 }
 
-const PARTS: [Part; 9] = [
+const PARTS: [Part; 10] = [
     Part::Program("gridstep", gridstep::compare),
     Part::Program("gridrun", gridrun::compare),
     Part::Program("gridread", gridread::compare),
@@ -42,6 +43,7 @@ const PARTS: [Part; 9] = [
     Part::Library("schemes", schemes::compare),
     Part::Library("heights", heights::compare),
     Part::Library("mirror", mirror::compare),
+    Part::Library("flume", flume::compare),
 ];
 
 impl Part {

@@ -2,9 +2,11 @@
 
 use std::collections::BTreeMap;
 
+use crate::bounds::{look_at, BOUNDS};
 use crate::damage::{bad, cut_refusal, section_starts, LEFT_OVER};
 use crate::grid::{Grid, Refusal};
 use crate::lattice::{q, weight};
+use crate::met::Met;
 use crate::random::Random;
 use crate::record::{read, read_within, write, written_back};
 use crate::run::run;
@@ -15,7 +17,8 @@ use crate::state::{
     check, density_allowed, speed_allowed, test_closed, test_flags, Rule, State, CARRY_LIMIT, EMPTY, FLUID,
     INTERFACE, MASS_LIMIT, PART_LIMIT,
 };
-use crate::step::{draft, pushed, runs_dry, step, streamed, traded, Draft, Fate};
+use crate::step::{draft, pushed, relaxed_by, runs_dry, step, streamed, traded, Draft, Fate};
+use crate::turbulence::{Modes, Relaxation};
 
 /// What a hunt has to meet, or its silence says nothing. The order is that of printing.
 pub const EVENTS: &[&str] = &[
@@ -75,6 +78,10 @@ pub const EVENTS: &[&str] = &[
     "damaged at random and still accepted",
 ];
 
+/// What a hunt in other modes than the plain one has to meet besides.
+pub const TURBULENT_EVENTS: &[&str] =
+    &["steps accepted in the turbulent mode", "cells whose own p is below p", "cells whose own p is p"];
+
 /// How often each event was met.
 #[derive(Default)]
 pub struct Tally {
@@ -106,26 +113,35 @@ pub(crate) fn ensure(holds: bool, otherwise: &str) -> Finding {
 }
 
 /// Hunts over seeds 0 to seeds − 1; an error names the seed and what failed.
-pub fn hunt(seeds: u64, steps: u32) -> Result<Tally, String> {
-    let mut tally = Tally::default();
+pub fn hunt(seeds: u64, steps: u32, modes: Modes) -> Result<(Tally, Met), String> {
+    let (mut tally, mut met) = (Tally::default(), Met::nothing(BOUNDS));
     for seed in 0..seeds {
         let scene = good(seed);
         let random = &mut Random::new(seed ^ 0x6875_6e74);
-        let found = walk(random, &scene, steps, &mut tally)
-            .and_then(|()| runs(&scene, steps.min(8), &mut tally))
+        let found = walk(random, &scene, steps, modes, &mut tally, &mut met)
+            .and_then(|()| runs(&scene, steps.min(8), modes, &mut tally))
             .and_then(|()| cuts(&scene, &mut tally))
-            .and_then(|()| damages(seed, &mut tally));
+            .and_then(|()| damages(seed, &mut tally))
+            .and_then(|()| met.breach().map_or(Ok(()), Err));
         found.map_err(|what| format!("seed {seed}: {what}"))?;
     }
-    Ok(tally)
+    Ok((tally, met))
 }
 
 /// Steps a scene, settings changed now and then and after every refusal.
-fn walk(random: &mut Random, scene: &Scene, steps: u32, tally: &mut Tally) -> Finding {
+fn walk(
+    random: &mut Random,
+    scene: &Scene,
+    steps: u32,
+    modes: Modes,
+    tally: &mut Tally,
+    met: &mut Met,
+) -> Finding {
     let grid = scene.grid();
     let start = scene.state.total();
     let mut state = scene.state.clone();
     let mut setting = scene.settings;
+    let mut turbulent = modes.chosen(random);
     let mut changed = false;
     let mut refused = 0;
     ensure(check(scene.sides, Store::of(&state).lend()).is_ok(), "a good scene was refused")?;
@@ -136,8 +152,10 @@ fn walk(random: &mut Random, scene: &Scene, steps: u32, tally: &mut Tally) -> Fi
         let mut second = Store::blank(grid.n);
         second.masses.fill(77);
         let mut marks = vec![9; grid.n];
+        let relaxation = Relaxation { p: setting.p, turbulent };
+        look_at(met, &grid, &state, setting.p, setting.gravity);
         let answer =
-            step(scene.sides, setting.p, setting.gravity, first.lend(), second.lend_mut(), &mut marks);
+            step(scene.sides, relaxation, setting.gravity, first.lend(), second.lend_mut(), &mut marks);
         ensure(first == kept, "a step wrote its first set")?;
         ensure(marks.iter().all(|&mark| mark == 0), "marks left after a step")?;
         match answer {
@@ -145,10 +163,11 @@ fn walk(random: &mut Random, scene: &Scene, steps: u32, tally: &mut Tally) -> Fi
                 let next = State::of(second.lend());
                 ensure(check(scene.sides, second.lend()).is_ok(), "an accepted step gave a bad state")?;
                 ensure(next.total() == start, "water was lost or made")?;
-                let drafted = draft(&grid, &state, setting.p, setting.gravity)
+                let drafted = draft(&grid, &state, relaxation, setting.gravity)
                     .map_err(|_| "an accepted step has no draft")?;
                 converted(&grid, &state, &next, &setting, &drafted, tally)?;
-                collided_near(&grid, &state, &next, &setting, tally)?;
+                collided_near(&grid, &state, &next, relaxation, setting.gravity, tally)?;
+                tally.add_if("steps accepted in the turbulent mode", turbulent);
                 count_accepted(&state, &next, &setting, changed, tally);
                 state = next;
                 records(scene, &state, &setting, tally)?;
@@ -156,7 +175,7 @@ fn walk(random: &mut Random, scene: &Scene, steps: u32, tally: &mut Tally) -> Fi
             }
             Err(refusal) => {
                 ensure(second == first, "a refused step's second set is no copy")?;
-                refused_for(&grid, &state, &setting, refusal, tally)?;
+                refused_for(&grid, &state, relaxation, setting.gravity, refusal, tally)?;
                 refused += 1;
             }
         }
@@ -165,6 +184,7 @@ fn walk(random: &mut Random, scene: &Scene, steps: u32, tally: &mut Tally) -> Fi
         }
         if refused > 0 || random.percent(15) {
             setting = Settings { edge: setting.edge, ..settings(random) };
+            turbulent = modes.chosen(random);
             changed = true;
         }
     }
@@ -248,20 +268,30 @@ fn converted(
     ensure(next.carry - old.carry == carried, "the carry changed by something else than lone excess")
 }
 
-/// Demand 2: every part of a cell that stays liquid against the exact BGK value, cross-multiplied.
-fn collided_near(grid: &Grid, old: &State, next: &State, setting: &Settings, tally: &mut Tally) -> Finding {
+/// Demand 2: every part of a cell that stays liquid against the exact BGK value at its p, cross-multiplied.
+fn collided_near(
+    grid: &Grid,
+    old: &State,
+    next: &State,
+    relaxation: Relaxation,
+    gravity: [i32; 3],
+    tally: &mut Tally,
+) -> Finding {
     for c in 0..grid.n {
         if !old.cells[c].liquid() || !next.cells[c].liquid() {
             continue;
         }
         tally.add("cells that stayed liquid, demand 2", 1);
         let streamed = streamed(grid, old, c);
-        let flow = pushed(&streamed, setting.gravity);
+        let flow = pushed(&streamed, gravity);
+        let p = relaxed_by(&streamed, &flow, relaxation);
+        tally.add_if("cells whose own p is below p", p < relaxation.p);
+        tally.add_if("cells whose own p is p", relaxation.turbulent && p == relaxation.p);
         // Everything over 1024·72ρ': f + p/1024·(w·Q/(72ρ') − f).
         let unit = 1024 * 72 * flow.rho;
         for (i, f) in streamed.iter().enumerate() {
             let equilibrium = weight(i) * q(flow.rho, &flow.j, i);
-            let exact = f * unit + i128::from(setting.p) * (equilibrium - 72 * flow.rho * f);
+            let exact = f * unit + i128::from(p) * (equilibrium - 72 * flow.rho * f);
             let away = (next.cells[c].parts[i] * unit - exact).abs();
             let allowed = if i == 0 { 18 } else { 1 };
             ensure(away < allowed * unit, &format!("part {i} of cell {c} is too far from BGK"))?;
@@ -271,12 +301,19 @@ fn collided_near(grid: &Grid, old: &State, next: &State, setting: &Settings, tal
 }
 
 /// A refused step must have been refused for a reason of 7, or for one that OPEN-POINTS 15 lists.
-fn refused_for(grid: &Grid, old: &State, setting: &Settings, refusal: Refusal, tally: &mut Tally) -> Finding {
+fn refused_for(
+    grid: &Grid,
+    old: &State,
+    relaxation: Relaxation,
+    gravity: [i32; 3],
+    refusal: Refusal,
+    tally: &mut Tally,
+) -> Finding {
     let place = refusal.place as usize;
-    let drafted = draft(grid, old, setting.p, setting.gravity);
+    let drafted = draft(grid, old, relaxation, gravity);
     match (refusal.number, drafted) {
         (7, Err(same)) if same == refusal => {
-            let flow = pushed(&streamed(grid, old, place), setting.gravity);
+            let flow = pushed(&streamed(grid, old, place), gravity);
             let thin = !density_allowed(flow.rho);
             let fast = !speed_allowed(flow.rho, &flow.j);
             tally.add_if("refusal 7, density", thin);
@@ -356,9 +393,10 @@ fn rewritten(bytes: &[u8]) -> Result<Vec<u8>, String> {
 }
 
 /// The run against the same steps made singly; both sets and the marks afterwards.
-fn runs(scene: &Scene, steps: u32, tally: &mut Tally) -> Finding {
+fn runs(scene: &Scene, steps: u32, modes: Modes, tally: &mut Tally) -> Finding {
     let n = scene.state.cells.len();
-    let (p, gravity) = (scene.settings.p, scene.settings.gravity);
+    let gravity = scene.settings.gravity;
+    let p = Relaxation { p: scene.settings.p, turbulent: modes != Modes::Plain };
     let mut reached = Store::of(&scene.state);
     let mut count = 0;
     let mut refusal = None;

@@ -8,6 +8,7 @@ use crate::sets::{Set, SetMut, Store};
 use crate::settings::test_flow;
 use crate::state::{good_state, State, INTERFACE};
 use crate::step::next_state;
+use crate::turbulence::Relaxation;
 
 /// W, the words of n cells.
 pub fn words_of(n: usize) -> usize {
@@ -215,14 +216,15 @@ fn tested(
 /// The step: the next state and its index into the second; after 7 or 8 copies of the first's.
 pub fn step(
     sides: [u32; 3],
-    p: i32,
+    relaxation: impl Into<Relaxation>,
     gravity: [i32; 3],
     first: Held,
     mut second: HeldMut,
     marks: &mut [u8],
 ) -> Result<(), Refusal> {
-    let (grid, old) = tested(sides, p, gravity, first, second.as_held(), marks)?;
-    let next = next_state(&grid, &old, p, gravity);
+    let relaxation = relaxation.into();
+    let (grid, old) = tested(sides, relaxation.p, gravity, first, second.as_held(), marks)?;
+    let next = next_state(&grid, &old, relaxation, gravity);
     second.put(next.as_ref().unwrap_or(&old));
     marks.fill(0);
     next.map(|_| ())
@@ -231,7 +233,7 @@ pub fn step(
 /// The run: both sets then hold the state reached and its index.
 pub fn run(
     sides: [u32; 3],
-    p: i32,
+    relaxation: impl Into<Relaxation>,
     gravity: [i32; 3],
     steps: u32,
     mut first: HeldMut,
@@ -241,11 +243,13 @@ pub fn run(
     if steps > MOST_STEPS {
         return Run { count: 0, refusal: Some(Refusal { number: 9, place: 0 }) };
     }
-    let (grid, mut state) = match tested(sides, p, gravity, first.as_held(), second.as_held(), marks) {
+    let relaxation = relaxation.into();
+    let tested = tested(sides, relaxation.p, gravity, first.as_held(), second.as_held(), marks);
+    let (grid, mut state) = match tested {
         Ok(accepted) => accepted,
         Err(refusal) => return Run { count: 0, refusal: Some(refusal) },
     };
-    let outcome = advance(&grid, &mut state, p, gravity, steps);
+    let outcome = advance(&grid, &mut state, relaxation, gravity, steps);
     first.put(&state);
     second.put(&state);
     marks.fill(0);

@@ -1,6 +1,7 @@
 // The whole of document 01 once more, by another hand: what the delivered code is compared with.
 
 pub mod acts;
+pub mod bounds;
 pub mod damage;
 pub mod depths;
 pub mod designers;
@@ -13,6 +14,7 @@ pub mod invert;
 pub mod isolation;
 pub mod lattice;
 pub mod mirror;
+pub mod met;
 pub mod ponds;
 pub mod pools;
 pub mod profile;
@@ -27,6 +29,7 @@ pub mod settings;
 pub mod state;
 pub mod step;
 pub mod text;
+pub mod turbulence;
 
 pub use acts::{pour, take};
 pub use grid::Refusal;
@@ -42,3 +45,4 @@ pub use sets::{Set, SetMut, Store};
 pub use settings::Settings;
 pub use state::check;
 pub use step::step;
+pub use turbulence::Relaxation;

@@ -9,16 +9,18 @@ use oracle::damage::bad;
 use oracle::drawing::{drawn, section};
 use oracle::flume;
 use oracle::grid::Grid;
-use oracle::hunt::{hunt, EVENTS};
+use oracle::hunt::{hunt, EVENTS, TURBULENT_EVENTS};
 use oracle::record::read_within;
 use oracle::scenes::good;
 use oracle::text::{
     gridread, gridrun, gridstep, refused_record, requests, steps_asked, water, GRIDSTEP_BYTES,
 };
+use oracle::turbulence::Modes;
 
 const USAGE: &str = "usage: oracle gridstep | gridrun K | gridread (place X Y Z | point C | depth X Y)... \
-| water | show | draw | make good|bad SEED | batch good|bad FROM TO DIR (TO itself left out) | hunt SEEDS STEPS \
-| flume (check | run K | water | show | draw | make good|bad SEED | hunt SEEDS STEPS)";
+| water | show | draw | make good|bad SEED | batch good|bad FROM TO DIR (TO itself left out) \
+| hunt SEEDS STEPS [plain|turbulent|either] \
+| flume (check | run K | water | show | draw | make good|bad SEED | hunt SEEDS STEPS [plain|turbulent|either])";
 
 /// The record of a kind and a seed.
 type Maker = fn(u64) -> Vec<u8>;
@@ -42,13 +44,14 @@ fn print(bytes: &[u8]) -> std::io::Result<ExitCode> {
     Ok(ExitCode::SUCCESS)
 }
 
-fn hunted(seeds: u64, steps: u32) -> ExitCode {
+fn hunted(seeds: u64, steps: u32, modes: Modes) -> ExitCode {
     let start = Instant::now();
-    match hunt(seeds, steps) {
-        Ok(tally) => {
-            for event in EVENTS {
+    match hunt(seeds, steps, modes) {
+        Ok((tally, met)) => {
+            for event in EVENTS.iter().chain(TURBULENT_EVENTS.iter().filter(|_| modes != Modes::Plain)) {
                 println!("{:>10}  {event}", tally.count(event));
             }
+            met.lines().for_each(|(_, line)| println!("{line}"));
             println!("{:>10.1}  seconds", start.elapsed().as_secs_f64());
             println!("hunt: {seeds} seeds, {} steps, nothing found", tally.count("steps accepted"));
             ExitCode::SUCCESS
@@ -95,7 +98,10 @@ fn obey(arguments: &[&str]) -> Option<std::io::Result<ExitCode>> {
         ["flume", rest @ ..] => {
             flume::commands::answer(rest, || input(u64::MAX))?.and_then(|bytes| print(&bytes))
         }
-        ["hunt", seeds, steps] => Ok(hunted(seeds.parse().ok()?, steps.parse().ok()?)),
+        ["hunt", seeds, steps] => Ok(hunted(seeds.parse().ok()?, steps.parse().ok()?, Modes::Plain)),
+        ["hunt", seeds, steps, word] => {
+            Ok(hunted(seeds.parse().ok()?, steps.parse().ok()?, Modes::asked(word)?))
+        }
         _ => return None,
     })
 }

@@ -4,6 +4,7 @@ use crate::grid::{Grid, Refusal};
 use crate::sets::SetMut;
 use crate::state::State;
 use crate::step::{next_state, tested};
+use crate::turbulence::Relaxation;
 
 pub const MOST_STEPS: u32 = 1000;
 
@@ -15,10 +16,16 @@ pub struct Run {
 }
 
 /// Step after step from a good state, until one is refused or so many are made.
-pub(crate) fn advance(grid: &Grid, state: &mut State, p: i32, gravity: [i32; 3], steps: u32) -> Run {
+pub(crate) fn advance(
+    grid: &Grid,
+    state: &mut State,
+    relaxation: Relaxation,
+    gravity: [i32; 3],
+    steps: u32,
+) -> Run {
     let mut outcome = Run { count: 0, refusal: None };
     while outcome.count < steps && outcome.refusal.is_none() {
-        match next_state(grid, state, p, gravity) {
+        match next_state(grid, state, relaxation, gravity) {
             Ok(next) => {
                 *state = next;
                 outcome.count += 1;
@@ -31,7 +38,7 @@ pub(crate) fn advance(grid: &Grid, state: &mut State, p: i32, gravity: [i32; 3],
 
 pub fn run(
     sides: [u32; 3],
-    p: i32,
+    relaxation: impl Into<Relaxation>,
     gravity: [i32; 3],
     steps: u32,
     mut first: SetMut,
@@ -41,11 +48,13 @@ pub fn run(
     if steps > MOST_STEPS {
         return Run { count: 0, refusal: Some(Refusal { number: 9, place: 0 }) };
     }
-    let (grid, mut state) = match tested(sides, p, gravity, first.as_set(), second.as_set(), marks) {
+    let relaxation = relaxation.into();
+    let tested = tested(sides, relaxation.p, gravity, first.as_set(), second.as_set(), marks);
+    let (grid, mut state) = match tested {
         Ok(accepted) => accepted,
         Err(refusal) => return Run { count: 0, refusal: Some(refusal) },
     };
-    let outcome = advance(&grid, &mut state, p, gravity, steps);
+    let outcome = advance(&grid, &mut state, relaxation, gravity, steps);
     first.put(&state);
     second.put(&state);
     marks.fill(0);

@@ -7,6 +7,7 @@ use crate::lattice::{
 use crate::sets::{Set, SetMut};
 use crate::settings::test_flow;
 use crate::state::{density_allowed, good_state, speed_allowed, Cell, State, EMPTY, FLUID, INTERFACE, WALL};
+use crate::turbulence::{own, stress, tension, Own, Relaxation};
 
 /// Stage 3's density and momentum of a cell: ρ' and j' with gravity.
 #[derive(Clone, Copy, Debug, PartialEq, Eq)]
@@ -88,6 +89,25 @@ pub fn pushed(streamed: &Parts, gravity: [i32; 3]) -> Flow {
     Flow { rho, j }
 }
 
+/// Π of the streamed parts against stage 5's equilibrium at stage 3's density and momentum.
+pub fn stressed(streamed: &Parts, flow: &Flow) -> [[i128; 3]; 3] {
+    let still = equilibrium(flow.rho, &flow.j);
+    stress((1..19).map(|i| (DIRECTIONS[i], streamed[i] - still[i])))
+}
+
+/// P10: the cell's own p, and the numbers on the way to it.
+pub fn own_relaxation(streamed: &Parts, flow: &Flow, p: i32) -> Own {
+    own(p, tension(&stressed(streamed, flow)))
+}
+
+/// Stage 4's p of a cell.
+pub fn relaxed_by(streamed: &Parts, flow: &Flow, relaxation: Relaxation) -> i32 {
+    match relaxation {
+        Relaxation { p, turbulent: false } => p,
+        Relaxation { p, turbulent: true } => own_relaxation(streamed, flow, p).p,
+    }
+}
+
 /// Stage 4: the parts after collision.
 pub fn collided(streamed: &Parts, flow: &Flow, p: i32) -> Parts {
     let rho = flow.rho;
@@ -149,7 +169,13 @@ pub fn shares(excess: i128, weights: &[i128]) -> Vec<i128> {
 }
 
 /// Stages 1 to 6 from a good state, and stage 7's fills. The only refusal is 7.
-pub fn draft(grid: &Grid, old: &State, p: i32, gravity: [i32; 3]) -> Result<Draft, Refusal> {
+pub fn draft(
+    grid: &Grid,
+    old: &State,
+    relaxation: impl Into<Relaxation>,
+    gravity: [i32; 3],
+) -> Result<Draft, Refusal> {
+    let relaxation = relaxation.into();
     let cells = 0..grid.n;
     let was = |c: usize| old.cells[c].flag;
 
@@ -169,7 +195,7 @@ pub fn draft(grid: &Grid, old: &State, p: i32, gravity: [i32; 3]) -> Result<Draf
     let mut next = old.clone();
     for c in cells.clone() {
         if let (Some(parts), Some(flow)) = (&parts[c], &flows[c]) {
-            next.cells[c].parts = collided(parts, flow, p);
+            next.cells[c].parts = collided(parts, flow, relaxed_by(parts, flow, relaxation));
             next.cells[c].mass = if was(c) == FLUID { flow.rho } else { traded(grid, old, c) };
         }
     }
@@ -227,8 +253,13 @@ pub fn draft(grid: &Grid, old: &State, p: i32, gravity: [i32; 3]) -> Result<Draf
 }
 
 /// Stages 1 to 7 from a good state: the next state, or refusal 7 or 8.
-pub fn next_state(grid: &Grid, old: &State, p: i32, gravity: [i32; 3]) -> Result<State, Refusal> {
-    let next = draft(grid, old, p, gravity)?.state;
+pub fn next_state(
+    grid: &Grid,
+    old: &State,
+    relaxation: impl Into<Relaxation>,
+    gravity: [i32; 3],
+) -> Result<State, Refusal> {
+    let next = draft(grid, old, relaxation, gravity)?.state;
     match next.broken_place() {
         Some(place) => refuse(8, place),
         None => Ok(next),
@@ -255,14 +286,15 @@ pub fn tested(
 /// The step: the next state into the second set; after 7 or 8 a copy of the first.
 pub fn step(
     sides: [u32; 3],
-    p: i32,
+    relaxation: impl Into<Relaxation>,
     gravity: [i32; 3],
     first: Set,
     mut second: SetMut,
     marks: &mut [u8],
 ) -> Result<(), Refusal> {
-    let (grid, old) = tested(sides, p, gravity, first, second.as_set(), marks)?;
-    let next = next_state(&grid, &old, p, gravity);
+    let relaxation = relaxation.into();
+    let (grid, old) = tested(sides, relaxation.p, gravity, first, second.as_set(), marks)?;
+    let next = next_state(&grid, &old, relaxation, gravity);
     second.put(next.as_ref().unwrap_or(&old));
     marks.fill(0);
     next.map(|_| ())

@@ -12,11 +12,13 @@ use oracle::flume::state::{Cell, State};
 use oracle::flume::step::{draft, next_state, normal, pushed, streamed, traded};
 use oracle::flume::{check, read, run, step, write};
 use oracle::grid::Refusal;
+use oracle::hunt::TURBULENT_EVENTS;
 use oracle::lattice::{opposite, DIRECTIONS as BOX_DIRECTIONS, ONE};
 use oracle::random::Random;
 use oracle::record::read_within;
 use oracle::scenes::case_t;
 use oracle::state::{Rule, EMPTY, FLUID, INTERFACE, WALL};
+use oracle::turbulence::Modes;
 use oracle::Store;
 
 const CALM: Settings = Settings { p: 1024, gravity: [0; 2], edge: 50 };
@@ -400,16 +402,34 @@ fn any_values_are_answered() {
     }
 }
 
-#[test]
-fn hunt_finds_nothing_and_is_not_vacuous() {
-    let (tally, met) = hunt(1000, 12).unwrap();
-    for event in EVENTS {
+/// What the turbulent mode hardly leaves: a part far off its equilibrium is no longer thrown past it.
+const DAMPED: [&str; 2] = ["refusal 8, moving part", "refusal 8, rest part"];
+
+fn hunted(modes: Modes, besides: &[&str]) {
+    let (tally, met) = hunt(1000, 12, modes).unwrap();
+    let rare = |event: &str| modes == Modes::Turbulent && DAMPED.contains(&event);
+    for event in EVENTS.iter().chain(besides).filter(|event| !rare(event)) {
         assert!(tally.count(event) > 0, "never met: {event}");
     }
     for event in tally.met.keys() {
-        assert!(EVENTS.contains(event), "not listed: {event}");
+        assert!(EVENTS.contains(event) || TURBULENT_EVENTS.contains(event), "not listed: {event}");
     }
     assert_eq!(met.lines().count(), oracle::flume::bounds::BOUNDS.len());
+}
+
+#[test]
+fn hunt_finds_nothing_and_is_not_vacuous() {
+    hunted(Modes::Plain, &[]);
+}
+
+#[test]
+fn hunt_finds_nothing_in_the_turbulent_mode() {
+    hunted(Modes::Turbulent, TURBULENT_EVENTS);
+}
+
+#[test]
+fn hunt_finds_nothing_in_modes_that_change() {
+    hunted(Modes::Either, TURBULENT_EVENTS);
 }
 
 const WEIR: &str = include_str!("../../examples/weir.txt");

@@ -5,6 +5,7 @@ use oracle::flume::scenes::good;
 use oracle::flume::state::State;
 use oracle::flume::step::next_state;
 use oracle::state::{EMPTY, FLUID, INTERFACE, WALL};
+use oracle::turbulence::Relaxation;
 
 const WAYS: [(i64, i64); 9] = [(0, 0), (1, 0), (-1, 0), (0, 1), (0, -1), (1, 1), (-1, -1), (1, -1), (-1, 1)];
 const WEIGHTS: [i64; 9] = [16, 4, 4, 4, 4, 1, 1, 1, 1];
@@ -74,6 +75,28 @@ impl Sums {
     }
 }
 
+/// The floor of a square root, by Newton's steps from above.
+fn root(n: i64) -> i64 {
+    let mut guess = n;
+    while guess > 0 && n / guess < guess {
+        guess = (guess + n / guess) / 2;
+    }
+    guess
+}
+
+/// A cell's own p, by the four pairs of opposite parts; the nearest whole number by what the floor leaves.
+fn own(p: i64, flow: &Sums, parts: &[i64; 9]) -> i64 {
+    let still = |i: usize| flow.weighed(i) / (72 * flow.rho);
+    let pair = |i: usize| parts[i] + parts[i + 1] - still(i) - still(i + 1);
+    let (x, z, rising, falling) = (pair(1), pair(3), pair(5), pair(7));
+    let (along, up, across) = (x + rising + falling, z + rising + falling, rising - falling);
+    let first = root(along * along + up * up + 2 * across * across);
+    let still = 12_800 * (2048 - p);
+    let divisor = 12_800 * (10_240 + p) + root(still * still + 162 * p * p * first);
+    let (quotient, left) = (157_286_400 * p / divisor, 157_286_400 * p % divisor);
+    (quotient + i64::from(2 * left >= divisor)).clamp(1, 2037)
+}
+
 fn fill_of(cell: &Cell) -> i64 {
     match cell.flag {
         FLUID => 65_536,
@@ -112,7 +135,7 @@ impl Water {
     }
 
     /// The next state and how many cells were converted; or number and place.
-    fn next(&self, p: i64, gravity: (i64, i64)) -> Result<(Water, usize), (u32, usize)> {
+    fn next(&self, p: i64, turbulent: bool, gravity: (i64, i64)) -> Result<(Water, usize), (u32, usize)> {
         let n = self.cells.len();
         let liquid: Vec<usize> = (0..n).filter(|&c| self.liquid(c)).collect();
 
@@ -168,6 +191,7 @@ impl Water {
         let mut new = self.clone();
         for &c in &liquid {
             let (flow, old) = (flows[c], arrived[c]);
+            let p = if turbulent { own(p, &flow, &old) } else { p };
             let relaxed =
                 |i: usize| old[i] + p * (flow.weighed(i) - 72 * flow.rho * old[i]) / (73_728 * flow.rho);
             new.cells[c].parts = flow.with(relaxed);
@@ -247,8 +271,7 @@ impl Water {
     }
 }
 
-#[test]
-fn pushing_gives_what_pulling_gives() {
+fn pushed_as_pulled(turbulent: bool) {
     let (mut accepted, mut converted, mut refused) = (0, 0, [0; 2]);
     for seed in 0..4000 {
         let scene = good(seed);
@@ -256,8 +279,10 @@ fn pushing_gives_what_pulling_gives() {
         let [gx, gz] = settings.gravity;
         let mut state = scene.state;
         for step in 0..6 {
-            let pulled = next_state(&grid, &state, settings.p, settings.gravity);
-            let pushed = Water::of(scene.sides[0], &state).next(settings.p.into(), (gx.into(), gz.into()));
+            let relaxation = Relaxation { p: settings.p, turbulent };
+            let pulled = next_state(&grid, &state, relaxation, settings.gravity);
+            let water = Water::of(scene.sides[0], &state);
+            let pushed = water.next(settings.p.into(), turbulent, (gx.into(), gz.into()));
             match (pulled, pushed) {
                 (Ok(next), Ok((water, cells))) => {
                     assert_eq!(water, Water::of(scene.sides[0], &next), "seed {seed}, step {step}");
@@ -276,4 +301,14 @@ fn pushing_gives_what_pulling_gives() {
     }
     println!("{accepted} steps, {converted} cells converted, refused with 7 and 8: {refused:?}");
     assert!(accepted > 5000 && converted > 500 && refused.iter().all(|&times| times > 50));
+}
+
+#[test]
+fn pushing_gives_what_pulling_gives() {
+    pushed_as_pulled(false);
+}
+
+#[test]
+fn pushing_gives_what_pulling_gives_in_the_turbulent_mode() {
+    pushed_as_pulled(true);
 }

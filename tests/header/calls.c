@@ -1,18 +1,10 @@
 /*
- * Every call of skwarzyna.h on good and on bad input, held to the figures and the table of document 01. The same text is compiled as C
- * and as C++. Arguments: the record of case T, and what gridstep prints for it.
+ * Every call of skwarzyna.h but the flume's (flume.c) on good and on bad input, held to the figures and the table of document 01. The
+ * same text is compiled as C and as C++. Arguments: the record of case T, and what gridstep prints for it.
  */
-#include "skwarzyna.h"
+#include "expect.h"
 
-#include <stdio.h>
 #include <stdlib.h>
-#include <string.h>
-
-#ifdef __cplusplus
-#define LANGUAGE "C++"
-#else
-#define LANGUAGE "C"
-#endif
 
 /* The most cells of a grid here. */
 #define ROOM 64
@@ -22,24 +14,6 @@
 #define RECORD 199
 /* The same grid as the writer writes it, with poured and taken. */
 #define WRITTEN 215
-
-static int tried = 0;
-static int failed = 0;
-
-static void expect(int holds, int line, const char *text)
-{
-    tried += 1;
-    if (!holds) {
-        failed += 1;
-        printf("header (%s): line %d: %s\n", LANGUAGE, line, text);
-    }
-}
-
-#define EXPECT(holds) expect((holds) != 0, __LINE__, #holds)
-
-/* Number and place of an answer in one number, so that both stand in one comparison. */
-#define REFUSED(number, place) ((long)(number) * 1000000 + (long)(place))
-#define ACCEPTED REFUSED(SKW_ACCEPTED, 0)
 
 struct set {
     uint8_t flags[ROOM];

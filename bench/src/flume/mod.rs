@@ -1,7 +1,11 @@
-// The flume's steps written by hand, in whole numbers and in f32, and scenes for them.
+// The flume's steps, the proved one and those written by hand in whole numbers and in f32: scenes for them, held to be identical, and timed.
 
+pub mod engine;
 pub mod float;
+pub mod identical;
+pub mod measure;
 pub mod plain;
+pub mod report;
 pub mod scenes;
 
 /// The settings that a step of the flume takes: p, and gravity along x and up.

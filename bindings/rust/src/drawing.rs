@@ -1,6 +1,7 @@
-//! A grid as a picture or as text: its depths from above, or the cells of a section, with legend, scale and water balance.
+//! A grid or a flume as a picture or as text: its depths from above, or the cells of a section, with legend, scale and water balance.
 
 mod colours;
+mod flume;
 pub mod long;
 pub mod pools;
 mod scale;
@@ -9,9 +10,11 @@ mod tiles;
 
 use crate::picture::Picture;
 use crate::spelling::{counted, grouped, litres, thousandths};
-use crate::{Grid, Refusal, Site, FULL, ONE};
+use crate::{Counts, Grid, Refusal, Site, Water, FULL, ONE};
 
 use tiles::Tile;
+
+pub use flume::flume_balance;
 
 /// An axis of the grid.
 #[derive(Clone, Copy, Debug, PartialEq, Eq)]
@@ -41,8 +44,12 @@ pub struct Drawing {
     deepest: f32,
     /// The depth that is drawn darkest.
     darkest: f32,
-    sides: [usize; 3],
-    site: Site,
+    /// How many cells a letter of the text stands for, along and up.
+    block: (usize, usize),
+    /// The grid and where it lies, in two lines.
+    place: [String; 2],
+    /// Of a cell, in millimetres.
+    edge: i64,
     balance: Vec<(&'static str, String)>,
 }
 
@@ -53,7 +60,13 @@ const LONGEST_NAME: usize = 32;
 
 /// The water balance to the unit, as names and numbers: four counts of cells, four amounts of water, and the total in litres.
 pub fn balance(grid: &Grid, edge: i64) -> Vec<(&'static str, String)> {
-    let (counts, water) = (grid.counts(), grid.water());
+    let mut lines = counted_water(grid.counts(), grid.water());
+    lines.push(("total in litres", litres(grid.total(), edge)));
+    lines
+}
+
+/// Four counts of cells and four amounts of water.
+fn counted_water(counts: Counts, water: Water) -> Vec<(&'static str, String)> {
     vec![
         ("fluid cells", counted(counts.fluid)),
         ("interface cells", counted(counts.interface)),
@@ -63,7 +76,6 @@ pub fn balance(grid: &Grid, edge: i64) -> Vec<(&'static str, String)> {
         ("in interface cells", grouped(water.interface)),
         ("carry", grouped(water.carry)),
         ("total", grouped(water.total())),
-        ("total in litres", litres(water.total(), edge)),
     ]
 }
 
@@ -119,9 +131,19 @@ impl Drawing {
             View::Section(axis, at) => format!("Section at {} = {at}", axis.name()),
         };
         let sides = grid.sides();
-        let sides = [sides.nx, sides.ny, sides.nz];
+        let place = place([sides.nx, sides.ny, sides.nz], site);
         let balance = balance(grid, site.edge);
-        Ok(Drawing { title, view, rows, deepest, darkest: deepest, sides, site, balance })
+        Ok(Drawing {
+            title,
+            view,
+            rows,
+            deepest,
+            darkest: deepest,
+            block: (1, 1),
+            place,
+            edge: site.edge,
+            balance,
+        })
     }
 
     /// With a name before the title; what is no letter of ASCII is drawn as a question mark, and a long name is cut.
@@ -143,14 +165,9 @@ impl Drawing {
         self
     }
 
-    /// The grid and where it lies, in two lines.
-    fn place(&self) -> [String; 2] {
-        place(self.sides, self.site)
-    }
-
     /// A depth in cells as millimetres.
     fn in_millimetres(&self, cells: f32) -> String {
-        match f64::from(cells) * self.site.edge as f64 {
+        match f64::from(cells) * self.edge as f64 {
             few if few < 100.0 => format!("{few:.1} mm"),
             many => format!("{} mm", grouped(many.round() as i64)),
         }
@@ -168,18 +185,19 @@ impl Drawing {
     /// The same as text, a letter for each cell or column.
     pub fn text(&self) -> String {
         let (across, up) = self.view.axes();
-        let mut text = format!("{}\n{}\n{}\n\n", self.title, self.place()[0], self.place()[1]);
+        let (wide, high) = self.block;
+        let mut text = format!("{}\n{}\n{}\n\n", self.title, self.place[0], self.place[1]);
         text += &format!("{:>5}\n", up.name());
         let height = self.rows.len();
         for (row, tiles) in self.rows.iter().enumerate() {
             let number = height - 1 - row;
-            let label = if number % 5 == 0 || row == 0 { number.to_string() } else { String::new() };
+            let label = if number % 5 == 0 || row == 0 { (high * number).to_string() } else { String::new() };
             text += &format!(
                 "{label:>5} {}\n",
                 tiles.iter().map(|tile| tile.letter(self.darkest)).collect::<String>()
             );
         }
-        let labels = (0..self.sides[across as usize]).step_by(10).map(|number| format!("{number:<10}"));
+        let labels = (0..self.rows[0].len()).step_by(10).map(|number| format!("{:<10}", wide * number));
         text += &format!("      {}  {}\n\n", labels.collect::<String>().trim_end(), across.name());
         text += &match self.view {
             View::Above if self.deepest > 0.0 => format!(
@@ -189,6 +207,9 @@ impl Drawing {
                 self.in_millimetres(self.deepest)
             ),
             View::Above => "# solid, . dry\n".to_string(),
+            View::Section(..) if wide > 1 => format!(
+                "a letter for {wide} x {high} cells: # wall, . no water, 0 to 9 by tenths of their mean fill, w full\n"
+            ),
             View::Section(..) => {
                 "# wall, . empty, 0 to 9 interface by tenths of its fill, w fluid\n".to_string()
             }

@@ -23,7 +23,7 @@ pub struct Head<'a> {
     pub flags: &'a [u8],
 }
 
-fn answered(number: u8, place: usize) -> Result<(), Refusal> {
+pub(crate) fn answered(number: u8, place: usize) -> Result<(), Refusal> {
     match number {
         0 => Ok(()),
         _ => Err(Refusal::new(number, place)),

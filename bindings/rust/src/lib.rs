@@ -26,9 +26,10 @@
 //! ```
 //!
 //! [`Grid`] is what most hosts need; [`Scan`] has two schemes between the same walls; [`lent`] has the same calls over slices of one's
-//! own; [`drawing`] draws a grid.
+//! own; [`drawing`] draws a grid. [`Flume`] is a long section in two dimensions, with calls of its own ([`flume`]).
 
 pub mod drawing;
+pub mod flume;
 mod grid;
 mod heights;
 mod index;
@@ -46,6 +47,7 @@ mod sides;
 pub mod spelling;
 mod state;
 
+pub use flume::Flume;
 pub use grid::{Grid, Record};
 pub use index::{words_of, Held, HeldMut, Index, IndexMut, Next, Surface};
 pub use pools::{Pool, Pools};

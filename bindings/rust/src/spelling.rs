@@ -30,6 +30,13 @@ pub fn litres(units: i64, edge: i64) -> String {
     thousandths((2 * share + share.signum() * whole) / (2 * whole))
 }
 
+/// Water of a section in units as litres per metre of its width, where a cell's edge is so many millimetres: to the nearest millilitre.
+pub fn litres_per_metre(units: i64, edge: i64) -> String {
+    // In square millimetres a cell is edge², and each of them is a millilitre in a metre of width.
+    let (share, whole) = (i128::from(units) * i128::from(edge).pow(2), i128::from(ONE));
+    thousandths((2 * share + share.signum() * whole) / (2 * whole))
+}
+
 #[cfg(test)]
 mod tests {
     use super::*;
@@ -49,5 +56,8 @@ mod tests {
         assert_eq!(litres(1, 50), "0.000");
         assert_eq!(litres(295, 100), "0.001");
         assert_eq!(litres(294, 100), "0.000");
+        // A cell of 100 mm holds ten litres in each metre of its width.
+        assert_eq!(litres_per_metre(ONE.into(), 100), "10.000");
+        assert_eq!(litres_per_metre(i64::from(-ONE) / 2, 1), "-0.001");
     }
 }

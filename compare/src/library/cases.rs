@@ -41,7 +41,7 @@ pub struct Case {
 }
 
 /// A number of any size, small ones and the ends of its type often among them.
-fn any(random: &mut Random) -> u64 {
+pub fn any(random: &mut Random) -> u64 {
     match random.below(6) {
         0 => random.below(4) as u64,
         1 => (random.below(4) as u64).wrapping_neg(),
@@ -53,7 +53,7 @@ fn any(random: &mut Random) -> u64 {
 }
 
 /// A vector of so many numbers that a call must overwrite or leave alone.
-fn junk<T>(random: &mut Random, length: usize, number: impl Fn(u64) -> T) -> Vec<T> {
+pub fn junk<T>(random: &mut Random, length: usize, number: impl Fn(u64) -> T) -> Vec<T> {
     (0..length).map(|_| number(random.bits())).collect()
 }
 
@@ -371,10 +371,6 @@ impl Case {
 
     /// The first lent slice in which this case, as it should be, and another differ.
     pub fn apart(&self, given: &Case) -> Option<String> {
-        fn apart<T: PartialEq + Debug>(name: &str, wanted: &[T], given: &[T]) -> Option<String> {
-            let i = wanted.iter().zip(given).position(|(wanted, given)| wanted != given)?;
-            Some(format!("{name}[{i}]: wanted {:?}, given {:?}", wanted[i], given[i]))
-        }
         let sets = [("first", &self.first, &given.first), ("second", &self.second, &given.second)];
         let differs = sets.into_iter().find_map(|(name, wanted, given)| {
             apart(&format!("{name} flags"), &wanted.flags, &given.flags)
@@ -399,7 +395,13 @@ impl Case {
     }
 }
 
-fn put<T>(slice: &mut [T], at: usize, number: T) {
+/// Where two slices differ, of which one is as it should be.
+pub fn apart<T: PartialEq + Debug>(name: &str, wanted: &[T], given: &[T]) -> Option<String> {
+    let i = wanted.iter().zip(given).position(|(wanted, given)| wanted != given)?;
+    Some(format!("{name}[{i}]: wanted {:?}, given {:?}", wanted[i], given[i]))
+}
+
+pub fn put<T>(slice: &mut [T], at: usize, number: T) {
     if let Some(place) = slice.get_mut(at) {
         *place = number;
     }
@@ -427,7 +429,7 @@ pub fn amount(random: &mut Random) -> i64 {
 }
 
 /// A part or a mass: about its limit, or anything.
-fn number(random: &mut Random, limit: i32) -> i32 {
+pub fn number(random: &mut Random, limit: i32) -> i32 {
     let near = random.between(-1, 1) as i32;
     match random.below(4) {
         0 => limit + near,

@@ -12,7 +12,7 @@ fn sides(case: &Case) -> [u32; 3] {
     case.sides.map(|side| u32::try_from(side).unwrap_or(u32::MAX))
 }
 
-fn setting(number: i64) -> i32 {
+pub fn setting(number: i64) -> i32 {
     number.clamp(i32::MIN.into(), i32::MAX.into()) as i32
 }
 
@@ -21,14 +21,14 @@ fn settings(case: &Case) -> Settings {
 }
 
 /// The reply of a call that has so many values, all 0 beside a refusal.
-fn reply<const N: usize>(outcome: Result<[u64; N], Refusal>) -> Reply {
+pub fn reply<const N: usize>(outcome: Result<[u64; N], Refusal>) -> Reply {
     match outcome {
         Ok(values) => Reply { number: 0, place: 0, values: values.to_vec() },
         Err(refusal) => refused(refusal, vec![0; N]),
     }
 }
 
-fn refused(refusal: Refusal, values: Vec<u64>) -> Reply {
+pub fn refused(refusal: Refusal, values: Vec<u64>) -> Reply {
     Reply { number: refusal.number as u8, place: refusal.place as usize, values }
 }
 

@@ -13,7 +13,7 @@ use Rattle.whole.specs.Ring.{ring-by, quotes}
 use Rattle.whole.specs.Order.{*ℤ-mono}
 use Rattle.whole.specs.Machine.{Within, within-by}
 use Rattle.lattice.specs.declared.Flow.{Flow}
-use Rattle.lattice.specs.Lattice.{dot, d3q19}
+use Rattle.lattice.specs.Lattice.{dot, Lattice}
 use Rattle.lattice.specs.Cell.{quad, relaxed, relaxationGood}
 use Rattle.lattice.specs.Body.{partsOf, vec, Tame, relaxedDir}
 use Rattle.lattice.proofs.Ranges.{relaxation-in}
@@ -38,8 +38,8 @@ ready v p k t e is =
     }
 
 -- ---- the code's form of a collision in direction i, with e·j read from the array d
-abbrev pub formed : List ℤ → List ℤ → Common → ℕ → ℤ
-formed f d k i = grown (partsOf f i) (pos (d3q19 .weight i)) (k .base +ℤ pos 9 *ℤ getD d i (pos 0) *ℤ getD d i (pos 0) -ℤ k .six *ℤ getD d i (pos 0)) k
+abbrev pub formed : Lattice → List ℤ → List ℤ → Common → ℕ → ℤ
+formed L f d k i = grown (partsOf f i) (pos (L .weight i)) (k .base +ℤ pos 9 *ℤ getD d i (pos 0) *ℤ getD d i (pos 0) -ℤ k .six *ℤ getD d i (pos 0)) k
 
 -- of the opposite direction, by the pair's e·j
 pub turned : (g w : ℤ) (b s x : ℤ) (k : Common) → grown g w (b +ℤ pos 9 *ℤ x *ℤ x +ℤ s *ℤ x) k ≡ grown g w (b +ℤ pos 9 *ℤ negℤ x *ℤ negℤ x -ℤ s *ℤ negℤ x) k
@@ -50,14 +50,14 @@ turned g w b s x k =
     even b s x = ring-by (b ∷ s ∷ x ∷ []) (search quotes depth 20) (search quotes depth 20) tt
 
 -- the definition's, for what the code shares
-module _ (v : Flow) (p : ℤ) (k : Common) (is : CommonIs v p k) (f d : List ℤ) (i : ℕ) (e : getD d i (pos 0) ≡ dot (d3q19 .e i) (vec v)) where
+module _ (L : Lattice) (v : Flow) (p : ℤ) (k : Common) (is : CommonIs v p k) (f d : List ℤ) (i : ℕ) (e : getD d i (pos 0) ≡ dot (L .e i) (vec v)) where
   numerator : (p w r q f x : ℤ)
       → p *ℤ (w *ℤ (pos 2 *ℤ (r *ℤ r) -ℤ pos 3 *ℤ q +ℤ pos 9 *ℤ x *ℤ x -ℤ negsuc 5 *ℤ r *ℤ x) +ℤ negsuc 71 *ℤ r *ℤ f)
       ≡ p *ℤ (w *ℤ (pos 2 *ℤ (r *ℤ r) +ℤ pos 6 *ℤ (r *ℤ x) +ℤ pos 9 *ℤ (x *ℤ x) -ℤ pos 3 *ℤ q) -ℤ pos 72 *ℤ (r *ℤ f))
   numerator p w r q f x = ring-by (p ∷ w ∷ r ∷ q ∷ f ∷ x ∷ []) (search quotes depth 20) (search quotes depth 20) tt
 
-  pub formed-is : formed f d k i ≡ relaxedDir d3q19 (v .rho) (vec v) p (partsOf f) i
+  pub formed-is : formed L f d k i ≡ relaxedDir L (v .rho) (vec v) p (partsOf f) i
   unfolding relaxedDir relaxed quad
   formed-is =
       rw (is .base, is .six, is .seventy, is .den, is .p, e)
-      (ap (λ (n : ℤ). partsOf f i +ℤ quotZ n (pos 73728 *ℤ v .rho)) (numerator p (pos (d3q19 .weight i)) (v .rho) (dot (vec v) (vec v)) (partsOf f i) (dot (d3q19 .e i) (vec v))))
+      (ap (λ (n : ℤ). partsOf f i +ℤ quotZ n (pos 73728 *ℤ v .rho)) (numerator p (pos (L .weight i)) (v .rho) (dot (vec v) (vec v)) (partsOf f i) (dot (L .e i) (vec v))))

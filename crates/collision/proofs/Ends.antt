@@ -102,7 +102,7 @@ module _ {v : Flow} {p : ℤ} (g : Fair v p) where
   near L i w d {z} {e} hw hd h s =
       let n : weighed L v p i ≡ share w d = ap₂ (λ (m : ℕ) (t : ℤ). p *ℤ (pos m *ℤ (pos 2 *ℤ (ρ *ℤ ρ) +ℤ pos 6 *ℤ (ρ *ℤ t) +ℤ pos 9 *ℤ (t *ℤ t) -ℤ pos 3 *ℤ J))) hw hd in
       let k : Brackets ρ (weighed L v p i) (pos e) = subst (λ (m : ℤ). Brackets ρ m (pos e)) (sym n) (subst (Brackets ρ (share w d)) (sym (s .is)) h) in
-      record { low = k .low; high = k .high; most = s .most }
+      record { low = k .low; high = k .high }
 
   -- what the code asks of an axis and of two that cross, with the machine's d′, u′, o′ and b′ for d, u, o and b
   module _ {d u o : ℤ} (x : Axis p ρ d u o) {d′ u′ o′ b′ : ℤ} (ed : d′ ≡ d) (eu : u′ ≡ u) (eo : o′ ≡ o) (eb : b′ ≡ b) where

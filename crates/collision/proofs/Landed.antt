@@ -3,8 +3,9 @@ use mathlib.Core.Path.{_≡_, refl, sym, _∙_, ap}
 use mathlib.Core.List.{[], _∷_}
 use mathlib.Core.Bool.{Bool, true, false, cond}
 use Prim.Native.Nat.{ℕ, zero, suc, _+_, _*_, _-_, _/_, _%_, _<_, _≤_}
-use native.Mathlib.Nat.{div-add-mod, mul-add, mul-comm, mul-suc, mul-le-mul-left}
+use native.Mathlib.Nat.{div-add-mod, mod-lt, mul-add, mul-comm, mul-suc, mul-le-mul-left}
 use native.Mathlib.Omega.{arith}
+use lib.Dec.{T, leb, leb→le}
 use lib.IntN.{ℤ, pos, negsuc, negℤ, natAbs, _+ℤ_, _-ℤ_, _*ℤ_}
 use lib.Signed.{clashℤ, _≤ℤ_, _<ℤ_, quotZ, shrZ, leZ, ltZ}
 use Rattle.whole.specs.Bools.{and-left, and-right}
@@ -32,6 +33,18 @@ module _ (e : ℕ) (f c : ℤ) where
   pub landed-above : ltZ floored f ≡ false → floored ≡ landed e f c
   unfolding landed
   landed-above h = sym (ap (λ (b : Bool). cond b (floored +ℤ pos 1) floored) h)
+
+-- an end below n and a part within ±k leave room for the sum of `settled`
+pub room : {e : ℕ} {f : ℤ} (n k : ℕ) → e < n → Within f k → T (leb (n / 4294967296 + 1023 * k) 2147483647) → e / 4294967296 + 1023 * natAbs f ≤ 2147483647
+room {e} {f} n k h m t =
+    let r : n % 4294967296 < 4294967296 = mod-lt n (omega arith) in
+    omega (
+      arith,
+      div-add-mod e 4294967296,
+      div-add-mod n 4294967296,
+      m .abs,
+      leb→le (n / 4294967296 + 1023 * k) 2147483647 t,
+    )
 
 -- 1024 − p is small
 pub slack : (p : ℤ) → relaxationGood p ≡ true → Within (pos 1024 -ℤ p) 1023

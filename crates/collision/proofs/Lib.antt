@@ -1,5 +1,6 @@
 pub mod Bracket
 pub mod Collision
+pub mod Dots
 pub mod Each
 pub mod Ends
 pub mod Landed

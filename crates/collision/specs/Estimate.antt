@@ -82,11 +82,11 @@ weighed L v p i = p *ℤ (pos (L .weight i) *ℤ quad (v .rho) (dot (L .e i) (ve
 pub record Near (L : Lattice) (k : ℕ) (v : Flow) (p : ℤ) (i e : ℕ) : Type 0 where
   pub low : (pos 72 *ℤ (v .rho *ℤ pos e)) <ℤ (weighed L v p i *ℤ pos 4294967296)
   pub high : (weighed L v p i *ℤ pos 4294967296) <ℤ (pos 72 *ℤ (v .rho *ℤ pos e +ℤ pos k *ℤ v .rho))
-  pub most : e < 2305843009213693952
 
--- document 01's eighteen, which lack less than 2^19
+-- document 01's eighteen, which lack less than 2^19 and are below 2^61
 pub record EndsNear (v : Flow) (p : ℤ) (e : List ℕ) : Type 0 where
   pub at : (k : ℕ) → k < 18 → Near d3q19 524288 v p (suc k) (getD e k 0)
+  pub most : (k : ℕ) → k < 18 → getD e k 0 < 2305843009213693952
 
 -- where part f lands whose end is e, with c = 1024 − p
 unfoldable pub landed : ℕ → ℤ → ℤ → ℤ

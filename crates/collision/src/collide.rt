@@ -50,15 +50,15 @@ pub fn common_of(v: Flow, p: i64) -> Common
 
 // Part f at weight w and Q = q, relaxed, by the divider.
 fn relaxed(f: i32, w: i64, q: i64, k: Common) -> i32
-    requires { ⌜ Ready k × Within f 1572864 × Within w 2 × Within q 26000000000000 ⌝ }
+    requires { ⌜ Ready k × Within f 1572864 × Within w 4 × Within q 26000000000000 ⌝ }
     ensures { λ r. ⌜ (r ≡ grown f w q k) × Within r 33554432 ⌝ }
 {
     f + (k.p * (w * q + times(k.seventy, f)) / k.den) as i32
 }
 
 // Parts f and g of a direction with e·j = d and of its opposite.
-fn relaxed_pair(f: i32, g: i32, w: i64, d: i32, k: Common) -> Pair
-    requires { ⌜ Ready k × Within f 1572864 × Within g 1572864 × Within w 2 × Within d 1179648 ⌝ }
+pub fn relaxed_pair(f: i32, g: i32, w: i64, d: i32, k: Common) -> Pair
+    requires { ⌜ Ready k × Within f 1572864 × Within g 1572864 × Within w 4 × Within d 1179648 ⌝ }
     ensures { λ r. ⌜ Paired f g w d k r ⌝ }
 {
     let even = k.base + times(9 * d, d);

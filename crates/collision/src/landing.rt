@@ -1,13 +1,14 @@
 // Where a part lands, from the estimate of its equilibrium; and whether every estimate of a cell tells.
 ghost use mathlib.Core.Path.{_≡_};
-ghost use Prim.Native.Nat.{ℕ, _%_, _<_, _≤_};
+ghost use Prim.Native.Nat.{ℕ, _+_, _*_, _/_, _%_, _<_, _≤_};
+ghost use lib.IntN.{natAbs};
 ghost use lib.ListN.{getD};
 ghost use Rattle.whole.specs.Machine.{Within};
 ghost use Rattle.collision.specs.Estimate.{landed};
 
 // Part f where p times its equilibrium is e in 2^-32, with c = 1024 - p.
 pub fn settled(e: u64, f: i32, c: i32) -> i32
-    requires { ⌜ (e < 2305843009213693952) × Within f 1572864 × Within c 1023 ⌝ }
+    requires { ⌜ (e / 4294967296 + 1023 * natAbs f ≤ 2147483647) × Within f 1572864 × Within c 1023 ⌝ }
     ensures { λ r. ⌜ (r ≡ landed e f c) × Within r 33554432 ⌝ }
 {
     let n = ((e >> 32) as i32 + c * f) >> 10;

@@ -27,7 +27,7 @@ unfolding tabFrom
 tab-replicate zero i x = refl
 tab-replicate (suc n) i x = ap (λ l. x ∷ l) (tab-replicate n (suc i) x)
 
-zeros-at : (k : ℕ) → getD (replicate 19 (pos 0)) k (pos 0) ≡ pos 0
+pub zeros-at : (k : ℕ) → getD (replicate 19 (pos 0)) k (pos 0) ≡ pos 0
 zeros-at k = go 19 k
   where
     go : (n k : ℕ) → getD (replicate n (pos 0)) k (pos 0) ≡ pos 0
@@ -189,12 +189,12 @@ module _ (parts : List ℤ) (c : ℕ) (f : 19 * c + 19 ≤ length parts) where
     masses-are = s .masses-are;
   }
 
--- the same lists under other names
-pub upon-as : (part₀ : ℕ → ℕ → ℤ) (masses₀ : List ℤ) (marks₀ : List ℕ) {parts parts′ masses masses′ : List ℤ} {marks marks′ : List ℕ} (c : ℕ) → parts ≡ parts′ → masses ≡ masses′ → marks ≡ marks′
-    → Upon part₀ masses₀ marks₀ (partOf parts′) masses′ marks′ c → Upon part₀ masses₀ marks₀ (partOf parts) masses marks c
-upon-as part₀ masses₀ marks₀ {parts} {parts′} {masses} {masses′} {marks} {marks′} c p q r u =
-    subst (λ (l : List ℤ). Upon part₀ masses₀ marks₀ (partOf l) masses marks c) (sym p)
-    (subst (λ (l : List ℤ). Upon part₀ masses₀ marks₀ (partOf parts′) l marks c) (sym q) (subst (λ (l : List ℕ). Upon part₀ masses₀ marks₀ (partOf parts′) masses′ l c) (sym r) u))
+-- the same lists under other names, however parts are read from theirs
+pub upon-as : (read : List ℤ → ℕ → ℕ → ℤ) (part₀ : ℕ → ℕ → ℤ) (masses₀ : List ℤ) (marks₀ : List ℕ) {parts parts′ masses masses′ : List ℤ} {marks marks′ : List ℕ} (c : ℕ) → parts ≡ parts′ → masses ≡ masses′ → marks ≡ marks′
+    → Upon part₀ masses₀ marks₀ (read parts′) masses′ marks′ c → Upon part₀ masses₀ marks₀ (read parts) masses marks c
+upon-as read part₀ masses₀ marks₀ {parts} {parts′} {masses} {masses′} {marks} {marks′} c p q r u =
+    subst (λ (l : List ℤ). Upon part₀ masses₀ marks₀ (read l) masses marks c) (sym p)
+    (subst (λ (l : List ℤ). Upon part₀ masses₀ marks₀ (read parts′) l marks c) (sym q) (subst (λ (l : List ℕ). Upon part₀ masses₀ marks₀ (read parts′) masses′ l c) (sym r) u))
 
 -- the loop is over
 pub upon-all : (parts₀ masses₀ : List ℤ) (marks₀ : List ℕ) (parts masses : List ℤ) (marks : List ℕ) (c : ℕ) → Upon (partOf parts₀) masses₀ marks₀ (partOf parts) masses marks c → length marks₀ ≤ c

@@ -21,7 +21,7 @@ ghost use Rattle.grid.specs.Fill.{partOf};
 ghost use Rattle.excess.specs.Gifts.{roomOf, Weighed, Giver, Giving, Gathering, targetAt, excessAt, giftAt, giftFrom, receivedAt, gatheredAt};
 
 // The opposite of odd i is i + 1.
-fn opposite(i: usize) -> usize
+pub fn opposite(i: usize) -> usize
     requires { ⌜ Dir 18 i ⌝ }
     ensures { λ r. ⌜ r ≡ d3q19 .opp i ⌝ }
 {

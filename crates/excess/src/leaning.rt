@@ -45,7 +45,7 @@ fn weights(flags: &[u8], n: Flow, off: &[usize; 19], k: usize) -> [i64; 19]
 }
 
 // 1 for each neighbour that is a target.
-pub(crate) fn evens(flags: &[u8], off: &[usize; 19], k: usize) -> [i64; 19]
+pub fn evens(flags: &[u8], off: &[usize; 19], k: usize) -> [i64; 19]
     requires { ⌜ Near (length (now flags)) (now off) k ⌝ }
     ensures { λ r. ⌜ r ≡ tab 19 (ofDir (evenAt (now (flags .entry)) (now (off .entry)) k)) ⌝ }
 {
@@ -59,13 +59,7 @@ pub(crate) fn evens(flags: &[u8], off: &[usize; 19], k: usize) -> [i64; 19]
 }
 
 // The weights by the normal, or even ones where those are all 0.
-pub(crate) fn used_weights(
-    flags: &[u8],
-    fill: &[u32],
-    off: &[usize; 19],
-    k: usize,
-    m: u8,
-) -> [i64; 19]
+pub fn used_weights(flags: &[u8], fill: &[u32], off: &[usize; 19], k: usize, m: u8) -> [i64; 19]
     requires { ⌜ Near (length (now flags)) (now off) k × (length (now fill) ≡ length (now flags)) × Filled (now fill) ⌝ }
     ensures { λ r. ⌜ r ≡ tab 19 (ofDir (weightAt (now (flags .entry)) (now (fill .entry)) (now (off .entry)) k m)) ⌝ }
 {

@@ -50,7 +50,7 @@ unfolding cellsOf
 few s h = good-sides s h .all
 
 -- no fill is above 65,536
-fill-cases : (f : ℕ) (m ρ : ℤ) → fillFor f m ρ ≤ 65536
+pub fill-cases : (f : ℕ) (m ρ : ℤ) → fillFor f m ρ ≤ 65536
 unfolding fillFor
 fill-cases zero m ρ = omega arith
 fill-cases (suc zero) m ρ = fill-most m ρ

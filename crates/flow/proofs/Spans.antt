@@ -190,46 +190,50 @@ module _ (weights : ℕ → ℕ) (light : Light weights) (flags : List ℕ) (par
   own-in : (k : ℕ) → k ≤ 18 → Within (part c k) 1179648
   own-in k h = t .body c (a .is-cell) l .parts k h
 
-  less : {x y : ℤ} → Within x 262144 → Within y 1179648 → Within (x -ℤ y) 1572864
+  less : {x y : ℤ} → Within x 262144 → Within y 1179648 → Within (x -ℤ y) 1441792
   less {x} {y} h k = record { abs = omega (arith, abs-sub x y, h .abs, k .abs) }
 
-  loose : {z : ℤ} → Within z 1179648 → Within z 1572864
+  loose : {z : ℤ} → Within z 1179648 → Within z 1441792
   loose h = record { abs = omega (arith, h .abs) }
 
-  arrives-in : (i k : ℕ) → 0 < i → i < 19 → k < 19 → Within (arrives S c i k) 1572864
+  arrives-in : (i k : ℕ) → 0 < i → i < 19 → k < 19 → Within (arrives S c i k) 1441792
   arrives-in i k z h m = go (getD flags b 3) refl
     where
       b : ℕ
       b = (c - low) + getD off i 0
 
       -- a neighbour that is no wall: rebuilt, or where it is liquid its own part
-      open-in : getD flags b 3 ≤ 2 → ((eqb (getD flags b 3) 0 || leansTo S c i) ≡ false → liquid (getD flags b 3) ≡ true) → Within (arrives S c i k) 1572864
+      open-in : getD flags b 3 ≤ 2 → ((eqb (getD flags b 3) 0 || leansTo S c i) ≡ false → liquid (getD flags b 3) ≡ true) → Within (arrives S c i k) 1441792
       open-in n w = by (eqb (getD flags b 3) 0 || leansTo S c i) refl
         where
-          by : (r : Bool) → (eqb (getD flags b 3) 0 || leansTo S c i) ≡ r → Within (arrives S c i k) 1572864
+          by : (r : Bool) → (eqb (getD flags b 3) 0 || leansTo S c i) ≡ r → Within (arrives S c i k) 1441792
           by true e =
-              subst (λ (x : ℤ). Within x 1572864) (sym (arrives-rebuilt weights flags part fills off low g c b i k refl n e))
+              subst (λ (x : ℤ). Within x 1441792) (sym (arrives-rebuilt weights flags part fills off low g c b i k refl n e))
               (less (gas-body (part c) (t .body c (a .is-cell) l) light i z h) (own-in i (omega arith)))
           by false e =
-              subst (λ (x : ℤ). Within x 1572864) (sym (arrives-liquid weights flags part fills off low g c b i k refl n e))
+              subst (λ (x : ℤ). Within x 1441792) (sym (arrives-liquid weights flags part fills off low g c b i k refl n e))
               (loose (t .body b (a .each i h) (w e) .parts k (omega arith)))
 
-      go : (f : ℕ) → getD flags b 3 ≡ f → Within (arrives S c i k) 1572864
+      go : (f : ℕ) → getD flags b 3 ≡ f → Within (arrives S c i k) 1441792
       go zero e = open-in (omega arith) (λ n. absurd (false≢true (sym n ∙ rw e refl)))
       go (suc zero) e = open-in (omega arith) (λ n. ap liquid e)
       go (suc (suc zero)) e = open-in (omega arith) (λ n. ap liquid e)
       go (suc (suc (suc n))) e =
-          subst (λ (x : ℤ). Within x 1572864) (sym (arrives-wall weights flags part fills off low g c b i k refl (omega arith))) (loose (own-in i (omega arith)))
+          subst (λ (x : ℤ). Within x 1441792) (sym (arrives-wall weights flags part fills off low g c b i k refl (omega arith))) (loose (own-in i (omega arith)))
+
+  -- gas and an own part at the most
+  pub streamed-low : (k : ℕ) → k ≤ 18 → Within (streamed S c k) 1441792
+  unfolding streamed sight d3q19
+  streamed-low zero h = loose (own-in 0 h)
+  streamed-low (suc n) h = arrives-in (pairOpp (suc n)) (suc n) (opposite-some n) (opposite-most n (omega arith)) (omega arith)
 
   pub streamed-in : (k : ℕ) → k ≤ 18 → Within (streamed S c k) 1572864
-  unfolding streamed sight d3q19
-  streamed-in zero h = loose (own-in 0 h)
-  streamed-in (suc n) h = arrives-in (pairOpp (suc n)) (suc n) (opposite-some n) (opposite-most n (omega arith)) (omega arith)
+  streamed-in k h = record { abs = omega (arith, streamed-low k h .abs) }
 
   -- read into an array
-  pub bounded-streamed : (x : List ℤ) → x ≡ tab 19 (streamed S c) → Bounded x 1572864 1572864
-  bounded-streamed x e = record { rest = at 0 (omega arith); at = λ k z h. at k h }
+  pub bounded-streamed : (x : List ℤ) → x ≡ tab 19 (streamed S c) → (r q : ℕ) → 1441792 ≤ r → 1441792 ≤ q → Bounded x r q
+  bounded-streamed x e r q hr hq = record { rest = record { abs = omega (arith, at 0 (omega arith) .abs) }; at = λ k z h. record { abs = omega (arith, at k h .abs) } }
     where
-      at : (k : ℕ) → k < 19 → Within (partsOf x k) 1572864
+      at : (k : ℕ) → k < 19 → Within (partsOf x k) 1441792
       at k h =
-          subst (λ (y : ℤ). Within y 1572864) (sym (ap (λ (y : List ℤ). getD y k (pos 0)) e ∙ getD-tab 19 (streamed S c) (pos 0) k h)) (streamed-in k (omega arith))
+          subst (λ (y : ℤ). Within y 1441792) (sym (ap (λ (y : List ℤ). getD y k (pos 0)) e ∙ getD-tab 19 (streamed S c) (pos 0) k h)) (streamed-low k (omega arith))

@@ -109,6 +109,27 @@ dirs-pair (suc n) f h =
     let m : suc n + 1 ≡ suc (suc n) = omega arith in
     rw (e, k, m) refl
 
+-- a mass and what is gained from the first n directions, however they are numbered
+unfoldable pub amassed : ℤ → (ℕ → ℤ) → ℕ → ℤ
+amassed m gain n = m +ℤ sum n (λ a. gain (suc a))
+
+module _ (m : ℤ) (gain : ℕ → ℤ) where
+  pub amassed-none : m ≡ amassed m gain 0
+  unfolding amassed sum
+  amassed-none = sym (+ℤ-idr m)
+
+  pub amassed-pair : (i : ℕ) → 1 ≤ i → (amassed m gain (i - 1) +ℤ gain i) +ℤ gain (i + 1) ≡ amassed m gain (i + 2 - 1)
+  unfolding amassed
+  amassed-pair i h =
+      ap (λ (z : ℤ). z +ℤ gain (i + 1)) (+ℤ-assoc m (sum (i - 1) (λ a. gain (suc a))) (gain i))
+      ∙ +ℤ-assoc m (sum (i - 1) (λ a. gain (suc a)) +ℤ gain i) (gain (i + 1))
+      ∙ ap (λ (z : ℤ). m +ℤ z) (sym (dirs-pair i gain h))
+
+  pub amassed-within : Within m 2359296 → (n : ℕ) → n ≤ 18 → ((a : ℕ) → a < n → Within (gain (suc a)) 2359296) → Within (amassed m gain n) 44826624
+  unfolding amassed
+  amassed-within h n k each =
+      record { abs = omega (arith, abs-add m (sum n (λ b. gain (suc b))), h .abs, sum-abs n (λ b. gain (suc b)) 2359296 (λ b l. each b l .abs)) }
+
 module _ (flags : List ℕ) (part : ℕ → ℕ → ℤ) (masses : List ℤ) (fills off : List ℕ) (low c : ℕ) where
   -- what c gains from direction i
   unfoldable pub gain : ℕ → ℤ
@@ -120,14 +141,14 @@ module _ (flags : List ℕ) (part : ℕ → ℕ → ℤ) (masses : List ℤ) (fi
 
   -- the mass with what c gains from the first n directions
   unfoldable pub gained : ℕ → ℤ
-  gained n = getD masses c (pos 0) +ℤ sum n (λ a. gain (suc a))
+  gained n = amassed (getD masses c (pos 0)) gain n
 
   pub gained-none : getD masses c (pos 0) ≡ gained 0
-  unfolding gained sum
-  gained-none = sym (+ℤ-idr (getD masses c (pos 0)))
+  unfolding gained
+  gained-none = amassed-none (getD masses c (pos 0)) gain
 
   pub gained-all : (weights : ℕ → ℕ) → gained 18 ≡ tradedMass (sight weights flags part masses fills off low noSettings) c
-  unfolding gained gain passed sight traded tradedMass difference d3q19
+  unfolding gained amassed gain passed sight traded tradedMass difference d3q19
   gained-all weights = refl
 
   -- as the loop takes them, two directions a turn
@@ -141,10 +162,7 @@ module _ (flags : List ℕ) (part : ℕ → ℕ → ℤ) (masses : List ℤ) (fi
 
   pub gained-pair : (i : ℕ) → 1 ≤ i → (gained (i - 1) +ℤ gain i) +ℤ gain (i + 1) ≡ gained (i + 2 - 1)
   unfolding gained
-  gained-pair i h =
-      ap (λ (z : ℤ). z +ℤ gain (i + 1)) (+ℤ-assoc (getD masses c (pos 0)) (sum (i - 1) (λ a. gain (suc a))) (gain i))
-      ∙ +ℤ-assoc (getD masses c (pos 0)) (sum (i - 1) (λ a. gain (suc a)) +ℤ gain i) (gain (i + 1))
-      ∙ ap (λ (z : ℤ). getD masses c (pos 0) +ℤ z) (sym (dirs-pair i gain h))
+  gained-pair = amassed-pair (getD masses c (pos 0)) gain
 
   -- ---- the bounds of an interface cell
   module _ (t : Trading flags part masses fills) (a : Around (length flags) off low c) (f : getD flags c 3 ≡ 1) where
@@ -157,14 +175,7 @@ module _ (flags : List ℕ) (part : ℕ → ℕ → ℤ) (masses : List ℤ) (fi
     pub gained-within : (n : ℕ) → n ≤ 18 → Within (gained n) 44826624
     unfolding gained
     gained-within n h =
-        record {
-          abs = omega (
-            arith,
-            abs-add (getD masses c (pos 0)) (sum n (λ b. gain (suc b))),
-            t .masses-good .low c (a .is-cell) f .abs,
-            sum-abs n (λ b. gain (suc b)) 2359296 (λ b k. gain-within (suc b) (omega arith) (omega arith) .abs),
-          );
-        }
+        amassed-within (getD masses c (pos 0)) gain (t .masses-good .low c (a .is-cell) f) n h (λ b k. gain-within (suc b) (omega arith) (omega arith))
 
     pub mass-within : (weights : ℕ → ℕ) → Within (tradedMass (sight weights flags part masses fills off low noSettings) c) 44826624
     mass-within weights = subst (λ (z : ℤ). Within z 44826624) (gained-all weights) (gained-within 18 (omega arith))

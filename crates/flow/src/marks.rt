@@ -9,7 +9,7 @@ ghost use Rattle.whole.specs.Fold.{tab};
 ghost use Rattle.grid.specs.Grid.{sidesGood, cellsOf};
 ghost use Rattle.grid.specs.Passes.{Reaching, openMark, openedBy, openedMark, keptBy, keptMark, EmptyingBy, Emptying};
 
-fn open_mark(f: u8, walled: bool) -> u8
+pub fn open_mark(f: u8, walled: bool) -> u8
     ensures { λ r. ⌜ r ≡ openMark f walled ⌝ }
 {
     if (f == 2) & !walled {

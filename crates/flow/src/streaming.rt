@@ -50,7 +50,7 @@ fn streamed_open(parts: &[i32], from: &[usize; 19], a: usize) -> [i32; 19]
 }
 
 // n·e of each direction, once for all of them; a fluid cell has no such lean.
-fn leaning(flags: &[u8], fill: &[u32], off: &[usize; 19], low: usize, c: usize) -> [i32; 19]
+pub fn leaning(flags: &[u8], fill: &[u32], off: &[usize; 19], low: usize, c: usize) -> [i32; 19]
     requires { ⌜ Fills (now flags) (now fill) × Around (length (now flags)) (now off) low c ⌝ }
     ensures { λ r. ⌜ r ≡ tab 19 (leanAt (now (flags .entry)) (now (fill .entry)) (now (off .entry)) low c) ⌝ }
 {

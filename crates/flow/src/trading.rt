@@ -10,14 +10,14 @@ ghost use Rattle.grid.specs.Sight.{Bodied, Around, boxSight, noSettings};
 ghost use Rattle.grid.specs.Step.{tradedMass};
 ghost use Rattle.flow.specs.Trade.{Fills, Traders, passed, markFor};
 
-fn difference(a: i32, b: i32) -> i64
+pub fn difference(a: i32, b: i32) -> i64
     ensures { λ r. ⌜ r ≡ a -ℤ b ⌝ }
 {
     wide(a) - wide(b)
 }
 
 // Two fills together.
-fn both(a: u32, b: u32) -> i64
+pub fn both(a: u32, b: u32) -> i64
     ensures { λ r. ⌜ r ≡ pos (a + b) ⌝ }
 {
     a as i64 + b as i64
@@ -84,7 +84,7 @@ pub(crate) fn new_mass(
 }
 
 // The mark that stage 5 gives a cell of flag f: 1 filled, 2 to be emptied, else 0.
-pub(crate) fn new_mark(f: u8, m: i32, rho: i32) -> u8
+pub fn new_mark(f: u8, m: i32, rho: i32) -> u8
     ensures { λ r. ⌜ r ≡ markFor f m rho ⌝ }
 {
     if f == 1 {

@@ -1,7 +1,7 @@
 -- Stages 1 to 4 give the same among the nineteen places as on the flume's own lattice: an idle direction leads to the cell itself, with no part and no
 -- weight, and so nothing streams, is exchanged or relaxes there. Assumes nothing.
 use mathlib.Core.Path.{_≡_, refl, sym, ap, ap₂, _∙_}
-use mathlib.Core.Bool.{Bool, true, false, _&&_, not, cond}
+use mathlib.Core.Bool.{Bool, true, false, _&&_, not, cond, false≢true}
 use mathlib.Core.List.{[], _∷_}
 use Prim.Native.Nat.{ℕ, zero, suc, _+_, _*_, _≤_}
 use native.Mathlib.Omega.{arith}
@@ -15,7 +15,8 @@ use Rattle.whole.specs.Search.{Dir}
 use Rattle.lattice.specs.Lattice.{V3, dot, density, momentum, d3q19, d2q9, open-lattice}
 use Rattle.lattice.specs.Cell.{dense, slow, gas, exchange, pull, quad, relaxed, isPositive}
 use Rattle.lattice.proofs.Paired.{paired9}
-use Rattle.grid.specs.State.{Scene, byFlag, liquid}
+use Rattle.grid.specs.Grid.{Grid}
+use Rattle.grid.specs.State.{State, Scene, byFlag, liquid}
 use Rattle.grid.specs.Step.{seen, normal, oldDensity, oldMomentum, leansTo, rebuilt, rebuild, arrives, streamed, difference, traded, tradedMass, newDensity, newMomentum, tooFast, collidedDir, collided}
 use Rattle.flume.specs.Spread.{wide, narrow, idle, spread, spreadLattice, plainScene, spreadScene, Idle, Spreads}
 use Rattle.flume.proofs.Places.{by-eight, by-idle, is-idle, spread-at, spread-none, dirs-same, sum-same, spreads}
@@ -69,7 +70,7 @@ exchange-none : (φ : ℕ) → exchange φ (pos 0) ≡ pos 0
 unfolding exchange
 exchange-none φ = ap (λ (t : ℤ). quotZ t (pos 131072)) (*ℤ-zero (pos φ)) ∙ zero-quot (pos 131072)
 
-relaxed-none : (p Q ρ : ℤ) → relaxed p 0 Q ρ (pos 0) ≡ pos 0
+pub relaxed-none : (p Q ρ : ℤ) → relaxed p 0 Q ρ (pos 0) ≡ pos 0
 unfolding relaxed
 relaxed-none p Q ρ =
     ap (λ (t : ℤ). pos 0 +ℤ quotZ t (pos 73728 *ℤ ρ)) (nothing p Q ρ) ∙ ap (λ (t : ℤ). pos 0 +ℤ t) (zero-quot (pos 73728 *ℤ ρ))
@@ -89,6 +90,49 @@ trades-nothing zero u v = refl
 trades-nothing (suc zero) u v = u
 trades-nothing (suc (suc zero)) u v = v
 trades-nothing (suc (suc (suc n))) u v = refl
+
+-- on any grid, where no part stands at an idle place: nothing streams into one, is traded there, or is left there by a collision
+module _ (G : Grid) (old : State) (g : V3) (relax : ℕ → ℤ) (quiet : (c i : ℕ) → Idle i → old .part c i ≡ pos 0) where
+  abbrev Q : Scene
+  Q = record { lat = spreadLattice; grid = G; old = old; g = g; relax = relax }
+
+  rebuild-none : (c i : ℕ) → Idle i → rebuild Q c i ≡ pos 0
+  unfolding rebuild
+  rebuild-none c i n =
+      ap₂ (λ (w : ℕ) (x : ℤ). gas w (oldDensity Q c) (dot (d3q19 .e i) (oldMomentum Q c)) (dot (oldMomentum Q c) (oldMomentum Q c)) -ℤ x) (spread-none 0 (d2q9 .weight) i n) (quiet c i n)
+      ∙ ap (λ (x : ℤ). x -ℤ pos 0) (gas-none (oldDensity Q c) (dot (d3q19 .e i) (oldMomentum Q c)) (dot (oldMomentum Q c) (oldMomentum Q c)))
+
+  arrives-none : (c i k : ℕ) → Idle i → Idle k → arrives Q c i k ≡ pos 0
+  unfolding arrives
+  arrives-none c i k n m =
+      arrives-nothing (rebuilt Q c i) (old .flag (G .near c i)) (rebuild-none c i n) (quiet (G .near c i) k m) (quiet c i n)
+
+  pub arrives-idle : (c i : ℕ) → Idle i → arrives Q c (d3q19 .opp i) i ≡ pos 0
+  arrives-idle c i n = arrives-none c (d3q19 .opp i) i (opp-none i n) n
+
+  pub streamed-none : (c i : ℕ) → Idle i → streamed Q c i ≡ pos 0
+  unfolding streamed idle narrow
+  streamed-none c zero n = absurd (false≢true (n .none))
+  streamed-none c (suc a) n = arrives-idle c (suc a) n
+
+  pub collided-dir-none : (c i : ℕ) → Idle i → collidedDir Q c i ≡ pos 0
+  unfolding collidedDir
+  collided-dir-none c i n =
+      let R = quad (newDensity Q c) (dot (d3q19 .e i) (newMomentum Q c)) (dot (newMomentum Q c) (newMomentum Q c)) in
+      ap₂ (λ (w : ℕ) (x : ℤ). relaxed (relax c) w R (newDensity Q c) x) (spread-none 0 (d2q9 .weight) i n) (streamed-none c i n) ∙ relaxed-none (relax c) R (newDensity Q c)
+
+  pub collided-none : (c i : ℕ) → Idle i → collided Q c i ≡ pos 0
+  unfolding collided idle narrow
+  collided-none c zero n = absurd (false≢true (n .none))
+  collided-none c (suc a) n = collided-dir-none c (suc a) n
+
+  pub traded-none : (c i : ℕ) → Idle i → traded Q c i ≡ pos 0
+  unfolding traded difference
+  traded-none c i n =
+      trades-nothing (old .flag (G .near c i)) (ap (exchange (old .fill c + old .fill (G .near c i))) none ∙ exchange-none (old .fill c + old .fill (G .near c i))) none
+    where
+      none : difference Q c i ≡ pos 0
+      none = ap₂ (λ (x y : ℤ). x -ℤ y) (quiet (G .near c i) (d3q19 .opp i) (opp-none i n)) (quiet c i n)
 
 module _ (S : Scene) where
   abbrev P : Scene
@@ -151,12 +195,6 @@ module _ (S : Scene) where
       let m = old-momentum-same c j in
       gas (weight-at k d j) (old-density-same c j) (dot (e-at k d j) m) (dot m m) -ℤ part-at c k (d .most) j
 
-  rebuild-none : (c i : ℕ) → Idle i → rebuild T c i ≡ pos 0
-  unfolding rebuild
-  rebuild-none c i n =
-      ap₂ (λ (w : ℕ) (x : ℤ). gas w (oldDensity T c) (dot (d3q19 .e i) (oldMomentum T c)) (dot (oldMomentum T c) (oldMomentum T c)) -ℤ x) (weight-none i n) (part-none c i n)
-      ∙ ap (λ (x : ℤ). x -ℤ pos 0) (gas-none (oldDensity T c) (dot (d3q19 .e i) (oldMomentum T c)) (dot (oldMomentum T c) (oldMomentum T c)))
-
   beyond-at : (c i k : ℕ) → Dir 8 i → k ≤ 8 → T .old .part (T .grid .near c (wide i)) (wide k) ≡ P .old .part (P .grid .near c i) k
   beyond-at c i k d h = ap (λ (m : ℕ). T .old .part m (wide k)) (near-at c i d) ∙ part-at (P .grid .near c i) k h
 
@@ -166,17 +204,12 @@ module _ (S : Scene) where
       let x = beyond-at c i k d (t .most) j in
       cond (rebuilt-at c i d j) (rebuild-at c i d j) (byFlag (S .old .flag (near-at c i d j)) (pos 0) x x (part-at c i (d .most) j))
 
-  arrives-none : (c i k : ℕ) → Idle i → Idle k → arrives T c i k ≡ pos 0
-  unfolding arrives
-  arrives-none c i k n m =
-      arrives-nothing (rebuilt T c i) (S .old .flag (T .grid .near c i)) (rebuild-none c i n) (part-none (T .grid .near c i) k m) (part-none c i n)
-
   pub streamed-spreads : (c : ℕ) → Spreads (streamed T c) (streamed P c)
   unfolding streamed spread narrow idle
   streamed-spreads c =
       spreads (streamed T c) (streamed P c) (λ i. arrives T c (d3q19 .opp i) i) (λ k. arrives P c (d2q9 .opp k) k) (λ a. refl) (λ a. refl) refl
       (λ k d. ap (λ (o : ℕ). arrives T c o (wide k)) (opp-at k d) ∙ arrives-at c (d2q9 .opp k) k (opp-dir k d) d)
-      (λ i n. arrives-none c (d3q19 .opp i) i (opp-none i n) n)
+      (arrives-idle (T .grid) (T .old) (S .g) (S .relax) part-none c)
 
   -- ---- 2 mass exchange
   difference-at : (c k : ℕ) → Dir 8 k → difference T c (wide k) ≡ difference P c k
@@ -193,17 +226,9 @@ module _ (S : Scene) where
       let x = difference-at c k d j in
       byFlag (S .old .flag m) (pos 0) (exchange (S .old .fill c + S .old .fill m) x) x (pos 0)
 
-  traded-none : (c i : ℕ) → Idle i → traded T c i ≡ pos 0
-  unfolding traded difference
-  traded-none c i n =
-      trades-nothing (S .old .flag (T .grid .near c i)) (ap (exchange (S .old .fill c + S .old .fill (T .grid .near c i))) none ∙ exchange-none (S .old .fill c + S .old .fill (T .grid .near c i))) none
-    where
-      none : difference T c i ≡ pos 0
-      none = ap₂ (λ (x y : ℤ). x -ℤ y) (part-none (T .grid .near c i) (d3q19 .opp i) (opp-none i n)) (part-none c i n)
-
   pub traded-mass-same : (c : ℕ) → tradedMass T c ≡ tradedMass P c
   unfolding tradedMass d3q19 d2q9
-  traded-mass-same c = ap (λ (x : ℤ). S .old .mass c +ℤ x) (dirs-same (traded T c) (traded P c) (traded-at c) (traded-none c))
+  traded-mass-same c = ap (λ (x : ℤ). S .old .mass c +ℤ x) (dirs-same (traded T c) (traded P c) (traded-at c) (traded-none (T .grid) (T .old) (S .g) (S .relax) part-none c))
 
   -- ---- 3 gravity and test
   pub new-density-same : (c : ℕ) → newDensity T c ≡ newDensity P c
@@ -232,15 +257,9 @@ module _ (S : Scene) where
       let ρ = new-density-same c j in
       relaxed (S .relax c) (weight-at k d j) (quad ρ (dot (e-at k d j) m) (dot m m)) ρ (streamed-spreads c .at k (d .most) j)
 
-  collided-none : (c i : ℕ) → Idle i → collidedDir T c i ≡ pos 0
-  unfolding collidedDir
-  collided-none c i n =
-      let Q = quad (newDensity T c) (dot (d3q19 .e i) (newMomentum T c)) (dot (newMomentum T c) (newMomentum T c)) in
-      ap₂ (λ (w : ℕ) (x : ℤ). relaxed (S .relax c) w Q (newDensity T c) x) (weight-none i n) (streamed-spreads c .none i n) ∙ relaxed-none (S .relax c) Q (newDensity T c)
-
   pub collided-spreads : (c : ℕ) → Spreads (collided T c) (collided P c)
   unfolding collided d3q19 d2q9
   collided-spreads c =
       spreads (collided T c) (collided P c) (collidedDir T c) (collidedDir P c) (λ a. refl) (λ a. refl)
-      (ap₂ (λ (x y : ℤ). x -ℤ y) (new-density-same c) (dirs-same (collidedDir T c) (collidedDir P c) (collided-at c) (collided-none c)))
-      (collided-at c) (collided-none c)
+      (ap₂ (λ (x y : ℤ). x -ℤ y) (new-density-same c) (dirs-same (collidedDir T c) (collidedDir P c) (collided-at c) (collided-dir-none (T .grid) (T .old) (S .g) (S .relax) part-none c)))
+      (collided-at c) (collided-dir-none (T .grid) (T .old) (S .g) (S .relax) part-none c)

@@ -57,7 +57,7 @@ part-none (suc zero) b false p q = q
 part-none (suc (suc zero)) b e p q = q
 part-none (suc (suc (suc n))) b e p q = refl
 
-still-none : (Q ρ : ℤ) → still 0 Q ρ ≡ pos 0
+pub still-none : (Q ρ : ℤ) → still 0 Q ρ ≡ pos 0
 unfolding still
 still-none Q ρ = ap (λ (t : ℤ). quotZ t (pos 72 *ℤ ρ)) (zero-*ℤ Q) ∙ zero-quot (pos 72 *ℤ ρ)
 

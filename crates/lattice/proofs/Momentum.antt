@@ -15,23 +15,23 @@ use Rattle.lattice.specs.Body.{partsOf, Bounded}
 use Rattle.lattice.proofs.Reading.{reading}
 
 -- ---- quoting with any number of variables
-record Place (ρ : List ℤ) (a : ℤ) : Type 0 where
-  at : ℕ
-  is : nth ρ at ≡ a
+pub record Place (ρ : List ℤ) (a : ℤ) : Type 0 where
+  pub at : ℕ
+  pub is : nth ρ at ≡ a
 
-abbrev here : {ρ : List ℤ} {a : ℤ} → Place (a ∷ ρ) a
+abbrev pub here : {ρ : List ℤ} {a : ℤ} → Place (a ∷ ρ) a
 here = record { at = 0; is = refl }
 
-abbrev there : {ρ : List ℤ} {a b : ℤ} → Place ρ a → Place (b ∷ ρ) a
+abbrev pub there : {ρ : List ℤ} {a b : ℤ} → Place ρ a → Place (b ∷ ρ) a
 there p = record { at = suc (p .at); is = p .is }
 
-abbrev qvar : {ρ : List ℤ} {a : ℤ} → Place ρ a → Code ρ a
+abbrev pub qvar : {ρ : List ℤ} {a : ℤ} → Place ρ a → Code ρ a
 qvar p = record { code = var (p .at); is = p .is }
 
-ruleset many = (qvar, here, there, q+, q*, qneg, qpos, qnegsuc)
+pub ruleset many = (qvar, here, there, q+, q*, qneg, qpos, qnegsuc)
 
 -- ---- the pairs
-abbrev all-parts : (ℕ → ℤ) → List ℤ
+abbrev pub all-parts : (ℕ → ℤ) → List ℤ
 all-parts f = f 1 ∷ f 2 ∷ f 3 ∷ f 4 ∷ f 5 ∷ f 6 ∷ f 7 ∷ f 8 ∷ f 9 ∷ f 10 ∷ f 11 ∷ f 12 ∷ f 13 ∷ f 14 ∷ f 15 ∷ f 16 ∷ f 17 ∷ f 18 ∷ []
 
 -- what pair h carries along its direction

@@ -14,3 +14,4 @@ pub mod Sets
 pub mod Outcomes
 pub mod Many
 pub mod Case
+pub mod Owned

@@ -11,7 +11,7 @@ ghost use Rattle.index.specs.Held.{held};
 ghost use Rattle.mirroring.specs.Outcome.{mirrorAnswer};
 
 // Tests 1; 2 of both sets and of the second's index; 3 of the axis; 4, 5, 6 of the first set.
-pub fn entered(
+pub(crate) fn entered(
     flags: &[u8],
     parts: &[i32],
     masses: &[i32],

@@ -22,7 +22,7 @@ fn flipped(turn: bool, n: usize, x: usize) -> usize
 }
 
 // The cell that takes cell c's place in an axis: 0 x, 1 y, 2 z.
-pub fn cell_in(c: usize, axis: usize, s: Sides) -> usize
+pub(crate) fn cell_in(c: usize, axis: usize, s: Sides) -> usize
     requires { ⌜ (sidesGood s ≡ true) × (c < cellsOf s) ⌝ }
     ensures { λ r. ⌜ (r ≡ cellIn s axis c) × (r < cellsOf s) ⌝ }
 {
@@ -34,7 +34,7 @@ pub fn cell_in(c: usize, axis: usize, s: Sides) -> usize
 }
 
 // The reflected directions, 0 to 18.
-pub fn directions(axis: usize) -> [usize; 19]
+pub(crate) fn directions(axis: usize) -> [usize; 19]
     requires { ⌜ axis ≤ 2 ⌝ }
     ensures { λ r. ⌜ r ≡ tab 19 (dirIn axis) ⌝ }
 {
@@ -108,7 +108,7 @@ pub fn directions(axis: usize) -> [usize; 19]
 }
 
 // The parts of cell m, each in the place that its direction has when reflected.
-pub fn parts_in(parts: &[i32], m: usize, dirs: &[usize; 19]) -> [i32; 19]
+pub(crate) fn parts_in(parts: &[i32], m: usize, dirs: &[usize; 19]) -> [i32; 19]
     requires { ⌜ (19 * m + 19 ≤ length (now parts)) × Directed (now dirs) ⌝ }
     ensures { λ r. ⌜ r ≡ tab 19 (λ (k : ℕ). getD (now (parts .entry)) (19 * m + getD (now (dirs .entry)) k 0) (pos 0)) ⌝ }
 {

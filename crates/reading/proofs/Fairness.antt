@@ -29,7 +29,7 @@ use Rattle.record.specs.Bytes.{i32At}
 use Rattle.record.specs.Places.{counts, massesFrom, partsFrom}
 use Rattle.record.specs.Layout.{interfaces, liquids}
 use Rattle.record.specs.Reading.{totalsIn, cellsIn, flagsIn, flagIn, interfacesIn, massAt, partAt, massIn, partIn, stateIn}
-use Rattle.record.specs.Passes.{heldMass, heldPart, fairBy, fairAt}
+use Rattle.record.specs.Passes.{heldMass, partHeld, fairOf, fairHeld, fairBy, fairAt}
 
 -- ---- one cell
 -- parts read into an array
@@ -42,63 +42,68 @@ abbrev Dry : ℕ → Type 0
 Dry f = _≡_ {A = ℕ} (cond (liquid f) 1 0) 0
 
 -- each way through the test
-pub fair-dry : (f : ℕ) (m : ℤ) (g : ℕ → ℤ) → Dry f → fairBy f m g ≡ true
-unfolding fairBy
-fair-dry zero m g e = refl
-fair-dry (suc zero) m g e = absurd (let z : _≡_ {A = ℕ} 1 0 = e in omega arith)
-fair-dry (suc (suc zero)) m g e = absurd (let z : _≡_ {A = ℕ} 1 0 = e in omega arith)
-fair-dry (suc (suc (suc f))) m g e = refl
+pub fair-dry : (L : Lattice) (f : ℕ) (m : ℤ) (g : ℕ → ℤ) → Dry f → fairOf L f m g ≡ true
+unfolding fairOf
+fair-dry L zero m g e = refl
+fair-dry L (suc zero) m g e = absurd (let z : _≡_ {A = ℕ} 1 0 = e in omega arith)
+fair-dry L (suc (suc zero)) m g e = absurd (let z : _≡_ {A = ℕ} 1 0 = e in omega arith)
+fair-dry L (suc (suc (suc f))) m g e = refl
 
-pub fair-not : (f : ℕ) (m : ℤ) (g : ℕ → ℤ) → (Dry f → ⊥) → bodyGood d3q19 g ≡ false → fairBy f m g ≡ false
-unfolding fairBy
-fair-not zero m g h e = absurd (h refl)
-fair-not (suc zero) m g h e = rw e
-fair-not (suc (suc zero)) m g h e = e
-fair-not (suc (suc (suc f))) m g h e = absurd (h refl)
+pub fair-not : (L : Lattice) (f : ℕ) (m : ℤ) (g : ℕ → ℤ) → (Dry f → ⊥) → bodyGood L g ≡ false → fairOf L f m g ≡ false
+unfolding fairOf
+fair-not L zero m g h e = absurd (h refl)
+fair-not L (suc zero) m g h e = rw e
+fair-not L (suc (suc zero)) m g h e = e
+fair-not L (suc (suc (suc f))) m g h e = absurd (h refl)
 
-pub fair-fluid : (f : ℕ) (m : ℤ) (g : ℕ → ℤ) → (f ≡ 1 → ⊥) → bodyGood d3q19 g ≡ true → fairBy f m g ≡ true
-unfolding fairBy
-fair-fluid zero m g h e = refl
-fair-fluid (suc zero) m g h e = absurd (h refl)
-fair-fluid (suc (suc zero)) m g h e = e
-fair-fluid (suc (suc (suc f))) m g h e = refl
+pub fair-fluid : (L : Lattice) (f : ℕ) (m : ℤ) (g : ℕ → ℤ) → (f ≡ 1 → ⊥) → bodyGood L g ≡ true → fairOf L f m g ≡ true
+unfolding fairOf
+fair-fluid L zero m g h e = refl
+fair-fluid L (suc zero) m g h e = absurd (h refl)
+fair-fluid L (suc (suc zero)) m g h e = e
+fair-fluid L (suc (suc (suc f))) m g h e = refl
 
-pub fair-interface : (f : ℕ) (m : ℤ) (g : ℕ → ℤ) → f ≡ 1 → bodyGood d3q19 g ≡ true → fairBy f m g ≡ massGood m
-unfolding fairBy
-fair-interface f m g h e = rw (h, e)
+pub fair-interface : (L : Lattice) (f : ℕ) (m : ℤ) (g : ℕ → ℤ) → f ≡ 1 → bodyGood L g ≡ true → fairOf L f m g ≡ massGood m
+unfolding fairOf
+fair-interface L f m g h e = rw (h, e)
 
 -- a cell's numbers as a loop over the flags finds them
-pub fair-at : (rec flags : List ℕ) (masses parts m p c : ℕ) → c < length flags → m ≡ masses + 4 * interfaces c (flagOf flags) → p ≡ parts + 76 * liquids c (flagOf flags)
-    → fairBy (getD flags c 0) (i32At rec m) (λ k. i32At rec (p + 4 * k)) ≡ fairAt rec flags masses parts c
-unfolding fairAt fairBy d3q19
-fair-at rec flags masses parts m p c h e d =
+pub fair-at : (L : Lattice) (w : ℕ) (rec flags : List ℕ) (masses parts m p c : ℕ) → c < length flags → m ≡ masses + 4 * interfaces c (flagOf flags) → p ≡ parts + 4 * w * liquids c (flagOf flags)
+    → fairOf L (getD flags c 0) (i32At rec m) (λ k. i32At rec (p + 4 * k)) ≡ fairHeld L w rec flags masses parts c
+unfolding fairHeld fairOf
+fair-at L w rec flags masses parts m p c h e d =
     let g : ℕ → ℤ = λ k. i32At rec (p + 4 * k) in
     let one : getD flags c 0 ≡ flagOf flags c = getD-there flags c 0 3 h in
-    let same : bodyGood d3q19 g ≡ bodyGood d3q19 (heldPart rec flags parts c) =
-    body-same d3q19 g (heldPart rec flags parts c) (λ k l. ap (i32At rec) (let q : p + 4 * k ≡ parts + 4 * (19 * liquids c (flagOf flags) + k) = omega arith in q)) in
-    ap₂ (λ (f i : ℕ). fairBy f (i32At rec i) g) one e
+    let same : bodyGood L g ≡ bodyGood L (partHeld w rec flags parts c) =
+    body-same L g (partHeld w rec flags parts c) (λ k l. ap (i32At rec) (let q : p + 4 * k ≡ parts + 4 * (w * liquids c (flagOf flags) + k) = omega arith in q)) in
+    ap₂ (λ (f i : ℕ). fairOf L f (i32At rec i) g) one e
     ∙ ap (λ (t : Bool). byFlag (flagOf flags c) true (t && massGood (heldMass rec flags masses c)) t true) same
 
 -- wall and empty cells keep their rules, fluid mass and every fill are worked out: what is left are the numbers that the record holds
-cell-by : (f : ℕ) (m : ℤ) (g : ℕ → ℤ) → let part : ℕ → ℤ = λ k. byFlag f (pos 0) (g k) (g k) (pos 0) in
-    let mass : ℤ = byFlag f (pos 0) m (density d3q19 part) (pos 0) in
-    let dry : Bool = eqZ mass (pos 0) && all 19 (λ k. eqZ (part k) (pos 0)) in
-    (byFlag f dry (bodyGood d3q19 part && massGood mass) (bodyGood d3q19 part && eqZ mass (density d3q19 part)) dry && eqb (fillFor f mass (density d3q19 part)) (fillFor f mass (density d3q19 part))) ≡ fairBy f m g
-unfolding fairBy fillFor all
-cell-by zero m g = refl
-cell-by (suc zero) m g =
-    let ρ = density d3q19 g in
-    and-yes (bodyGood d3q19 g && massGood m) (eqb (fillOf m ρ) (fillOf m ρ)) (eq-eqb (fillOf m ρ) (fillOf m ρ) refl)
-cell-by (suc (suc zero)) m g =
-    let ρ = density d3q19 g in
-    and-yes (bodyGood d3q19 g && eqZ ρ ρ) (eqb 65536 65536) refl ∙ and-yes (bodyGood d3q19 g) (eqZ ρ ρ) (eqZ-same ρ)
-cell-by (suc (suc (suc f))) m g = refl
+all-yes : (n : ℕ) → all n (λ k. eqZ (pos 0) (pos 0)) ≡ true
+unfolding all
+all-yes zero = refl
+all-yes (suc n) = and-yes (all n (λ k. eqZ (pos 0) (pos 0))) (eqZ (pos 0) (pos 0)) refl ∙ all-yes n
+
+pub cell-by : (L : Lattice) (f : ℕ) (m : ℤ) (g : ℕ → ℤ) → let part : ℕ → ℤ = λ k. byFlag f (pos 0) (g k) (g k) (pos 0) in
+    let mass : ℤ = byFlag f (pos 0) m (density L part) (pos 0) in
+    let dry : Bool = eqZ mass (pos 0) && all (suc (L .q)) (λ k. eqZ (part k) (pos 0)) in
+    (byFlag f dry (bodyGood L part && massGood mass) (bodyGood L part && eqZ mass (density L part)) dry && eqb (fillFor f mass (density L part)) (fillFor f mass (density L part))) ≡ fairOf L f m g
+unfolding fairOf fillFor
+cell-by L zero m g = and-yes (eqZ (pos 0) (pos 0) && all (suc (L .q)) (λ k. eqZ (pos 0) (pos 0))) (eqb 0 0) refl ∙ ap (λ (b : Bool). true && b) (all-yes (suc (L .q)))
+cell-by L (suc zero) m g =
+    let ρ = density L g in
+    and-yes (bodyGood L g && massGood m) (eqb (fillOf m ρ) (fillOf m ρ)) (eq-eqb (fillOf m ρ) (fillOf m ρ) refl)
+cell-by L (suc (suc zero)) m g =
+    let ρ = density L g in
+    and-yes (bodyGood L g && eqZ ρ ρ) (eqb 65536 65536) refl ∙ and-yes (bodyGood L g) (eqZ ρ ρ) (eqZ-same ρ)
+cell-by L (suc (suc (suc f))) m g = and-yes (eqZ (pos 0) (pos 0) && all (suc (L .q)) (λ k. eqZ (pos 0) (pos 0))) (eqb 0 0) refl ∙ ap (λ (b : Bool). true && b) (all-yes (suc (L .q)))
 
 pub cell-fair : (r : List ℕ) (masses parts c : ℕ) → masses ≡ massesFrom counts (totalsIn r) (cellsIn r) + 4 → parts ≡ partsFrom counts (totalsIn r) (cellsIn r) (interfacesIn r) + 4
     → cellGood d3q19 (stateIn r) c ≡ fairAt r (flagsIn r) masses parts c
-unfolding cellGood dryGood interfaceGood fluidGood fillGood stateIn massIn partIn massAt partAt flagIn fairAt d3q19
+unfolding cellGood dryGood interfaceGood fluidGood fillGood stateIn massIn partIn massAt partAt flagIn fairHeld d3q19
 cell-fair r masses parts c e d =
-    cell-by (flagIn r c) (massAt r c) (partAt r c)
+    cell-by d3q19 (flagIn r c) (massAt r c) (partAt r c)
     ∙ ap₂ (λ (i j : ℕ). fairBy (flagIn r c) (i32At r (i + 4 * interfaces c (flagIn r))) (λ k. i32At r (j + 4 * (19 * liquids c (flagIn r) + k)))) (sym e) (sym d)
 
 -- ---- the search
@@ -115,17 +120,17 @@ from-longer (suc n) i f h = go (f i) refl (λ k. from-longer n (suc i) f k)
         rw (e, firstFrom) (r k)
 
 -- test 6 as the code goes: the cells first, and the carry where no cell is bad
-module _ (n : ℕ) (S : State) (f : ℕ → Bool) (is : (c : ℕ) → c < n → f c ≡ not (cellGood d3q19 S c)) where
+module _ (L : Lattice) (n : ℕ) (S : State) (f : ℕ → Bool) (is : (c : ℕ) → c < n → f c ≡ not (cellGood L S c)) where
   abbrev bad : ℕ → Bool
-  bad c = cond (eqb c n) (not (carryGood (S .carry))) (not (cellGood d3q19 S c))
+  bad c = cond (eqb c n) (not (carryGood (S .carry))) (not (cellGood L S c))
 
   at-cell : (c : ℕ) → c < n → bad c ≡ f c
-  at-cell c h = ap (λ (t : Bool). cond t (not (carryGood (S .carry))) (not (cellGood d3q19 S c))) (ne-eqb c n (λ e. lt-irrefl n (subst (λ (m : ℕ). m < n) e h))) ∙ sym (is c h)
+  at-cell c h = ap (λ (t : Bool). cond t (not (carryGood (S .carry))) (not (cellGood L S c))) (ne-eqb c n (λ e. lt-irrefl n (subst (λ (m : ℕ). m < n) e h))) ∙ sym (is c h)
 
   at-carry : bad n ≡ not (carryGood (S .carry))
-  at-carry = ap (λ (t : Bool). cond t (not (carryGood (S .carry))) (not (cellGood d3q19 S n))) (eq-eqb n n refl)
+  at-carry = ap (λ (t : Bool). cond t (not (carryGood (S .carry))) (not (cellGood L S n))) (eq-eqb n n refl)
 
-  pub bad-cell : first n f < n → badRule d3q19 n S ≡ first n f
+  pub bad-cell : first n f < n → badRule L n S ≡ first n f
   unfolding badRule
   bad-cell h =
       let e : first n bad ≡ first n f = first-cong n 0 bad f (λ a k. ap bad (zero-add a) ∙ at-cell a k ∙ sym (ap f (zero-add a))) in
@@ -134,11 +139,11 @@ module _ (n : ℕ) (S : State) (f : ℕ → Bool) (is : (c : ℕ) → c < n → 
   none : n ≤ first n f → (c : ℕ) → c < n → bad c ≡ false
   none h c k = at-cell c k ∙ first-none n f h c k
 
-  pub bad-carry : n ≤ first n f → carryGood (S .carry) ≡ false → badRule d3q19 n S ≡ n
+  pub bad-carry : n ≤ first n f → carryGood (S .carry) ≡ false → badRule L n S ≡ n
   unfolding badRule
   bad-carry h e = first-is (suc n) bad n (omega arith) (none h) (at-carry ∙ ap not e)
 
-  pub none-bad : n ≤ first n f → carryGood (S .carry) ≡ true → badRule d3q19 n S ≡ suc n
+  pub none-bad : n ≤ first n f → carryGood (S .carry) ≡ true → badRule L n S ≡ suc n
   unfolding badRule
   none-bad h e = first-all (suc n) bad (λ c k. go c (eq-or-lt-of-le (le-of-suc-le-suc k)))
     where

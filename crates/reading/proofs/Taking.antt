@@ -30,7 +30,7 @@ use Rattle.record.specs.Bytes.{i32At}
 use Rattle.record.specs.Places.{counts, massesFrom, partsFrom}
 use Rattle.record.specs.Layout.{siteGood, interfaces, liquids}
 use Rattle.record.specs.Reading.{settingsIn, siteIn, sidesIn, totalsIn, pouredIn, takenIn, cellsIn, flagsIn, flagIn, interfacesIn, massAt, partAt, partIn, massIn, stateIn, contentAnswer}
-use Rattle.record.specs.Passes.{heldMass, heldPart, Weighed, loadedMass, loadedFill}
+use Rattle.record.specs.Passes.{heldMass, heldPart, Weighed, massLoaded, fillLoaded, loadedMass, loadedFill}
 
 module _ (r : List ℕ) where
   abbrev N : ℕ
@@ -58,12 +58,12 @@ module _ (r : List ℕ) where
 
   -- ---- masses and fills
   mass-there : (from c : ℕ) → c < cellsIn r → from ≡ massesFrom counts (totalsIn r) (cellsIn r) + 4 → loadedMass r (flagsIn r) from state-parts c ≡ massIn r c
-  unfolding loadedMass massIn massAt flagIn
+  unfolding massLoaded massIn massAt flagIn
   mass-there from c h e =
       ap₂ (λ (j : ℕ) (ρ : ℤ). byFlag (flagOf (flagsIn r) c) (pos 0) (heldMass r (flagsIn r) j c) ρ (pos 0)) e (density-there c h)
 
   fill-there : (from c : ℕ) → c < cellsIn r → from ≡ massesFrom counts (totalsIn r) (cellsIn r) + 4 → loadedFill r (flagsIn r) from state-parts c ≡ stateIn r .fill c
-  unfolding loadedFill stateIn flagIn
+  unfolding fillLoaded stateIn flagIn
   fill-there from c h e = ap₂ (λ (m ρ : ℤ). fillFor (flagOf (flagsIn r) c) m ρ) (mass-there from c h e) (density-there c h)
 
   module _ (flags : List ℕ) (parts : List ℤ) (from : ℕ) (f : flags ≡ flagsIn r) (n : length flags ≡ cellsIn r) (p : parts ≡ state-parts) (e : from ≡ massesFrom counts (totalsIn r) (cellsIn r) + 4) where

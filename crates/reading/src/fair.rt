@@ -22,7 +22,7 @@ ghost use Rattle.record.specs.Layout.{interfaces, liquids};
 ghost use Rattle.record.specs.Passes.{fairBy, fairAt};
 
 // Parts, density and speed in their ranges, of any parts.
-fn good_body(f: [i32; 19]) -> bool
+pub fn good_body(f: [i32; 19]) -> bool
     ensures { λ r. ⌜ r ≡ bodyGood d3q19 (partsOf f) ⌝ }
 {
     if !all_inside(f) {

@@ -1,6 +1,6 @@
 // Layer 2, the reader of grid records. Knows the promises of record.
 mod content;
-mod fair;
+pub mod fair;
 mod load;
 pub mod loading;
 pub mod reader;

@@ -1,4 +1,5 @@
--- The length of a record is 108 + N + 4I + 76L, and sections written one after the other are the record. Assumes nothing.
+-- The length of a record is 108 + N + 4I + 76L, and sections written one after the other are the record; of sections 5 to 7 this is said over any
+-- counts. Assumes nothing.
 use mathlib.Core.Path.{_≡_, refl, sym, ap, ap₂, _∙_, subst}
 use mathlib.Core.List.{List, [], _∷_, _++_, append-assoc, append-nil}
 use Prim.Native.Nat.{ℕ, zero, suc, _+_, _*_, _≤_, _<_}
@@ -13,9 +14,10 @@ use Rattle.grid.specs.State.{Lent, stateOf}
 use Rattle.grid.specs.Passes.{flagOf}
 use Rattle.pumps.specs.Three.{numberIn}
 use Rattle.record.specs.declared.Site.{Site}
+use Rattle.record.specs.declared.Counts.{Counts}
 use Rattle.record.specs.Bytes.{bytesOf, join, u32Of}
-use Rattle.record.specs.Places.{counts, cellsFrom, massesFrom, partsFrom, lengthOf}
-use Rattle.record.specs.Layout.{section, interfaces, liquids, massBytes, partBytes, siteBytes, totalsBytes, headBytes, cellsBytes, recordOf, recordLength}
+use Rattle.record.specs.Places.{past, counts, cellsFrom, lengthOf}
+use Rattle.record.specs.Layout.{section, interfaces, liquids, massBytes, partNumbers, cellSections, siteBytes, totalsBytes, headBytes, cellsBytes, recordOf, recordLength}
 use Rattle.record.proofs.Numbers.{length-bytesOf, then-put}
 use Rattle.record.proofs.Gathered.{length-masses, length-parts}
 
@@ -29,14 +31,15 @@ unfolding join
 length-section n x =
     length-append (u32Of n) (x ++ []) ∙ ap₂ (λ (i j : ℕ). i + j) (length-bytesOf 4 n) (ap length (append-nil x))
 
-pub length-cells : (n : ℕ) (flags : List ℕ) (mass : ℕ → ℤ) (part : ℕ → ℕ → ℤ) → length flags ≡ n
-    → cellsFrom counts 3 + length (cellsBytes n flags mass part) ≡ lengthOf counts 3 n (interfaces n (flagOf flags)) (19 * liquids n (flagOf flags))
-unfolding cellsBytes join
-length-cells n flags mass part e =
+pub length-cells : (K : Counts) (k n : ℕ) (flags : List ℕ) (mass : ℕ → ℤ) (part : ℕ → ℕ → ℤ) → length flags ≡ n
+    → cellsFrom K k + length (cellSections (K .parts) n flags mass part) ≡ lengthOf K k n (interfaces n (flagOf flags)) (K .parts * liquids n (flagOf flags))
+unfolding cellSections join
+length-cells K k n flags mass part e =
+    let w = K .parts in
     let f = flagOf flags in
     let five = section n (flags ∷ []) in
     let six = section (interfaces n f) (massBytes n f mass ∷ []) in
-    let seven = section (19 * liquids n f) (partBytes n f part ∷ []) in
+    let seven = section (w * liquids n f) (partNumbers w n f part ∷ []) in
     omega (
       arith,
       length-append five (six ++ (seven ++ [])),
@@ -44,9 +47,9 @@ length-cells n flags mass part e =
       length-append seven [],
       length-section n flags,
       length-section (interfaces n f) (massBytes n f mass),
-      length-section (19 * liquids n f) (partBytes n f part),
+      length-section (w * liquids n f) (partNumbers w n f part),
       length-masses n f mass,
-      length-parts n f part,
+      length-parts w n f part,
     )
 
 pub length-head : (s : Sides) (g : Settings) (t : Site) (carry poured taken : ℤ) → length (headBytes s g t carry poured taken) ≡ cellsFrom counts 3
@@ -59,26 +62,26 @@ length-record s g t a e =
     let h = stateOf 18 a in
     length-append (headBytes s g t (numberIn a 0) (numberIn a 1) (numberIn a 2)) (cellsBytes (cellsOf s) (a .flags) (h .mass) (h .part))
     ∙ ap (λ (i : ℕ). i + length (cellsBytes (cellsOf s) (a .flags) (h .mass) (h .part))) (length-head s g t (numberIn a 0) (numberIn a 1) (numberIn a 2))
-    ∙ length-cells (cellsOf s) (a .flags) (h .mass) (h .part) e
+    ∙ length-cells counts 3 (cellsOf s) (a .flags) (h .mass) (h .part) e
 
 -- ---- what the writer's calls leave, one after the other
-pub cells-put : (l flags : List ℕ) (mass : ℕ → ℤ) (part : ℕ → ℕ → ℤ) (n at : ℕ) {r q o : List ℕ} → length flags ≡ n
-    → at ≡ partsFrom counts 3 n (interfaces n (flagOf flags))
-    → r ≡ sets l (cellsFrom counts 3) (section n (flags ∷ []))
-    → q ≡ sets r (massesFrom counts 3 n) (section (interfaces n (flagOf flags)) (massBytes n (flagOf flags) mass ∷ []))
-    → o ≡ sets q at (section (19 * liquids n (flagOf flags)) (partBytes n (flagOf flags) part ∷ []))
-    → o ≡ sets l (cellsFrom counts 3) (cellsBytes n flags mass part)
-unfolding cellsBytes join
-cells-put l flags mass part n at e h x y z =
+pub cells-put : (from w : ℕ) (l flags : List ℕ) (mass : ℕ → ℤ) (part : ℕ → ℕ → ℤ) (n at : ℕ) {r q o : List ℕ} → length flags ≡ n
+    → at ≡ past (from + 4 + n) 4 (interfaces n (flagOf flags))
+    → r ≡ sets l from (section n (flags ∷ []))
+    → q ≡ sets r (from + 4 + n) (section (interfaces n (flagOf flags)) (massBytes n (flagOf flags) mass ∷ []))
+    → o ≡ sets q at (section (w * liquids n (flagOf flags)) (partNumbers w n (flagOf flags) part ∷ []))
+    → o ≡ sets l from (cellSections w n flags mass part)
+unfolding cellSections join
+cells-put from w l flags mass part n at e h x y z =
     let f = flagOf flags in
     let five = section n (flags ∷ []) in
     let six = section (interfaces n f) (massBytes n f mass ∷ []) in
-    let seven = section (19 * liquids n f) (partBytes n f part ∷ []) in
-    then-put l (cellsFrom counts 3) at (five ++ six) seven
-    (then-put l (cellsFrom counts 3) (massesFrom counts 3 n) five six x y (omega (arith, length-section n flags)))
+    let seven = section (w * liquids n f) (partNumbers w n f part ∷ []) in
+    then-put l from at (five ++ six) seven
+    (then-put l from (from + 4 + n) five six x y (omega (arith, length-section n flags)))
     z
     (omega (arith, length-append five six, length-section n flags, length-section (interfaces n f) (massBytes n f mass), length-masses n f mass))
-    ∙ ap (sets l (cellsFrom counts 3)) (append-assoc five six seven ∙ ap (λ (t : List ℕ). five ++ (six ++ t)) (sym (append-nil seven)))
+    ∙ ap (sets l from) (append-assoc five six seven ∙ ap (λ (t : List ℕ). five ++ (six ++ t)) (sym (append-nil seven)))
 
 -- written from the front, the record stands before what the room held past it
 pub front-put : (l x : List ℕ) → length x ≤ length l → sets l 0 x ≡ x ++ drop (length x) l

@@ -1,4 +1,4 @@
--- The sections by cell number, and their lengths: 4I bytes of masses, 76L of parts. The one idea: what is gathered up to a cell is as long as the
+-- The sections by cell number, and their lengths: 4I bytes of masses, 4wL of w parts a cell. The one idea: what is gathered up to a cell is as long as the
 -- count of cells before it says, so that a cell's numbers stand where the count says.
 -- Use: `length-masses n flag mass` is `length (massBytes n flag mass) ≡ 4 * interfaces n flag`. Assumes nothing.
 use mathlib.Core.Path.{_≡_, refl, sym, ap, ap₂, _∙_, subst}
@@ -21,7 +21,7 @@ use Rattle.grid.specs.State.{byFlag, liquid}
 use Rattle.grid.specs.Passes.{flagOf}
 use Rattle.grid.proofs.Lists.{getD-there}
 use Rattle.record.specs.Bytes.{gathered, join, bytesOf, u32Of, i32Of}
-use Rattle.record.specs.Layout.{section, interfaces, liquids, massBytes, cellBytes, partBytes}
+use Rattle.record.specs.Layout.{section, interfaces, liquids, massBytes, cellNumbers, partNumbers}
 use Rattle.record.proofs.Numbers.{length-bytesOf, sets-then, then-put}
 
 -- ---- counts
@@ -107,20 +107,21 @@ length-some zero part = refl
 length-some (suc n) part =
     length-append (gathered n (λ k. i32Of (part k))) (i32Of (part n)) ∙ omega (arith, length-some n part, length-bytesOf 4 (ofZ w32 (part n)))
 
-pub length-cell : (part : ℕ → ℤ) → length (cellBytes part) ≡ 76
-unfolding cellBytes
-length-cell part = length-some 19 part
+pub length-cell : (w : ℕ) (part : ℕ → ℤ) → length (cellNumbers w part) ≡ 4 * w
+unfolding cellNumbers
+length-cell w part = length-some w part
 
-length-liquid : (f : ℕ) (part : ℕ → ℤ) → length (byFlag f [] (cellBytes part) (cellBytes part) []) ≡ 76 * cond (liquid f) 1 0
-length-liquid zero part = refl
-length-liquid (suc zero) part = length-cell part
-length-liquid (suc (suc zero)) part = length-cell part
-length-liquid (suc (suc (suc f))) part = refl
+length-liquid : (w f : ℕ) (part : ℕ → ℤ) → length (byFlag f [] (cellNumbers w part) (cellNumbers w part) []) ≡ 4 * w * cond (liquid f) 1 0
+length-liquid w zero part = omega arith
+length-liquid w (suc zero) part = length-cell w part ∙ omega arith
+length-liquid w (suc (suc zero)) part = length-cell w part ∙ omega arith
+length-liquid w (suc (suc (suc f))) part = omega arith
 
-pub length-parts : (n : ℕ) (flag : ℕ → ℕ) (part : ℕ → ℕ → ℤ) → length (partBytes n flag part) ≡ 76 * liquids n flag
-unfolding partBytes liquids
-length-parts n flag part =
-    length-gathered 76 n (λ c. byFlag (flag c) [] (cellBytes (part c)) (cellBytes (part c)) []) (λ c. liquid (flag c)) (λ c. length-liquid (flag c) (part c))
+pub length-parts : (w n : ℕ) (flag : ℕ → ℕ) (part : ℕ → ℕ → ℤ) → length (partNumbers w n flag part) ≡ 4 * w * liquids n flag
+unfolding partNumbers liquids
+length-parts w n flag part =
+    length-gathered (4 * w) n (λ c. byFlag (flag c) [] (cellNumbers w (part c)) (cellNumbers w (part c)) []) (λ c. liquid (flag c))
+    (λ c. length-liquid w (flag c) (part c))
 
 -- ---- what a writer's turn does: the numbers of one cell more, at the place that the count says
 gather-turn : (l room : List ℕ) (from at n : ℕ) (f : ℕ → List ℕ) (x : List ℕ) → room ≡ sets l from (gathered n f) → from + length (gathered n f) ≡ at → x ≡ f n
@@ -145,15 +146,15 @@ pub cell-turn : (l room : List ℕ) (part : ℕ → ℤ) (at k : ℕ) → room �
 cell-turn l room part at k r =
     gather-turn l room at (at + 4 * k) k (λ j. i32Of (part j)) (i32Of (part k)) r (ap (λ (m : ℕ). at + m) (length-some k part)) refl
 
-pub part-turn : (l room flags : List ℕ) (part : ℕ → ℕ → ℤ) (from at c : ℕ) → c < length flags → at ≡ from + 76 * liquids c (flagOf flags)
-    → room ≡ sets l from (partBytes c (flagOf flags) part)
-    → sets room at (byFlag (getD flags c 0) [] (cellBytes (part c)) (cellBytes (part c)) []) ≡ sets l from (partBytes (c + 1) (flagOf flags) part)
-unfolding partBytes
-part-turn l room flags part from at c h e r =
-    gather-turn l room from at c (λ a. byFlag (flagOf flags a) [] (cellBytes (part a)) (cellBytes (part a)) [])
-    (byFlag (getD flags c 0) [] (cellBytes (part c)) (cellBytes (part c)) []) r
-    (omega (arith, length-parts c (flagOf flags) part))
-    (ap (λ (f : ℕ). byFlag f [] (cellBytes (part c)) (cellBytes (part c)) []) (getD-there flags c 0 3 h))
+pub part-turn : (w : ℕ) (l room flags : List ℕ) (part : ℕ → ℕ → ℤ) (from at c : ℕ) → c < length flags → at ≡ from + 4 * w * liquids c (flagOf flags)
+    → room ≡ sets l from (partNumbers w c (flagOf flags) part)
+    → sets room at (byFlag (getD flags c 0) [] (cellNumbers w (part c)) (cellNumbers w (part c)) []) ≡ sets l from (partNumbers w (c + 1) (flagOf flags) part)
+unfolding partNumbers
+part-turn w l room flags part from at c h e r =
+    gather-turn l room from at c (λ a. byFlag (flagOf flags a) [] (cellNumbers w (part a)) (cellNumbers w (part a)) [])
+    (byFlag (getD flags c 0) [] (cellNumbers w (part c)) (cellNumbers w (part c)) []) r
+    (ap (λ (k : ℕ). from + k) (length-parts w c (flagOf flags) part) ∙ sym e)
+    (ap (λ (f : ℕ). byFlag f [] (cellNumbers w (part c)) (cellNumbers w (part c)) []) (getD-there flags c 0 3 h))
 
 -- the same where the numbers are bytes
 pub copy-turn : (l bs : List ℕ) (at c : ℕ) → c < length bs → set (sets l at (take c bs)) (at + c) (getD bs c 0) ≡ sets l at (take (c + 1) bs)

@@ -1,7 +1,12 @@
 pub mod Numbers
 pub mod Gathered
 pub mod Assembled
+pub mod Standing
+pub mod Rules
+pub mod GridBack
+pub mod Again
 pub mod Answers
+pub mod Sections
 pub mod Shaped
 pub mod FlagPart
 pub mod ByFlag

@@ -54,8 +54,9 @@ use Rattle.record.specs.Reading.{sidesIn, settingsIn, siteIn, totalsIn, 
 use Rattle.record.specs.Writing.{writeAnswer}
 use Rattle.record.specs.Passes.{Held, Sound}
 use Rattle.record.proofs.Numbers.{value-bytesOf, back, length-bytesOf}
-use Rattle.record.proofs.Gathered.{interfaces-most, liquids-most, length-masses, length-parts, length-cell, length-some}
-use Rattle.record.proofs.Assembled.{length-section, length-head, length-record}
+use Rattle.record.proofs.Gathered.{interfaces-most, liquids-most}
+use Rattle.record.proofs.Assembled.{length-head, length-record}
+use Rattle.record.proofs.Standing.{count-five, flags-back, count-six, count-seven, mass-back, part-back, fits-word, near, fits-long, total-fits, coordinate-fits, part-kinds, mass-kinds, dry-kinds, same-lent}
 use Rattle.record.proofs.WrittenBy.{Fit, small, write-fit}
 use Rattle.record.proofs.Answers.{or-pass}
 use Rattle.record.proofs.Shaped.{shape-passes}
@@ -68,25 +69,6 @@ Claim =
     → (readHead (recordOf s g t a) b ≡ record { answer = Done; sides = s; settings = g; site = t })
     × (readFlags (recordOf s g t a) b ≡ a .flags)
     × (readSet (recordOf s g t a) b ≡ a)
-
--- ---- what stands where
-look : (p b q r : List ℕ) (at k : ℕ) → r ≡ p ++ (b ++ q) → length p ≡ at → length b ≡ k → part k at r ≡ b
-look p b q r at k e l m =
-    ap (part k at) e ∙ ap (take k) (drop-at p (b ++ q) at l) ∙ take-at b q k m
-
--- what a cell gave stands behind what the cells before it gave
-record Split (whole before here : List ℕ) : Type 0 where
-  rest : List ℕ
-  is : whole ≡ before ++ (here ++ rest)
-
-split : (n c : ℕ) (f : ℕ → List ℕ) (z : List ℕ) → c < n → Split (gathered n f ++ z) (gathered c f) (f c)
-unfolding gathered
-split zero c f z h = absurd (not-suc-le-zero h)
-split (suc n) c f z h = go (eq-or-lt-of-le (le-of-suc-le-suc h)) (λ k. split n c f (f n ++ z) k)
-  where
-    go : (c ≡ n) ⊎ (c < n) → (c < n → Split (gathered n f ++ (f n ++ z)) (gathered c f) (f c)) → Split ((gathered n f ++ f n) ++ z) (gathered c f) (f c)
-    go (inl e) r = record { rest = z; is = append-assoc (gathered n f) (f n) z ∙ ap (λ (k : ℕ). gathered k f ++ (f k ++ z)) (sym e) }
-    go (inr k) r = let w = r k in record { rest = w .rest; is = append-assoc (gathered n f) (f n) z ∙ w .is }
 
 -- ---- sections 1 to 4: their numbers, whatever follows
 module _ (s : Sides) (g : Settings) (t : Site) (k p q : ℤ) (y : List ℕ) where
@@ -150,154 +132,6 @@ module _ (s : Sides) (g : Settings) (t : Site) (k p q : ℤ) (y : List ℕ) wher
   taken-back : SFits w64 q → takenIn h ≡ q
   unfolding takenIn
   taken-back f = ap (λ (n : ℕ). cond (eqb n 3) (i64At h (past (totalsFrom counts) 8 2)) (pos 0)) three-numbers ∙ taken-there f
-
--- ---- sections 5 to 7
-module _ (hd : List ℕ) (hl : length hd ≡ cellsFrom counts 3) (n : ℕ) (flags : List ℕ) (mass : ℕ → ℤ) (p : ℕ → ℕ → ℤ) (ln : length flags ≡ n) where
-  abbrev F : ℕ → ℕ
-  F = flagOf flags
-
-  abbrev I : ℕ
-  I = interfaces n (flagOf flags)
-
-  abbrev L : ℕ
-  L = liquids n (flagOf flags)
-
-  abbrev five : List ℕ
-  five = section n (flags ∷ [])
-
-  abbrev six : List ℕ
-  six = section I (massBytes n F mass ∷ [])
-
-  abbrev seven : List ℕ
-  seven = section (19 * L) (partBytes n F p ∷ [])
-
-  abbrev r : List ℕ
-  r = hd ++ cellsBytes n flags mass p
-
-  -- where each section begins, and its numbers
-  to-six : length (hd ++ five) ≡ massesFrom counts 3 n
-  to-six = length-append hd five ∙ omega (arith, hl, length-section n flags)
-
-  to-seven : length ((hd ++ five) ++ six) ≡ partsFrom counts 3 n I
-  to-seven = length-append (hd ++ five) six ∙ omega (arith, to-six, length-section I (massBytes n F mass), length-masses n F mass)
-
-  behind-count : (q : List ℕ) (m at : ℕ) → length q ≡ at → length (q ++ u32Of m) ≡ at + 4
-  behind-count q m at e = length-append q (u32Of m) ∙ ap₂ (λ (i j : ℕ). i + j) e (length-bytesOf 4 m)
-
-  number : (q z : List ℕ) (m at : ℕ) → r ≡ q ++ (u32Of m ++ z) → length q ≡ at → m < 4294967296 → u32At r at ≡ m
-  number q z m at e l h = ap value (look q (u32Of m) z r at 4 e l (length-bytesOf 4 m)) ∙ value-bytesOf 4 m h
-
-  count-five : n < 4294967296 → u32At r (cellsFrom counts 3) ≡ n
-  unfolding cellsBytes join
-  count-five h = number hd _ n (cellsFrom counts 3) (ap (λ (l : List ℕ). hd ++ l) (append-assoc (u32Of n) (flags ++ []) _)) hl h
-
-  flags-back : part n (cellsFrom counts 3 + 4) r ≡ flags
-  unfolding cellsBytes join
-  flags-back = look (hd ++ u32Of n) flags (six ++ (seven ++ [])) r (cellsFrom counts 3 + 4) n (simp (append-assoc, append-nil)) (behind-count hd n (cellsFrom counts 3) hl) ln
-
-  count-six : I < 4294967296 → u32At r (massesFrom counts 3 n) ≡ I
-  unfolding cellsBytes join
-  count-six h =
-      number (hd ++ five) _ I (massesFrom counts 3 n)
-      (sym (append-assoc hd five _) ∙ ap (λ (l : List ℕ). (hd ++ five) ++ l) (append-assoc (u32Of I) (massBytes n F mass ++ []) _)) to-six h
-
-  count-seven : 19 * L < 4294967296 → u32At r (partsFrom counts 3 n I) ≡ 19 * L
-  unfolding cellsBytes join
-  count-seven h = number ((hd ++ five) ++ six) ((partBytes n F p ++ []) ++ []) (19 * L) (partsFrom counts 3 n I) (simp append-assoc) to-seven h
-
-  mass-back : (c : ℕ) → c < n → F c ≡ 1 → SFits w32 (mass c) → i32At r (massesFrom counts 3 n + 4 + 4 * interfaces c F) ≡ mass c
-  unfolding cellsBytes join massBytes
-  mass-back c h one fits =
-      let f : ℕ → List ℕ = λ a. byFlag (F a) [] (i32Of (mass a)) [] [] in
-      let z = seven ++ [] in
-      let w = split n c f z h in
-      let here : f c ≡ i32Of (mass c) = ap (λ (q : ℕ). byFlag q [] (i32Of (mass c)) [] []) one in
-      let front = (hd ++ five) ++ u32Of I in
-      let is : r ≡ (front ++ gathered c f) ++ (f c ++ w .rest) =
-      region f z ∙ ap (λ (l : List ℕ). front ++ l) (w .is) ∙ sym (append-assoc front (gathered c f) (f c ++ w .rest)) in
-      let long : length (front ++ gathered c f) ≡ massesFrom counts 3 n + 4 + 4 * interfaces c F =
-      length-append front (gathered c f) ∙ ap₂ (λ (i j : ℕ). i + j) (behind-count (hd ++ five) I (massesFrom counts 3 n) to-six) (length-masses c F mass) in
-      ap (λ (l : List ℕ). toZ w32 (value l)) (look (front ++ gathered c f) (f c) (w .rest) r (massesFrom counts 3 n + 4 + 4 * interfaces c F) 4 is long (ap length here ∙ length-bytesOf 4 (ofZ w32 (mass c))) ∙ here)
-      ∙ back w32 4 (mass c) fits refl
-    where
-      region : (f : ℕ → List ℕ) (z : List ℕ) → hd ++ (five ++ ((u32Of I ++ (gathered n f ++ [])) ++ z)) ≡ ((hd ++ five) ++ u32Of I) ++ (gathered n f ++ z)
-      region f z = simp (append-assoc, append-nil)
-
-  part-back : (c j : ℕ) → c < n → j < 19 → liquid (F c) ≡ true → SFits w32 (p c j) → i32At r (partsFrom counts 3 n I + 4 + 4 * (19 * liquids c F + j)) ≡ p c j
-  unfolding cellsBytes join partBytes cellBytes
-  part-back c j h l wet fits =
-      let f : ℕ → List ℕ = λ a. byFlag (F a) [] (cellBytes (p a)) (cellBytes (p a)) [] in
-      let e : ℕ → List ℕ = λ i. i32Of (p c i) in
-      let w = split n c f [] h in
-      let here : f c ≡ gathered 19 e = by-liquid-list (F c) (cellBytes (p c)) wet in
-      let v = split 19 j e (w .rest) l in
-      let front = ((hd ++ five) ++ six) ++ u32Of (19 * L) in
-      let is : r ≡ ((front ++ gathered c f) ++ gathered j e) ++ (e j ++ v .rest) =
-      region f
-      ∙ ap (λ (q : List ℕ). front ++ q) (w .is ∙ ap (λ (q : List ℕ). gathered c f ++ (q ++ w .rest)) here ∙ ap (λ (q : List ℕ). gathered c f ++ q) (v .is))
-      ∙ sym (append-assoc front (gathered c f) (gathered j e ++ (e j ++ v .rest)))
-      ∙ sym (append-assoc (front ++ gathered c f) (gathered j e) (e j ++ v .rest)) in
-      let long : length ((front ++ gathered c f) ++ gathered j e) ≡ partsFrom counts 3 n I + 4 + 4 * (19 * liquids c F + j) =
-      length-append (front ++ gathered c f) (gathered j e)
-      ∙ omega (arith, length-append front (gathered c f), behind-count ((hd ++ five) ++ six) (19 * L) (partsFrom counts 3 n I) to-seven, length-parts c F p, length-some j (p c)) in
-      ap (λ (q : List ℕ). toZ w32 (value q)) (look ((front ++ gathered c f) ++ gathered j e) (e j) (v .rest) r (partsFrom counts 3 n I + 4 + 4 * (19 * liquids c F + j)) 4 is long (length-bytesOf 4 (ofZ w32 (p c j))))
-      ∙ back w32 4 (p c j) fits refl
-    where
-      by-liquid-list : (f : ℕ) (x : List ℕ) → liquid f ≡ true → byFlag f [] x x [] ≡ x
-      by-liquid-list zero x q = absurd (false≢true q)
-      by-liquid-list (suc zero) x q = refl
-      by-liquid-list (suc (suc zero)) x q = refl
-      by-liquid-list (suc (suc (suc f))) x q = absurd (false≢true q)
-
-      region : (f : ℕ → List ℕ) → hd ++ (five ++ (six ++ ((u32Of (19 * L) ++ (gathered n f ++ [])) ++ []))) ≡ (((hd ++ five) ++ six) ++ u32Of (19 * L)) ++ (gathered n f ++ [])
-      region f = simp (append-assoc, append-nil)
-
--- ---- numbers of a good grid fit their bytes
-fits-word : {z : ℤ} → Within z 2147483647 → SFits w32 z
-fits-word {z} w = fits-abs {w = w32} {z = z} (let h = w .abs in omega arith)
-
-near : {z : ℤ} (k : ℕ) → Within z k → k ≤ 2147483647 → SFits w32 z
-near {z} k w h = fits-word (record { abs = omega (arith, w .abs) })
-
-fits-long : {z : ℤ} → natAbs z ≤ 1000000000000000 → SFits w64 z
-fits-long {z} h = fits-abs {w = w64} {z = z} (omega arith)
-
-total-fits : (z : ℤ) → totalGood z ≡ true → SFits w64 z
-total-fits z e =
-    fits-long (abs-below {k = 0} {z = z} (leZ-true (and-left (leZ (pos 0) z) (leZ z (pos 1000000000000000)) e)) (leZ-true (and-right (leZ (pos 0) z) (leZ z (pos 1000000000000000)) e)))
-
-coordinate-fits : (x : ℤ) → coordinateGood x ≡ true → SFits w64 x
-coordinate-fits x e =
-    let l = leZ (negsuc 9999999999) x in
-    let u = leZ x (pos 10000000000) in
-    let b : leb (natAbs x) 10000000000 ≡ true = sym (between 9999999999 x) ∙ ap₂ (λ (p q : Bool). p && q) (and-right l u e) (and-left l u e) in
-    fits-long (let h = leb-true (natAbs x) 10000000000 b in omega arith)
-
--- by kinds
-part-kinds : (f : ℕ) (x z : ℤ) → (liquid f ≡ true → x ≡ z) → (liquid f ≡ false → z ≡ pos 0) → byFlag f (pos 0) x x (pos 0) ≡ z
-part-kinds zero x z w d = sym (d refl)
-part-kinds (suc zero) x z w d = w refl
-part-kinds (suc (suc zero)) x z w d = w refl
-part-kinds (suc (suc (suc f))) x z w d = sym (d refl)
-
-mass-kinds : (f : ℕ) (x m ρ : ℤ) → (f ≡ 1 → x ≡ m) → byFlag f (pos 0) x ρ (pos 0) ≡ byFlag f (pos 0) m ρ (pos 0)
-mass-kinds zero x m ρ e = refl
-mass-kinds (suc zero) x m ρ e = e refl
-mass-kinds (suc (suc zero)) x m ρ e = refl
-mass-kinds (suc (suc (suc f))) x m ρ e = refl
-
-dry-kinds : (f : ℕ) (d i l : Bool) → liquid f ≡ false → byFlag f d i l d ≡ true → d ≡ true
-dry-kinds zero d i l e h = h
-dry-kinds (suc zero) d i l e h = absurd (false≢true (sym e))
-dry-kinds (suc (suc zero)) d i l e h = absurd (false≢true (sym e))
-dry-kinds (suc (suc (suc f))) d i l e h = h
-
--- equal lists make an equal set
-same-lent : {a b : Lent} → a .flags ≡ b .flags → a .parts ≡ b .parts → a .masses ≡ b .masses → a .fills ≡ b .fills → a .carry ≡ b .carry → a ≡ b
-same-lent {a} {b} f p m l c =
-    ap₂ (λ (x : List ℕ) (y : List ℤ). record { flags = x; parts = y; masses = a .masses; fills = a .fills; carry = a .carry }) f p
-    ∙ ap₂ (λ (x : List ℤ) (y : List ℕ). record { flags = b .flags; parts = b .parts; masses = x; fills = y; carry = a .carry }) m l
-    ∙ ap (λ (x : List ℤ). record { flags = b .flags; parts = b .parts; masses = b .masses; fills = b .fills; carry = x }) c
 
 head-same : {s u : Sides} {g h : Settings} {t v : Site} → s ≡ u → g ≡ h → t ≡ v
     → _≡_ {A = Head} (record { answer = Done; sides = s; settings = g; site = t }) (record { answer = Done; sides = u; settings = h; site = v })
@@ -424,7 +258,7 @@ module _ (s : Sides) (g : Settings) (t : Site) (a : Lent) (fit : Fit s g t a) wh
 
   flags-so : flagsIn rec ≡ a .flags
   unfolding flagsIn recordOf
-  flags-so = ap₂ (λ (k j : ℕ). part k (cellsFrom counts j + 4) rec) cells-so totals-so ∙ flags-back head head-long n (a .flags) (S .mass) (S .part) (fit .lengths .flags)
+  flags-so = ap₂ (λ (k j : ℕ). part k (cellsFrom counts j + 4) rec) cells-so totals-so ∙ flags-back counts 3 head head-long n (a .flags) (S .mass) (S .part) (fit .lengths .flags)
 
   interfaces-so : interfacesIn rec ≡ interfaces n (flagOf (a .flags))
   unfolding interfacesIn flagIn
@@ -446,7 +280,7 @@ module _ (s : Sides) (g : Settings) (t : Site) (a : Lent) (fit : Fit s g t a) wh
       ∙ ap₂ (λ (m i : ℕ). byFlag (flagOf (flagsIn rec) c) (pos 0) (at m i (flagsIn rec)) (at m i (flagsIn rec)) (pos 0)) cells-so interfaces-so
       ∙ ap (λ (o : List ℕ). byFlag (flagOf o c) (pos 0) (at n (interfaces n (flagOf (a .flags))) o) (at n (interfaces n (flagOf (a .flags))) o) (pos 0)) flags-so
       ∙ part-kinds (flagOf (a .flags) c) (at n (interfaces n (flagOf (a .flags))) (a .flags)) (S .part c k)
-      (λ e. part-back head head-long n (a .flags) (S .mass) (S .part) (fit .lengths .flags) c k h (omega arith) e (near 1179648 (body c h e .parts k l) (omega arith)))
+      (λ e. part-back counts 3 head head-long n (a .flags) (S .mass) (S .part) (fit .lengths .flags) c k h (omega arith) e (near 1179648 (body c h e .parts k l) (omega arith)))
       (λ e. dry-parts c k h l e)
 
   density-so : (c : ℕ) → c < n → density d3q19 (partIn rec c) ≡ density d3q19 (S .part c)
@@ -462,7 +296,7 @@ module _ (s : Sides) (g : Settings) (t : Site) (a : Lent) (fit : Fit s g t a) wh
       ∙ ap₂ (λ (m : ℕ) (ρ : ℤ). byFlag (flagOf (flagsIn rec) c) (pos 0) (at m (flagsIn rec)) ρ (pos 0)) cells-so (density-so c h)
       ∙ ap (λ (o : List ℕ). byFlag (flagOf o c) (pos 0) (at n o) (density d3q19 (S .part c)) (pos 0)) flags-so
       ∙ mass-kinds (flagOf (a .flags) c) (at n (a .flags)) (S .mass c) (density d3q19 (S .part c))
-      (λ e. mass-back head head-long n (a .flags) (S .mass) (S .part) (fit .lengths .flags) c h e (near 2359296 (cell-mass n S cells-good c h e) (omega arith)))
+      (λ e. mass-back counts 3 head head-long n (a .flags) (S .mass) (S .part) (fit .lengths .flags) c h e (near 2359296 (cell-mass n S cells-good c h e) (omega arith)))
       ∙ sym (massed c h)
 
   fill-so : (c : ℕ) → c < n → stateIn rec .fill c ≡ S .fill c
@@ -535,7 +369,7 @@ module _ (s : Sides) (g : Settings) (t : Site) (a : Lent) (fit : Fit s g t a) wh
         flags =
             subst (λ (j : ℕ). Held rec (cellsFrom counts j) (cellsIn rec) 1) (sym totals-so)
             (subst (λ (m : ℕ). Held rec (cellsFrom counts 3) m 1) (sym cells-so)
-            (record { count = count-five head head-long n (a .flags) (S .mass) (S .part) l (omega (arith, few)); inside = omega arith }));
+            (record { count = count-five counts 3 head head-long n (a .flags) (S .mass) (S .part) l (omega (arith, few)); inside = omega arith }));
         tested =
             subst (λ (m : ℕ). m ≤ badFlag (gridOf (sidesIn rec)) (flagIn rec)) (sym cells-so)
             (le-trans (tests .0) (le-of-eq (ap₂ (λ (z : Sides) (o : List ℕ). badFlag (gridOf z) (flagOf o)) (sym sides-so) (sym flags-so) ∙ same-flags)));
@@ -543,13 +377,13 @@ module _ (s : Sides) (g : Settings) (t : Site) (a : Lent) (fit : Fit s g t a) wh
             subst (λ (j : ℕ). Held rec (massesFrom counts j (cellsIn rec)) (interfacesIn rec) 4) (sym totals-so)
             (subst (λ (m : ℕ). Held rec (massesFrom counts 3 m) (interfacesIn rec) 4) (sym cells-so)
             (subst (λ (i : ℕ). Held rec (massesFrom counts 3 n) i 4) (sym interfaces-so)
-            (record { count = count-six head head-long n (a .flags) (S .mass) (S .part) l (omega (arith, few, few-interfaces)); inside = omega arith })));
+            (record { count = count-six counts 3 head head-long n (a .flags) (S .mass) (S .part) l (omega (arith, few, few-interfaces)); inside = omega arith })));
         parts =
             subst (λ (j : ℕ). Held rec (partsFrom counts j (cellsIn rec) (interfacesIn rec)) (19 * liquidsIn rec) 4) (sym totals-so)
             (subst (λ (m : ℕ). Held rec (partsFrom counts 3 m (interfacesIn rec)) (19 * liquidsIn rec) 4) (sym cells-so)
             (subst (λ (i : ℕ). Held rec (partsFrom counts 3 n i) (19 * liquidsIn rec) 4) (sym interfaces-so)
             (subst (λ (w : ℕ). Held rec (partsFrom counts 3 n I) (19 * w) 4) (sym liquids-so)
-            (record { count = count-seven head head-long n (a .flags) (S .mass) (S .part) l (omega (arith, few, few-liquids)); inside = omega arith }))));
+            (record { count = count-seven counts 3 head head-long n (a .flags) (S .mass) (S .part) l (omega (arith, few, few-liquids)); inside = omega arith }))));
         end = le-of-eq (e ∙ sym (ap₂ (λ (i w : ℕ). lengthOf counts (totalsIn rec) (cellsIn rec) i (19 * w)) interfaces-so liquids-so ∙ ap₂ (λ (j m : ℕ). lengthOf counts j m I (19 * L)) totals-so cells-so));
       }
     where

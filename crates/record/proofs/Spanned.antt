@@ -10,12 +10,15 @@ use denote.Ref.{RefT, now}
 use borrow.Author.Tests.{leb-true, le-leb}
 use Rattle.whole.specs.Bools.{and-right}
 use Rattle.grid.specs.Grid.{sidesGood, cellsOf}
+use Rattle.grid.specs.declared.Answer.{Answer}
+use Rattle.grid.specs.declared.Answer.the-variants.{Done}
 use Rattle.grid.specs.Outcome.{accepted}
 use Rattle.grid.specs.State.{Lent}
 use Rattle.record.specs.declared.Head.{Head}
 use Rattle.record.specs.declared.Span.{Span}
 use Rattle.record.specs.Reading.{sidesIn, flagsAt, cellsIn, flagsIn, readAnswer, readHead, readFlags, flagsFrom}
-use Rattle.record.specs.Promise.{spanOf, Own, Handed}
+use Rattle.record.specs.Bytes.{part}
+use Rattle.record.specs.Promise.{spanBy, spanOf, Own, Handed}
 use Rattle.record.proofs.Shaped.{sound, shape-accepted}
 
 -- a span within n bytes
@@ -23,14 +26,23 @@ pub record Inside (n : ℕ) (p : Span) : Type 0 where
   pub order : p .from ≤ p .to
   pub most : p .to ≤ n
 
-pub span-inside : (r : List ℕ) (h : Head) → Inside (length r) (spanOf r h)
-span-inside r h = go (accepted (h .answer) && sidesGood (h .sides) && leb (flagsAt r + cellsOf (h .sides)) (length r)) refl
+pub span-within : (r : List ℕ) (answer : Answer) (good : Bool) (at n : ℕ) → Inside (length r) (spanBy r answer good at n)
+span-within r answer good at n = go (accepted answer && good && leb (at + n) (length r)) refl
   where
-    go : (t : Bool) → (accepted (h .answer) && sidesGood (h .sides) && leb (flagsAt r + cellsOf (h .sides)) (length r)) ≡ t → Inside (length r) (spanOf r h)
+    go : (t : Bool) → (accepted answer && good && leb (at + n) (length r)) ≡ t → Inside (length r) (spanBy r answer good at n)
     go true e =
-        let l : flagsAt r + cellsOf (h .sides) ≤ length r = leb-true (flagsAt r + cellsOf (h .sides)) (length r) (and-right (accepted (h .answer) && sidesGood (h .sides)) (leb (flagsAt r + cellsOf (h .sides)) (length r)) e) in
+        let l : at + n ≤ length r = leb-true (at + n) (length r) (and-right (accepted answer && good) (leb (at + n) (length r)) e) in
         rw e (record { order = omega arith; most = l })
     go false e = rw e (record { order = zero-le; most = zero-le })
+
+pub span-inside : (r : List ℕ) (h : Head) → Inside (length r) (spanOf r h)
+span-inside r h = span-within r (h .answer) (sidesGood (h .sides)) (flagsAt r) (cellsOf (h .sides))
+
+-- a part that lies within, behind an accepted answer, and the empty one beside a refusal
+pub span-accepted : (r : List ℕ) {good : Bool} (at n : ℕ) → good ≡ true → at + n ≤ length r → let p = spanBy r Done good at n in (take (p .to - p .from) (drop (p .from) r) ≡ part n at r) × (p .from ≡ at)
+span-accepted r at n g h =
+    let m : at + n - at ≡ n = omega arith in
+    rw (g, le-leb (at + n) (length r) h) (ap (λ (k : ℕ). take k (drop at r)) m, refl)
 
 -- ---- the claim: of the reader's own head, the part is the flag section, or empty beside a refusal
 abbrev pub Claim : Type 0
@@ -44,9 +56,7 @@ span-read r a = go (accepted (readAnswer r a)) refl
     go false e = rw (e, e) (refl, refl)
     go true e =
         let k = sound r (length (a .parts)) (length (a .masses)) (length (a .fills)) (length (a .carry)) (shape-accepted r a e) in
-        let l : leb (flagsAt r + cellsOf (sidesIn r)) (length r) ≡ true = le-leb (flagsAt r + cellsOf (sidesIn r)) (length r) (omega (arith, k .flags .inside)) in
-        let m : flagsAt r + cellsOf (sidesIn r) - flagsAt r ≡ cellsOf (sidesIn r) = omega arith in
-        rw (e, k .sides, l) (ap (λ (n : ℕ). take n (drop (flagsAt r) r)) m, refl)
+        rw e (span-accepted r (flagsAt r) (cellsOf (sidesIn r)) (k .sides) (omega (arith, k .flags .inside)))
 
 -- the part that belongs to the reader's own head is what the reader is to hand back
 pub handed : (s : RefT (List ℕ)) (a : Lent) (h : Head) (f : RefT (List ℕ)) → h ≡ readHead (now s) a → Own s (spanOf (now s) h) f → Handed s a f

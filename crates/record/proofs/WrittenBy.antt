@@ -32,7 +32,7 @@ use Rattle.pumps.proofs.Checked.{carry-three, head-sized}
 use Rattle.record.specs.declared.Site.{Site}
 use Rattle.record.specs.declared.Written.{Written}
 use Rattle.record.specs.Layout.{siteGood, Small, recordOf, recordLength}
-use Rattle.record.specs.Writing.{writeAnswer, written, writtenRoom}
+use Rattle.record.specs.Writing.{roomTest, writtenOn, roomOn, writeAnswer, written, writtenRoom}
 use Rattle.record.specs.Promise.{Wrote}
 use Rattle.record.proofs.Answers.{Chain, chain-or, chain-both, chain-then, or-true, or-pass, or-fail}
 use Rattle.record.proofs.Assembled.{length-record, front-put}
@@ -65,8 +65,41 @@ small g t e =
       edge = low 1000 (t .edge) (and-right S E se) (omega arith);
     }
 
+-- ---- over any tests F in a row, and test 12 behind them
+pub record WroteOn (answer : Answer) (rec : List ℕ) (long : ℕ) (room : List ℕ) (w : Written) (after : List ℕ) : Type 0 where
+  pub answer-so : w ≡ writtenOn answer long
+  pub room-so : after ≡ roomOn answer rec long room
+
+module _ (F : Answer → Answer) (chain : Chain F) (rec : List ℕ) (long : ℕ) (room : List ℕ) where
+  -- refused by a test, or for want of room: nothing is written
+  refused : (x : Answer) → x ≡ F (roomTest long room) → accepted x ≡ false → WroteOn (F (roomTest long room)) rec long room (record { answer = x; bytes = 0 }) room
+  refused x e f =
+      let no : accepted (F (roomTest long room)) ≡ false = sym (ap accepted e) ∙ f in
+      record {
+        answer-so = ap (λ (y : Answer). record { answer = y; bytes = 0 }) e ∙ rw no refl;
+        room-so = rw no refl;
+      }
+
+  pub refused-on : (x : Answer) → x ≡ F Done → accepted x ≡ false → WroteOn (F (roomTest long room)) rec long room (record { answer = x; bytes = 0 }) room
+  refused-on x e f = refused x (e ∙ sym (chain .refuses (sym (ap accepted e) ∙ f) (roomTest long room))) f
+
+  pub short-on : (n : ℕ) → n ≡ long → accepted (F Done) ≡ true → length room < n → WroteOn (F (roomTest long room)) rec long room (record { answer = Refused 12 n; bytes = 0 }) room
+  short-on n is ok h =
+      refused (Refused 12 n)
+      (ap (Refused 12) is ∙ sym (chain .passes ok (roomTest long room) ∙ or-fail 12 long Done (lt-leb long (length room) (omega arith))))
+      refl
+
+  pub done-on : (n : ℕ) (after : List ℕ) → n ≡ long → length rec ≡ long → accepted (F Done) ≡ true → n ≤ length room → after ≡ sets room 0 rec
+      → WroteOn (F (roomTest long room)) rec long room (record { answer = Done; bytes = n }) after
+  done-on n after is size ok h e =
+      let done : F (roomTest long room) ≡ Done = chain .passes ok (roomTest long room) ∙ or-pass 12 long Done (le-leb long (length room) (omega arith)) in
+      record {
+        answer-so = rw done (ap (λ (k : ℕ). record { answer = Done; bytes = k }) is);
+        room-so = rw done (e ∙ front-put room rec (omega arith) ∙ ap (λ (k : ℕ). rec ++ drop k room) size);
+      }
+
 -- ---- tests 1 to 6 in a row
-chain-good : (L : Lattice) (G : Grid) (s : State) → Chain (goodAnswer L G s)
+pub chain-good : (L : Lattice) (G : Grid) (s : State) → Chain (goodAnswer L G s)
 unfolding goodAnswer
 chain-good L G s =
     let n = G .cells in
@@ -128,42 +161,27 @@ module _ (s : Sides) (g : Settings) (t : Site) (a : Lent) where
 
   module _ (room : List ℕ) where
     abbrev last : Answer
-    last = orRefuse (leb (recordLength s a) (length room)) 12 (recordLength s a) Done
+    last = roomTest (recordLength s a) room
 
     answer-is : writeAnswer s g t a room ≡ fits last
     unfolding writeAnswer
     answer-is = refl
 
-    -- refused by a test, or for want of room: nothing is written
-    refused : (x : Answer) → x ≡ writeAnswer s g t a room → accepted x ≡ false → Wrote s g t a room (record { answer = x; bytes = 0 }) room
-    unfolding written writtenRoom
-    refused x e f =
-        let no : accepted (writeAnswer s g t a room) ≡ false = sym (ap accepted e) ∙ f in
-        record {
-          answer-is = ap (λ (y : Answer). record { answer = y; bytes = 0 }) e ∙ rw no refl;
-          room-is = rw no refl;
-        }
+    -- refused by a test or for want of room, or written
+    wrote : {w : Written} {after : List ℕ} → WroteOn (fits last) (recordOf s g t a) (recordLength s a) room w after → Wrote s g t a room w after
+    unfolding written writtenRoom writeAnswer
+    wrote p = record { answer-is = p .answer-so; room-is = p .room-so }
 
     pub write-refused : (x : Answer) → x ≡ fits Done → accepted x ≡ false → Wrote s g t a room (record { answer = x; bytes = 0 }) room
-    write-refused x e f = refused x (e ∙ sym (answer-is ∙ chain-fits .refuses (sym (ap accepted e) ∙ f) last)) f
+    write-refused x e f = wrote (refused-on fits chain-fits (recordOf s g t a) (recordLength s a) room x e f)
 
     pub write-short : (n : ℕ) → n ≡ recordLength s a → accepted (fits Done) ≡ true → length room < n → Wrote s g t a room (record { answer = Refused 12 n; bytes = 0 }) room
-    write-short n is ok h =
-        refused (Refused 12 n)
-        (ap (Refused 12) is
-        ∙ sym (answer-is ∙ chain-fits .passes ok last ∙ or-fail 12 (recordLength s a) Done (lt-leb (recordLength s a) (length room) (omega arith))))
-        refl
+    write-short n is ok h = wrote (short-on fits chain-fits (recordOf s g t a) (recordLength s a) room n is ok h)
 
     pub write-done : (n : ℕ) (after : List ℕ) → n ≡ recordLength s a → accepted (fits Done) ≡ true → n ≤ length room → after ≡ sets room 0 (recordOf s g t a)
         → Wrote s g t a room (record { answer = Done; bytes = n }) after
-    unfolding written writtenRoom
     write-done n after is ok h e =
-        let long : length (recordOf s g t a) ≡ recordLength s a = length-record s g t a (fit ok .lengths .flags) in
-        let done : writeAnswer s g t a room ≡ Done = answer-is ∙ chain-fits .passes ok last ∙ or-pass 12 (recordLength s a) Done (le-leb (recordLength s a) (length room) (omega arith)) in
-        record {
-          answer-is = rw done (ap (λ (k : ℕ). record { answer = Done; bytes = k }) is);
-          room-is = rw done (e ∙ front-put room (recordOf s g t a) (omega arith) ∙ ap (λ (k : ℕ). recordOf s g t a ++ drop k room) long);
-        }
+        wrote (done-on fits chain-fits (recordOf s g t a) (recordLength s a) room n after is (length-record s g t a (fit ok .lengths .flags)) ok h e)
 
     -- what an accepted write has shown
     pub write-fit : writeAnswer s g t a room ≡ Done → Fit

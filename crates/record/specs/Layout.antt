@@ -37,12 +37,18 @@ section n numbers = u32Of n ++ join numbers
 unfoldable pub massBytes : ℕ → (ℕ → ℕ) → (ℕ → ℤ) → List ℕ
 massBytes n flag mass = gathered n (λ c. byFlag (flag c) [] (i32Of (mass c)) [] [])
 
--- parts of liquid cells by cell number, 19 each
-unfoldable pub cellBytes : (ℕ → ℤ) → List ℕ
-cellBytes part = gathered 19 (λ k. i32Of (part k))
+-- parts of liquid cells by cell number, so many each, and in the box 19
+unfoldable pub cellNumbers : ℕ → (ℕ → ℤ) → List ℕ
+cellNumbers w part = gathered w (λ k. i32Of (part k))
 
-unfoldable pub partBytes : ℕ → (ℕ → ℕ) → (ℕ → ℕ → ℤ) → List ℕ
-partBytes n flag part = gathered n (λ c. byFlag (flag c) [] (cellBytes (part c)) (cellBytes (part c)) [])
+unfoldable pub partNumbers : ℕ → ℕ → (ℕ → ℕ) → (ℕ → ℕ → ℤ) → List ℕ
+partNumbers w n flag part = gathered n (λ c. byFlag (flag c) [] (cellNumbers w (part c)) (cellNumbers w (part c)) [])
+
+abbrev pub cellBytes : (ℕ → ℤ) → List ℕ
+cellBytes = cellNumbers 19
+
+abbrev pub partBytes : ℕ → (ℕ → ℕ) → (ℕ → ℕ → ℤ) → List ℕ
+partBytes = partNumbers 19
 
 -- sections 1 to 3: 3 sides (u32); 5 settings p, gx, gy, gz, edge (i32); 3 origin (i64)
 unfoldable pub siteBytes : Sides → Settings → Site → List ℕ
@@ -60,14 +66,17 @@ totalsBytes carry poured taken = section 3 (i64Of carry ∷ i64Of poured ∷ i64
 unfoldable pub headBytes : Sides → Settings → Site → ℤ → ℤ → ℤ → List ℕ
 headBytes s g t carry poured taken = siteBytes s g t ++ totalsBytes carry poured taken
 
--- sections 5 to 7: N flags (u8); interface masses; parts of liquid cells
-unfoldable pub cellsBytes : ℕ → List ℕ → (ℕ → ℤ) → (ℕ → ℕ → ℤ) → List ℕ
-cellsBytes n flags mass part =
+-- sections 5 to 7: N flags (u8); interface masses; parts of liquid cells, so many each, and in the box 19
+unfoldable pub cellSections : ℕ → ℕ → List ℕ → (ℕ → ℤ) → (ℕ → ℕ → ℤ) → List ℕ
+cellSections w n flags mass part =
     join (
     section n (flags ∷ [])
     ∷ section (interfaces n (flagOf flags)) (massBytes n (flagOf flags) mass ∷ [])
-    ∷ section (19 * liquids n (flagOf flags)) (partBytes n (flagOf flags) part ∷ [])
+    ∷ section (w * liquids n (flagOf flags)) (partNumbers w n (flagOf flags) part ∷ [])
     ∷ [])
+
+abbrev pub cellsBytes : ℕ → List ℕ → (ℕ → ℤ) → (ℕ → ℕ → ℤ) → List ℕ
+cellsBytes = cellSections 19
 
 -- the record of a grid
 unfoldable pub recordOf : Sides → Settings → Site → Lent → List ℕ
@@ -89,5 +98,5 @@ pub record Small (g : Settings) (t : Site) : Type 0 where
 
 -- names every definition of this file: whoever unfolds this computes with all of them
 unfoldable pub open-layout : Unit {0}
-unfolding siteGood interfaces liquids massBytes cellBytes partBytes siteBytes totalsBytes headBytes cellsBytes recordOf recordLength
+unfolding siteGood interfaces liquids massBytes cellNumbers partNumbers siteBytes totalsBytes headBytes cellSections recordOf recordLength
 open-layout = tt

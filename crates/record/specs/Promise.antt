@@ -10,6 +10,7 @@ use lib.ListN.{length, take, drop}
 use Rattle.lattice.specs.declared.Settings.{Settings}
 use Rattle.grid.specs.declared.Sides.{Sides}
 use Rattle.grid.specs.Grid.{sidesGood, cellsOf}
+use Rattle.grid.specs.declared.Answer.{Answer}
 use Rattle.grid.specs.Outcome.{accepted}
 use Rattle.grid.specs.State.{Lent}
 use Rattle.record.specs.declared.Site.{Site}
@@ -33,9 +34,11 @@ pub record Read (r : List ℕ) (a : Lent) (head : Head) (parts masses : List ℤ
 
 -- where the flag section of a head stands in a record's bytes, by the record's own count of section 4; the part that a refusal, or a head of another
 -- record, hands back is empty
+abbrev pub spanBy : List ℕ → Answer → Bool → ℕ → ℕ → Span
+spanBy r answer good at n = cond (accepted answer && good && leb (at + n) (length r)) (record { from = at; to = at + n }) (record { from = 0; to = 0 })
+
 abbrev pub spanOf : List ℕ → Head → Span
-spanOf r h =
-    cond (accepted (h .answer) && sidesGood (h .sides) && leb (flagsAt r + cellsOf (h .sides)) (length r)) (record { from = flagsAt r; to = flagsAt r + cellsOf (h .sides) }) (record { from = 0; to = 0 })
+spanOf r h = spanBy r (h .answer) (sidesGood (h .sides)) (flagsAt r) (cellsOf (h .sides))
 
 -- r is that part of the caller's bytes s, and no copy: it stands in the memory of s
 pub record Own (s : RefT (List ℕ)) (p : Span) (r : RefT (List ℕ)) : Type 0 where

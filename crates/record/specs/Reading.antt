@@ -5,7 +5,7 @@ use mathlib.Core.List.{List, [], _∷_}
 use lib.IntN.{ℤ, pos}
 use lib.Dec.{leb, eqb}
 use lib.ListN.{length}
-use Rattle.lattice.specs.Lattice.{density, d3q19}
+use Rattle.lattice.specs.Lattice.{Lattice, density, d3q19}
 use Rattle.lattice.specs.declared.Settings.{Settings}
 use Rattle.grid.specs.declared.Sides.{Sides}
 use Rattle.grid.specs.declared.Answer.{Answer}
@@ -20,10 +20,50 @@ use Rattle.pumps.specs.Three.{withTotals, totalsGood}
 use Rattle.record.specs.declared.Site.{Site}
 use Rattle.record.specs.declared.Head.{Head}
 use Rattle.record.specs.Bytes.{part, u32At, i32At, i64At}
+use Rattle.record.specs.declared.Counts.{Counts}
 use Rattle.record.specs.Places.{past, counts, settingsFrom, originFrom, totalsFrom, cellsFrom, massesFrom, partsFrom}
 use Rattle.record.specs.Layout.{siteGood, interfaces, liquids}
 
--- ---- what the sections hold, were they whole
+-- ---- over any counts: what sections 6 and 7 hold, were they whole, of n cells with these flags behind k numbers in section 4
+module _ (K : Counts) (k n : ℕ) (flag : ℕ → ℕ) (r : List ℕ) where
+  -- section 6: interface masses by cell number, so a cell's is past those of the interface cells before it
+  abbrev pub massRead : ℕ → ℤ
+  massRead c = i32At r (massesFrom K k n + 4 + 4 * interfaces c flag)
+
+  -- section 7: parts of liquid cells by cell number, so many each, behind i interface masses
+  abbrev pub partRead : ℕ → ℕ → ℕ → ℤ
+  partRead i c j = i32At r (partsFrom K k n i + 4 + 4 * (K .parts * liquids c flag + j))
+
+-- the state by its flags: parts of wall and empty cells 0, fluid mass = ρ, fills worked out
+module _ (flag : ℕ → ℕ) where
+  abbrev pub partsBy : (ℕ → ℕ → ℤ) → ℕ → ℕ → ℤ
+  partsBy part c j = byFlag (flag c) (pos 0) (part c j) (part c j) (pos 0)
+
+  module _ (L : Lattice) (part : ℕ → ℕ → ℤ) where
+    abbrev pub massesBy : (ℕ → ℤ) → ℕ → ℤ
+    massesBy mass c = byFlag (flag c) (pos 0) (mass c) (density L (part c)) (pos 0)
+
+    abbrev pub stateBy : (ℕ → ℤ) → ℤ → State
+    stateBy mass carry = record {
+      flag = flag;
+      part = part;
+      mass = mass;
+      fill = λ c. fillFor (flag c) (mass c) (density L (part c));
+      carry = carry;
+    }
+
+-- the whole of it, of n cells with these flags
+module _ (L : Lattice) (K : Counts) (k n : ℕ) (flags r : List ℕ) where
+  abbrev pub partsRead : ℕ → ℕ → ℤ
+  partsRead = partsBy (flagOf flags) (partRead K k n (flagOf flags) r (interfaces n (flagOf flags)))
+
+  abbrev pub massesRead : ℕ → ℤ
+  massesRead = massesBy (flagOf flags) L partsRead (massRead K k n (flagOf flags) r)
+
+  abbrev pub stateRead : ℤ → State
+  stateRead carry = stateBy (flagOf flags) L partsRead massesRead carry
+
+-- ---- what the sections of the grid record hold, were they whole
 
 -- number i of sections 1 to 4: sides, settings, origin, totals
 abbrev sideAt : List ℕ → ℕ → ℕ
@@ -83,29 +123,21 @@ interfacesIn r = interfaces (cellsIn r) (flagIn r)
 unfoldable pub liquidsIn : List ℕ → ℕ
 liquidsIn r = liquids (cellsIn r) (flagIn r)
 
--- section 6: interface masses by cell number, so a cell's is past those of the interface cells before it
+-- sections 6 and 7, and the state
 unfoldable pub massAt : List ℕ → ℕ → ℤ
-massAt r c = i32At r (massesFrom counts (totalsIn r) (cellsIn r) + 4 + 4 * interfaces c (flagIn r))
+massAt r c = massRead counts (totalsIn r) (cellsIn r) (flagIn r) r c
 
--- section 7: parts of liquid cells by cell number, 19 each
 unfoldable pub partAt : List ℕ → ℕ → ℕ → ℤ
-partAt r c k = i32At r (partsFrom counts (totalsIn r) (cellsIn r) (interfacesIn r) + 4 + 4 * (19 * liquids c (flagIn r) + k))
+partAt r c k = partRead counts (totalsIn r) (cellsIn r) (flagIn r) r (interfacesIn r) c k
 
--- the state: parts of wall and empty cells 0, fluid mass = ρ, fills worked out
 unfoldable pub partIn : List ℕ → ℕ → ℕ → ℤ
-partIn r c k = byFlag (flagIn r c) (pos 0) (partAt r c k) (partAt r c k) (pos 0)
+partIn r c k = partsBy (flagIn r) (partAt r) c k
 
 unfoldable pub massIn : List ℕ → ℕ → ℤ
-massIn r c = byFlag (flagIn r c) (pos 0) (massAt r c) (density d3q19 (partIn r c)) (pos 0)
+massIn r c = massesBy (flagIn r) d3q19 (partIn r) (massAt r) c
 
 unfoldable pub stateIn : List ℕ → State
-stateIn r = record {
-  flag = flagIn r;
-  part = partIn r;
-  mass = massIn r;
-  fill = λ c. fillFor (flagIn r c) (massIn r c) (density d3q19 (partIn r c));
-  carry = carryIn r;
-}
+stateIn r = stateBy (flagIn r) d3q19 (partIn r) (massIn r) (carryIn r)
 
 -- and the set that holds it, with poured and taken
 abbrev pub setIn : List ℕ → Lent
@@ -120,37 +152,51 @@ whole r number from n size rest =
     (orRefuse (eqb (u32At r from) n) 11 number
     (orRefuse (leb (from + 4 + size * n) (length r)) 10 from rest))
 
--- sections 6 and 7 of i masses and 19l parts, from the byte where section 6 begins, and that nothing follows
-abbrev pub ends : List ℕ → ℕ → ℕ → ℕ → Answer → Answer
-ends r from i l rest =
+-- sections 6 and 7 of i masses and m parts, from the byte where section 6 begins, and that nothing follows
+abbrev pub endsOn : List ℕ → ℕ → ℕ → ℕ → Answer → Answer
+endsOn r from i m rest =
     let parts = past from 4 i in
-    let end = past parts 4 (19 * l) in
+    let end = past parts 4 m in
     whole r 6 from i 4
-    (whole r 7 parts (19 * l) 4
+    (whole r 7 parts m 4
     (orRefuse (leb (length r) end) 10 end rest))
+
+-- all sections over any counts, of k numbers in section 4, n flags, i masses and m parts: after section 1 test 1 of the sides and 2 of the slices, after
+-- section 5 test 4, the lowest bad flag at `bad`, and left-over bytes after section 7
+abbrev pub opensOn : List ℕ → Counts → Bool → Bool → Answer → Answer
+opensOn r K sides fit rest = whole r 1 0 (K .sides) 4 (orRefuse sides 1 0 (orRefuse fit 2 0 rest))
+
+abbrev pub frontsOn : List ℕ → Counts → ℕ → ℕ → Answer → Answer
+frontsOn r K k n rest =
+    whole r 2 (settingsFrom K) (K .settings) 4
+    (whole r 3 (originFrom K) (K .origin) 8
+    (whole r 4 (totalsFrom K) k 8
+    (whole r 5 (cellsFrom K k) n 1 rest)))
+
+abbrev pub shapesOn : List ℕ → Counts → ℕ → ℕ → ℕ → ℕ → Bool → Bool → ℕ → Answer → Answer
+shapesOn r K k n i m sides fit bad rest = opensOn r K sides fit (frontsOn r K k n (ifNone n 4 bad (endsOn r (massesFrom K k n) i m rest)))
+
+-- 19 parts a cell
+abbrev pub ends : List ℕ → ℕ → ℕ → ℕ → Answer → Answer
+ends r from i l rest = endsOn r from i (19 * l) rest
 
 -- where they begin in a record
 abbrev pub behindFlags : List ℕ → ℕ
 behindFlags r = massesFrom counts (totalsIn r) (cellsIn r)
 
 -- test 2, by the lengths of parts, masses, fills and carry: the reader's set lacks the flags
-unfoldable pub slicesFit : ℕ → ℕ → ℕ → ℕ → ℕ → Bool
-slicesFit n parts masses fills carry = eqb parts (19 * n) && eqb masses n && eqb fills n && eqb carry 3
+abbrev pub slicesOf : ℕ → ℕ → ℕ → ℕ → ℕ → ℕ → ℕ → Bool
+slicesOf w k n parts masses fills carry = eqb parts (w * n) && eqb masses n && eqb fills n && eqb carry k
 
--- the sections, after section 1 test 1 and 2, after section 5 test 4, and left-over bytes after section 7
+unfoldable pub slicesFit : ℕ → ℕ → ℕ → ℕ → ℕ → Bool
+slicesFit n parts masses fills carry = slicesOf 19 3 n parts masses fills carry
+
+-- the sections and their tests
 unfoldable pub shapeAnswer : List ℕ → ℕ → ℕ → ℕ → ℕ → Answer → Answer
 shapeAnswer r parts masses fills carry rest =
-    let k = totalsIn r in
     let n = cellsIn r in
-    whole r 1 0 (counts .sides) 4
-    (orRefuse (sidesGood (sidesIn r)) 1 0
-    (orRefuse (slicesFit n parts masses fills carry) 2 0
-    (whole r 2 (settingsFrom counts) (counts .settings) 4
-    (whole r 3 (originFrom counts) (counts .origin) 8
-    (whole r 4 (totalsFrom counts) k 8
-    (whole r 5 (cellsFrom counts k) n 1
-    (ifNone n 4 (badFlag (gridOf (sidesIn r)) (flagIn r))
-    (ends r (behindFlags r) (interfacesIn r) (liquidsIn r) rest))))))))
+    shapesOn r counts (totalsIn r) n (interfacesIn r) (19 * liquidsIn r) (sidesGood (sidesIn r)) (slicesFit n parts masses fills carry)
+    (badFlag (gridOf (sidesIn r)) (flagIn r)) rest
 
 -- then 3, 5, 6, and of poured and taken 6 at N
 unfoldable pub contentAnswer : List ℕ → Answer

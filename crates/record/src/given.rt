@@ -22,16 +22,16 @@ ghost use Rattle.grid.specs.Outcome.{orRefuse};
 ghost use Rattle.grid.specs.declared.Answer.the-variants.{Done};
 ghost use Rattle.record.specs.Bytes.{u32At, i32At};
 ghost use Rattle.record.specs.Layout.{siteGood};
-ghost use Rattle.record.specs.Reading.{sidesIn, settingsIn, siteIn, cellsIn, whole, slicesFit};
+ghost use Rattle.record.specs.Reading.{sidesIn, settingsIn, siteIn, cellsIn, whole, slicesOf, slicesFit};
 
-fn side_at(rec: &[u8], at: usize) -> usize
+pub fn side_at(rec: &[u8], at: usize) -> usize
     requires { ⌜ at + 4 ≤ length (now rec) ⌝ }
     ensures { λ r. ⌜ r ≡ u32At (now (rec .entry)) at ⌝ }
 {
     u32_at(rec, at) as usize
 }
 
-fn setting_at(rec: &[u8], at: usize) -> i64
+pub fn setting_at(rec: &[u8], at: usize) -> i64
     requires { ⌜ at + 4 ≤ length (now rec) ⌝ }
     ensures { λ r. ⌜ r ≡ i32At (now (rec .entry)) at ⌝ }
 {
@@ -107,11 +107,21 @@ pub fn good_site(g: Settings, t: Site) -> bool
         & good_coordinate(t.z)
 }
 
-fn slices_fit(n: usize, parts: usize, masses: usize, fills: usize, carry: usize) -> bool
+// Test 2 of n cells with w parts each, and k numbers in the carry's slice.
+pub fn slices_fit(
+    w: usize,
+    k: usize,
+    n: usize,
+    parts: usize,
+    masses: usize,
+    fills: usize,
+    carry: usize,
+) -> bool
+    requires { ⌜ w ≤ 19 ⌝ }
     requires { ⌜ n ≤ 262144 ⌝ }
-    ensures { λ r. ⌜ r ≡ slicesFit n parts masses fills carry ⌝ }
+    ensures { λ r. ⌜ r ≡ slicesOf w k n parts masses fills carry ⌝ }
 {
-    (parts == 19 * n) & (masses == n) & (fills == n) & (carry == 3)
+    (parts == w * n) & (masses == n) & (fills == n) & (carry == k)
 }
 
 // Section 1, then tests 1 and 2.
@@ -126,7 +136,7 @@ pub fn opening(rec: &[u8], parts: usize, masses: usize, fills: usize, carry: usi
     if !good_sides(s) {
         return Answer::Refused(1, 0);
     }
-    if !slices_fit(cells(s), parts, masses, fills, carry) {
+    if !slices_fit(19, 3, cells(s), parts, masses, fills, carry) {
         return Answer::Refused(2, 0);
     }
     Answer::Done

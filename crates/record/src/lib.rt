@@ -10,6 +10,14 @@ use grid::Answer;
 use grid::Sides;
 use lattice::Settings;
 
+// How many numbers sections 1 to 3 hold, and how many of section 7 a liquid cell has.
+pub struct Counts {
+    pub sides: usize,
+    pub settings: usize,
+    pub origin: usize,
+    pub parts: usize,
+}
+
 // Where a grid stands: the edge of a cell and the origin, in millimetres.
 pub struct Site {
     pub edge: i64,

@@ -14,7 +14,7 @@ fn word(a: u8, b: u8, c: u8, d: u8) -> u32
     a as u32 + 256 * (b as u32 + 256 * (c as u32 + 256 * (d as u32)))
 }
 
-pub(crate) fn u32_at(s: &[u8], at: usize) -> u32
+pub fn u32_at(s: &[u8], at: usize) -> u32
     requires { ⌜ at + 4 ≤ length (now s) ⌝ }
     ensures { λ r. ⌜ r ≡ u32At (now (s .entry)) at ⌝ }
 {

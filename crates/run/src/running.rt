@@ -74,7 +74,7 @@ fn turn(
 }
 
 // Both sets become the one that holds the state.
-fn evened(
+pub fn evened(
     flags: &mut [u8],
     parts: &mut [i32],
     mass: &mut [i32],

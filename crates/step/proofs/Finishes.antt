@@ -1,50 +1,45 @@
--- From what each pass of a step leaves to what the next one asks, and from the last one to the outcome's definition. Assumes nothing.
+-- From what each pass of the box's step leaves to what the next one asks, and from the last one to the outcome's definition. Assumes nothing.
 use mathlib.Core.Path.{_≡_, refl, sym, ap, _∙_, subst}
 use mathlib.Core.Bool.{Bool, true, false, _&&_, cond, false≢true}
 use mathlib.Core.List.{List}
-use Prim.Native.Nat.{ℕ, zero, suc, _*_, _/_, _%_, _≤_, _<_}
+use Prim.Native.Nat.{ℕ, suc, _*_, _/_, _%_, _≤_, _<_}
 use lib.IntN.{ℤ}
-use lib.ListN.{length, getD, replicate, length-replicate}
+use lib.ListN.{length, replicate, length-replicate}
 use Rattle.whole.specs.Bools.{and-left, and-right}
-use Rattle.whole.specs.Fold.{tab, all, first}
+use Rattle.whole.specs.Fold.{tab, first}
 use Rattle.whole.specs.Tab.{length-tab}
-use Rattle.lattice.specs.Lattice.{dot, density, momentum, d3q19}
-use Rattle.lattice.specs.Cell.{partGood, dense, slow, massGood}
+use Rattle.lattice.specs.Lattice.{d3q19}
+use Rattle.lattice.specs.Body.{bodyGood}
 use Rattle.lattice.specs.declared.Settings.{Settings}
 use Rattle.grid.specs.declared.Sides.{Sides}
 use Rattle.grid.specs.declared.Answer.{Answer}
 use Rattle.grid.specs.declared.Answer.the-variants.{Done, Refused}
 use Rattle.grid.specs.Fill.{partOf}
-use Rattle.grid.specs.Grid.{cellsOf, gridOf, box}
+use Rattle.grid.specs.Grid.{cellsOf}
 use Rattle.grid.specs.State.{Lent, Scene, liquid, stateOf, lentOf}
-use Rattle.grid.specs.Step.{flagAt, flagAfter, newDensity, tooFast, collided, filled, emptied, besideFilled, besideEmptied, newFlag, newPart, newMass, newFill, next}
+use Rattle.grid.specs.Step.{flagAt, tooFast, collided, newFlag, newPart, newMass, newFill, next}
 use Rattle.grid.specs.Good.{badRule}
-use Rattle.lattice.specs.Body.{bodyGood}
-use Rattle.grid.specs.Outcome.{accepted, ifNone, goodAnswer, moveAnswer, sceneOf, nextOf}
-use Rattle.grid.specs.Between.{Sized, Ready, Poised, uncarried, movedPart, movedMass, firstMark}
+use Rattle.grid.specs.Outcome.{accepted, ifNone, moveAnswer, sceneOf, nextOf}
+use Rattle.grid.specs.Between.{Sized, Ready, uncarried, movedPart, movedMass, firstMark}
 use Rattle.grid.specs.Halfway.{Alike, Moved, Turning, Turned, Stepping, Advanced}
-use Rattle.grid.specs.Passes.{Flagged, openedMark}
-use Rattle.grid.proofs.Accepted.{none-found, skip}
-use Rattle.grid.proofs.Accurate.{stays}
-use Rattle.grid.proofs.Box.{grid-laid}
-use Rattle.grid.proofs.Checks.{stop}
-use Rattle.grid.proofs.Dense.{newborn-cases}
-use Rattle.grid.proofs.Fair.{Fair, fair-holds}
-use Rattle.grid.proofs.Listed.{same-listed, lengths-listed}
+use Rattle.grid.specs.Passes.{lowOf, offsetOf, openedBy, openedMark}
+use Rattle.grid.proofs.Beside.{Offsets}
+use Rattle.grid.proofs.Listed.{lengths-listed}
 use Rattle.grid.proofs.Prepared.{sized}
-use Rattle.grid.proofs.Same.{body-same, bad-rule-same}
 use Rattle.flow.specs.declared.passing.Passed.{Passed}
 use Rattle.flow.specs.declared.passing.Passed.the-variants.{Stopped, Through}
 use Rattle.flow.specs.Flowed.{Flowable, Went, stopped, through, Flowed}
+use Rattle.flow.proofs.Marking.{opened-box}
 use Rattle.flow.proofs.Poise.{poised}
+use Rattle.flow.proofs.Walked.{moved-list}
 use Rattle.turn.specs.Filled.{Fillable, Refilled}
-use Rattle.turn.proofs.Amounts.{new-dense}
-use Rattle.turn.proofs.Field.{fieldOf, standing}
-use Rattle.turn.proofs.Converts.{ready-poised}
+use Rattle.turn.proofs.Field.{fieldOf, Sound}
+use Rattle.turn.proofs.Converts.{ready-field, moved-parts, turned-parts}
 use Rattle.step.specs.Finished.{Finishing, Finished, Tried}
 use Rattle.step.proofs.Opened.{open-fluid, open-near}
-use Rattle.step.proofs.Refills.{fillable, fills-next, masses-fair}
-use Rattle.step.proofs.Uncarried.{fast-is, collided-is, moved-part-is, moved-mass-is, first-mark-is}
+use Rattle.step.proofs.Refills.{fills-weighty}
+use Rattle.step.proofs.Tests
+use Rattle.step.proofs.Uncarried
 
 -- what pass 1 answered
 abbrev is-stopped : Passed → Bool
@@ -85,80 +80,64 @@ module _ (s : Sides) (g : Settings) (a : Lent) where
   abbrev U : Scene
   U = sceneOf s g (uncarried (a .flags) (a .parts) (a .masses) (a .fills))
 
-  fast-carried : tooFast U ≡ tooFast S
-  unfolding sceneOf stateOf
-  fast-carried = fast-is (S .lat) (S .grid) (S .old .flag) (S .old .part) (S .old .mass) (S .old .fill) (S .g) (S .relax) (U .old .carry) (S .old .carry)
-
-  collided-carried : collided U ≡ collided S
-  unfolding sceneOf stateOf
-  collided-carried = collided-is (S .lat) (S .grid) (S .old .flag) (S .old .part) (S .old .mass) (S .old .fill) (S .g) (S .relax) (U .old .carry) (S .old .carry)
-
-  part-carried : movedPart U ≡ movedPart S
-  unfolding sceneOf stateOf
-  part-carried = moved-part-is (S .lat) (S .grid) (S .old .flag) (S .old .part) (S .old .mass) (S .old .fill) (S .g) (S .relax) (U .old .carry) (S .old .carry)
-
-  mass-carried : movedMass U ≡ movedMass S
-  unfolding sceneOf stateOf
-  mass-carried = moved-mass-is (S .lat) (S .grid) (S .old .flag) (S .old .part) (S .old .mass) (S .old .fill) (S .g) (S .relax) (U .old .carry) (S .old .carry)
-
-  mark-carried : firstMark U ≡ firstMark S
-  unfolding sceneOf stateOf
-  mark-carried = first-mark-is (S .lat) (S .grid) (S .old .flag) (S .old .part) (S .old .mass) (S .old .fill) (S .g) (S .relax) (U .old .carry) (S .old .carry)
-
   -- ---- pass 1
   pub moved-carried : {parts masses : List ℤ} {marks : List ℕ} {fair still : Bool} → Moved U (cellsOf s) parts masses marks fair still → Moved S (cellsOf s) parts masses marks fair still
   unfolding sceneOf stateOf
-  moved-carried m = record {
-    steady = subst (λ (f : ℕ → Bool). cellsOf s ≤ first (cellsOf s) f) fast-carried (m .steady);
-    parts-are = m .parts-are ∙ ap (λ (f : ℕ → ℕ → ℤ). tab (19 * cellsOf s) (λ m. f (m / 19) (m % 19))) part-carried;
-    masses-are = m .masses-are ∙ ap (tab (cellsOf s)) mass-carried;
-    marks-are = m .marks-are ∙ ap (tab (cellsOf s)) mark-carried;
-    fair-tells = λ e c h l. sym (ap (λ (f : ℕ → ℕ → ℤ). bodyGood d3q19 (f c)) collided-carried) ∙ m .fair-tells e c h l;
-    still-tells = λ e c h. sym (ap (λ (f : ℕ → ℕ). f c) mark-carried) ∙ m .still-tells e c h;
-  }
+  moved-carried m =
+      moved-list (ap length (m .parts-are) ∙ length-tab (19 * cellsOf s) (λ j. movedPart U (j / 19) (j % 19)))
+      (Uncarried.moved-carried (S .lat) (S .grid) (S .old .flag) (S .old .part) (S .old .mass) (S .old .fill) (S .g) (S .relax) (U .old .carry) (S .old .carry) (moved-parts m))
 
-  -- a cell that is too fast: refusal 7 there
-  pub stopped-answer : {c : ℕ} → c < cellsOf s → first (cellsOf s) (tooFast U) ≡ c → Refused 7 c ≡ moveAnswer S
-  unfolding moveAnswer sceneOf gridOf box cellsOf
-  stopped-answer {c} h e =
-      let f : first (cellsOf s) (tooFast S) ≡ c = sym (ap (first (cellsOf s)) fast-carried) ∙ e in
-      sym (stop (cellsOf s) 7 (first (cellsOf s) (tooFast S)) (ifNone (suc (cellsOf s)) 8 (badRule d3q19 (cellsOf s) (next S)) Done) (subst (λ (n : ℕ). n < cellsOf s) (sym f) h) ∙ ap (Refused 7) f)
+  fast-carried : tooFast U ≡ tooFast S
+  unfolding sceneOf stateOf
+  fast-carried = Uncarried.fast-is (S .lat) (S .grid) (S .old .flag) (S .old .part) (S .old .mass) (S .old .fill) (S .g) (S .relax) (U .old .carry) (S .old .carry)
 
   module _ (r : Ready s g a) where
-    flagged : Flagged s (a .flags)
-    unfolding goodAnswer gridOf box cellsOf stateOf
-    flagged = record { sides = r .sides; count = r .sized .flags; tested = none-found (gridOf s .cells) 4 _ _ (r .good) .0 }
+    field : Sound (fieldOf s g a)
+    field = ready-field s g a r
+
+    -- a cell that is too fast: refusal 7 there
+    pub stopped-answer : {c : ℕ} → c < cellsOf s → first (cellsOf s) (tooFast U) ≡ c → Refused 7 c ≡ moveAnswer S
+    unfolding sceneOf stateOf
+    stopped-answer h e = Tests.stopped-answer (fieldOf s g a) (field .stands) h (sym (ap (first (cellsOf s)) fast-carried) ∙ e)
 
     -- after pass 0
     pub flowable : (before : List ℕ) {parts2 masses2 : List ℤ} {marks : List ℕ} → length parts2 ≡ 19 * cellsOf s → length masses2 ≡ cellsOf s → length marks ≡ cellsOf s
         → marks ≡ tab (cellsOf s) (openedMark s (a .flags) before) → Flowable s g (a .flags) (a .parts) (a .masses) (a .fills) parts2 masses2 marks
-    unfolding stateOf
     flowable before p m k e = record {
       poised = poised s g a r;
       parts-room = p;
       masses-room = m;
       marks-room = k;
-      marked-fluid = λ c h l o. open-fluid flagged (poised s g a r .closed) before c h l (sym (ap (λ (x : List ℕ). getD x c 0) e) ∙ o);
-      marked = λ c h l o. open-near flagged (poised s g a r .closed) before c h l (sym (ap (λ (x : List ℕ). getD x c 0) e) ∙ o);
+      marked-fluid = λ c h l o. open-fluid (fieldOf s g a) field before (opened e) c h l o;
+      marked = λ c h l o. open-near (fieldOf s g a) field before (opened e) c h l o;
     }
+      where
+        offs : Offsets s (tab 19 (offsetOf s)) (lowOf s)
+        offs = record { table = refl; lowest = refl }
+
+        opened : {marks : List ℕ} → marks ≡ tab (cellsOf s) (openedMark s (a .flags) before) → marks ≡ tab (length (a .flags)) (openedBy (a .flags) before (tab 19 (offsetOf s)) (lowOf s))
+        opened k = k ∙ sym (opened-box offs (a .flags) before (r .sized .flags))
 
     module _ (t : cellsOf s ≤ first (cellsOf s) (tooFast S)) {flags2 : List ℕ} {parts2 masses2 carry2 : List ℤ} {marks : List ℕ} {turned : Bool}
         (w : Turned S (cellsOf s) flags2 parts2 masses2 carry2 marks turned) where
-      poise : Poised s g a
-      poise = ready-poised s g a r
-
-      dense-now : (c : ℕ) → c < cellsOf s → liquid (flagAt S c) ≡ true → dense (newDensity S c) ≡ true
-      unfolding sceneOf stateOf
-      dense-now c h l = new-dense (fieldOf s g a) (standing s g a poise) t c h l
-
       -- after the conversion
       pub fills-asked : Fillable flags2 parts2 masses2
-      fills-asked = fillable s g (a .flags) (a .parts) (a .masses) (a .fills) (a .carry) poise t flags2 parts2 masses2 (w .flags-are) (w .parts-are) (w .masses-are)
+      unfolding sceneOf stateOf
+      fills-asked = record {
+        few = subst (λ (n : ℕ). n ≤ 262144) (sym count) (field .stands .few);
+        parts-count = ap length (w .parts-are) ∙ length-tab (19 * cellsOf s) (λ m. newPart S (m / 19) (m % 19)) ∙ ap (λ (n : ℕ). 19 * n) (sym count);
+        masses-count = ap length (w .masses-are) ∙ length-tab (cellsOf s) (newMass S) ∙ sym count;
+        weighty = let p = turned-parts w in fills-weighty (fieldOf s g a) (field .stands) t (p .flags-are) (p .part-is) (p .masses-are);
+      }
+        where
+          count : length flags2 ≡ cellsOf s
+          count = ap length (w .flags-are) ∙ length-tab (cellsOf s) (newFlag S)
 
       -- after the fills: the next state
       module _ {fills2 : List ℕ} {weighed : Bool} (f : Refilled flags2 (partOf parts2) masses2 fills2 weighed) where
         fills-are : fills2 ≡ tab (cellsOf s) (newFill S)
-        fills-are = fills-next s g (a .flags) (a .parts) (a .masses) (a .fills) (a .carry) poise t flags2 parts2 masses2 (w .flags-are) (w .parts-are) (w .masses-are) f
+        unfolding sceneOf stateOf
+        fills-are = Tests.fills-are (fieldOf s g a) (field .stands) t (turned-parts w) f
 
         abbrev second : Lent
         second = record { flags = flags2; parts = parts2; masses = masses2; fills = fills2; carry = carry2 }
@@ -167,55 +146,15 @@ module _ (s : Sides) (g : Settings) (a : Lent) where
         unfolding nextOf lentOf next
         second-next i = record { flags = w .flags-are i; parts = w .parts-are i; masses = w .masses-are i; fills = fills-are i; carry = w .carry-is i }
 
-        mass-fair : weighed ≡ true → (c : ℕ) → c < cellsOf s → newFlag S c ≡ 1 → massGood (newMass S c) ≡ true
-        mass-fair = masses-fair s g (a .flags) (a .parts) (a .masses) (a .fills) (a .carry) poise t flags2 parts2 masses2 (w .flags-are) (w .parts-are) (w .masses-are) f
+        -- test 8 where all was found fair
+        pub fair-answer : ((c : ℕ) → c < cellsOf s → liquid (flagAt S c) ≡ true → bodyGood d3q19 (collided S c) ≡ true) → turned ≡ true → weighed ≡ true → Done ≡ moveAnswer S
+        unfolding sceneOf stateOf
+        fair-answer = Tests.fair-answer (fieldOf s g a) (field .stands) t (turned-parts w) f
 
-        -- ---- test 8 where all was found fair
-        module _ (body : (c : ℕ) → c < cellsOf s → liquid (flagAt S c) ≡ true → bodyGood d3q19 (collided S c) ≡ true) (et : turned ≡ true) (ew : weighed ≡ true) where
-          bodies : (c : ℕ) → c < cellsOf s → liquid (newFlag S c) ≡ true → bodyGood d3q19 (newPart S c) ≡ true
-          unfolding newFlag
-          bodies c h l = go (liquid (flagAt S c)) refl
-            where
-              go : (b : Bool) → liquid (flagAt S c) ≡ b → bodyGood d3q19 (newPart S c) ≡ true
-              go true o = body-same d3q19 (newPart S c) (collided S c) (λ k m. stays S c k (dense-now c h o) o l) ∙ body c h o
-              go false d =
-                  let n = newborn-cases (flagAt S c) (besideFilled S c) (filled S c) (emptied S c) (besideEmptied S c) d l in
-                  w .newborn et c h (n .0) (n .1)
-
-          fair : Fair S
-          unfolding sceneOf gridOf box cellsOf bodyGood
-          fair = record {
-            parts = λ c h l. and-left (sound c) (dense (density d3q19 (newPart S c))) (and-left (sound c && dense (density d3q19 (newPart S c))) (slowly c) (bodies c h l));
-            speeds = λ c h l. and-right (sound c && dense (density d3q19 (newPart S c))) (slowly c) (bodies c h l);
-            masses = mass-fair ew;
-            carry = w .carry-fair et;
-          }
-            where
-              sound : ℕ → Bool
-              sound c = all (suc (d3q19 .q)) (λ k. partGood (newPart S c k))
-
-              slowly : ℕ → Bool
-              slowly c = slow (density d3q19 (newPart S c)) (dot (momentum d3q19 (newPart S c)) (momentum d3q19 (newPart S c)))
-
-          pub fair-answer : Done ≡ moveAnswer S
-          unfolding moveAnswer sceneOf gridOf box cellsOf
-          fair-answer =
-              sym (skip (cellsOf s) 7 (first (cellsOf s) (tooFast S)) (ifNone (suc (cellsOf s)) 8 (badRule d3q19 (cellsOf s) (next S)) Done) t
-              ∙ skip (suc (cellsOf s)) 8 (badRule d3q19 (cellsOf s) (next S)) Done (fair-holds S (grid-laid s) (poise .walled) dense-now fair))
-
-        -- ---- test 8 by the scan
-        bad-next : badRule d3q19 (cellsOf s) (stateOf 18 second) ≡ badRule d3q19 (cellsOf s) (next S)
-        unfolding nextOf d3q19
-        bad-next =
-            ap (λ (x : Lent). badRule d3q19 (cellsOf s) (stateOf 18 x)) second-next
-            ∙ sym (bad-rule-same d3q19 (cellsOf s) (next S) (stateOf 18 (nextOf s g a)) (same-listed 18 (cellsOf s) (next S)))
-
+        -- test 8 by the scan
         pub judged-answer : {n : ℕ} {answer : Answer} → n ≡ cellsOf s → answer ≡ ifNone (suc n) 8 (badRule d3q19 n (stateOf 18 second)) Done → answer ≡ moveAnswer S
-        unfolding moveAnswer sceneOf gridOf box cellsOf
-        judged-answer {n} e k =
-            k ∙ ap (λ (m : ℕ). ifNone (suc m) 8 (badRule d3q19 m (stateOf 18 second)) Done) e
-            ∙ ap (λ (d : ℕ). ifNone (suc (cellsOf s)) 8 d Done) bad-next
-            ∙ sym (skip (cellsOf s) 7 (first (cellsOf s) (tooFast S)) (ifNone (suc (cellsOf s)) 8 (badRule d3q19 (cellsOf s) (next S)) Done) t)
+        unfolding sceneOf stateOf
+        judged-answer = Tests.judged-answer (fieldOf s g a) (field .stands) t (turned-parts w) f
 
 -- ---- the functions' contracts, one from the other
 
@@ -322,7 +261,7 @@ module _ {s : Sides} {g : Settings} {a : Lent} where
       stopped-tried c e =
           let h = went-stopped c e (w .went) in
           record {
-            answer-is = stopped-answer s g a (h .0) (h .1);
+            answer-is = stopped-answer s g a (f .ready) (h .0) (h .1);
             alike = alike-sized (f .ready .sized) (record { flags = second-sized .flags; parts = w .parts-kept; masses = w .masses-kept; fills = second-sized .fills; carry = second-sized .carry });
             marks-kept = w .marks-kept;
             second-is = λ k. absurd (false≢true (ap accepted k));

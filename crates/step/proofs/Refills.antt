@@ -2,7 +2,7 @@
 use mathlib.Core.Path.{_≡_, refl, sym, ap, ap₂, _∙_, subst}
 use mathlib.Core.Bool.{Bool, true, false, _||_, not, cond}
 use mathlib.Core.List.{List, []}
-use Prim.Native.Nat.{ℕ, zero, suc, _+_, _-_, _*_, _/_, _%_, _≤_, _<_}
+use Prim.Native.Nat.{ℕ, zero, suc, _≤_, _<_}
 use native.Mathlib.Omega.{arith}
 use lib.Dec.{eqb}
 use lib.IntN.{ℤ, pos}
@@ -20,27 +20,22 @@ use Rattle.lattice.specs.declared.Flow.{Flow}
 use Rattle.lattice.specs.declared.Settings.{Settings}
 use Rattle.lattice.proofs.Ranges.{relaxation-in}
 use Rattle.lattice.proofs.Tame.{steady-tame}
-use Rattle.grid.specs.declared.Sides.{Sides}
-use Rattle.grid.specs.Grid.{cellsOf, gridOf}
-use Rattle.grid.specs.State.{Scene, byFlag, liquid, stateOf}
-use Rattle.grid.specs.Step.{flagAt, newDensity, newMomentum, tooFast, collidedDir, collided, filled, emptied, besideFilled, besideEmptied, flagAfter, newFlag, liquidNear, bornDensity, bornMomentum, bornDir, born, newPart, newMass, fillFor, newFill}
-use Rattle.grid.specs.Outcome.{sceneOf}
-use Rattle.grid.specs.Between.{Poised, carried}
-use Rattle.grid.specs.Passes.{lowOf, offsetOf}
+use Rattle.grid.specs.State.{Scene, byFlag, liquid}
+use Rattle.grid.specs.Step.{newDensity, newMomentum, tooFast, collidedDir, collided, filled, emptied, besideFilled, besideEmptied, flagAfter, newFlag, liquidNear, bornDensity, bornMomentum, bornDir, born, newPart, newMass, fillFor, newFill}
 use Rattle.grid.specs.Sight.{Around, sight}
 use Rattle.grid.proofs.Dense.{born-part}
-use Rattle.grid.proofs.Listed.{part-at}
 use Rattle.grid.proofs.Moved.{density-collided, density-born}
 use Rattle.grid.proofs.Same.{density-same}
 use Rattle.flow.proofs.Collisions.{relaxation-of}
 use Rattle.flow.proofs.Onward.{collided-seen}
-use Rattle.flow.proofs.Spans.{Light, light19, light-low, streamed-in}
-use Rattle.turn.specs.Born.{Tested, TestedOn, testedOf, flowSight}
-use Rattle.grid.specs.Fill.{Weighty, partOf}
-use Rattle.turn.specs.Filled.{Fillable, Refilled, fillAt, fairMass, fairAt}
+use Rattle.flow.proofs.Spans.{Light, light-low, streamed-in}
+use Rattle.turn.specs.Born.{TestedOn}
+use Rattle.grid.specs.Fill.{Weighty}
+use Rattle.turn.specs.Filled.{Refilled, fillAt, fairMass, fairAt}
 use Rattle.turn.proofs.Births.{wet-low}
 use Rattle.turn.proofs.Means.{born-tame}
-use Rattle.turn.proofs.Offspring.{near-of, tested, within, born-seen, fed, is-born}
+use Rattle.turn.proofs.Field.{Field, sceneIn, sightIn, Standing}
+use Rattle.turn.proofs.Offspring.{near-of, tested, within, around, born-seen, fed, is-born}
 use Rattle.step.proofs.Heavy.{still-in, relaxed-in, weighty, weighty-same, quad-of}
 
 -- ---- one cell, as a function of one cell sees it
@@ -82,48 +77,47 @@ module _ (weights : ℕ → ℕ) (light : Light weights) (flags : List ℕ) (par
     unfolding born sight d3q19 density
     born-weighty = weighty (bornDensity S c) (bornDir S c) (born S c) refl (λ b. refl) (begun .low) (begun .rho) born-in (density-born S c)
 
--- ---- the next state
-module _ (s : Sides) (g : Settings) (flags : List ℕ) (parts masses : List ℤ) (fills : List ℕ) (carry : List ℤ) (p : Poised s g (carried flags parts masses fills carry))
-    (fast : cellsOf s ≤ first (cellsOf s) (tooFast (sceneOf s g (carried flags parts masses fills carry)))) where
+-- ---- the next state of a field
+kept : (fi em : Bool) → _≡_ {A = ℕ} (cond fi 2 (cond em 0 1)) 1 → em ≡ false
+kept true em e = absurd (omega arith)
+kept false true e = absurd (omega arith)
+kept false false e = refl
+
+module _ (F : Field) (r : Standing F) (fast : F .cells ≤ first (F .cells) (tooFast (sceneIn F))) where
   abbrev step : Scene
-  step = sceneOf s g (carried flags parts masses fills carry)
+  step = sceneIn F
 
   abbrev seen : Scene
-  seen = flowSight flags parts fills (tab 19 (offsetOf s)) (lowOf s) g
+  seen = sightIn F
 
-  calm : Tested flags parts fills (tab 19 (offsetOf s)) (lowOf s) g
-  calm = tested s g flags parts masses fills carry p fast
+  abbrev flag : ℕ → ℕ
+  flag c = getD (F .flags) c 3
 
-  listed : {c : ℕ} → c < cellsOf s → c < length flags
-  listed {c} h = subst (λ (n : ℕ). c < n) (sym (p .flags)) h
+  calm : TestedOn (F .weights) (F .flags) (F .part) (F .fills) (F .off) (F .low) (F .g)
+  calm = tested F r fast
+
+  listed : {c : ℕ} → c < F .cells → c < length (F .flags)
+  listed {c} h = subst (λ (n : ℕ). c < n) (sym (r .count)) h
 
   -- a cell that stays liquid, and a new interface cell
-  wet-weighty : (c : ℕ) → c < cellsOf s → liquid (getD flags c 3) ≡ true → Weighty (collided step c)
-  unfolding sceneOf stateOf
+  wet-weighty : (c : ℕ) → c < F .cells → liquid (flag c) ≡ true → Weighty (collided step c)
   wet-weighty c h l =
       weighty-same (collided seen c) (collided step c)
-      (λ k m. collided-seen (d3q19 .weight) (gridOf s) g flags (partOf parts) masses fills (getD carry 0 (pos 0)) (tab 19 (offsetOf s)) (lowOf s) c (near-of s g flags parts masses fills carry p c h) l k m)
-      (collided-weighty (d3q19 .weight) light19 flags (partOf parts) fills (tab 19 (offsetOf s)) (lowOf s) g (testedOf calm) (relaxation-of g (p .settings)) c (listed h) l)
+      (λ k m. collided-seen (F .weights) (F .grid) (F .g) (F .flags) (F .part) (F .masses) (F .fills) (F .carry) (F .off) (F .low) c (near-of F r c h) l k m)
+      (collided-weighty (F .weights) (r .light) (F .flags) (F .part) (F .fills) (F .off) (F .low) (F .g) calm (relaxation-of (F .g) (r .settings)) c (listed h) l)
 
-  new-weighty : (c : ℕ) → c < cellsOf s → flagAt step c ≡ 0 → newFlag step c ≡ 1 → Weighty (newPart step c)
-  unfolding sceneOf stateOf
+  new-weighty : (c : ℕ) → c < F .cells → flag c ≡ 0 → newFlag step c ≡ 1 → Weighty (newPart step c)
   new-weighty c h z n =
-      let inside = within s g flags parts masses fills carry p c h (omega arith) in
       weighty-same (born seen c) (newPart step c)
-      (λ k m. born-seen s g flags parts masses fills carry p c inside k ∙ sym (born-part step c z n k))
-      (born-weighty (d3q19 .weight) light19 flags (partOf parts) fills (tab 19 (offsetOf s)) (lowOf s) g (testedOf calm) (relaxation-of g (p .settings)) c (calm .around c (listed h) (omega arith))
-      (fed s g flags parts masses fills carry p (tab (cellsOf s) (newFlag step)) refl c h (is-born s g flags parts masses fills carry p (tab (cellsOf s) (newFlag step)) refl c h z n)))
+      (λ k m. born-seen F r c (within F r c h (omega arith)) k ∙ sym (born-part step c z n k))
+      (born-weighty (F .weights) (r .light) (F .flags) (F .part) (F .fills) (F .off) (F .low) (F .g) calm (relaxation-of (F .g) (r .settings)) c (around F r c h (omega arith))
+      (fed F r (tab (F .cells) (newFlag step)) refl c h (is-born F r (tab (F .cells) (newFlag step)) refl c h z n)))
 
-  kept : (fi em : Bool) → _≡_ {A = ℕ} (cond fi 2 (cond em 0 1)) 1 → em ≡ false
-  kept true em e = absurd (omega arith)
-  kept false true e = absurd (omega arith)
-  kept false false e = refl
-
-  pub next-weighty : (c : ℕ) → c < cellsOf s → newFlag step c ≡ 1 → Weighty (newPart step c)
-  unfolding newPart newFlag sceneOf stateOf
-  next-weighty c h n = go (getD flags c 3) refl
+  pub next-weighty : (c : ℕ) → c < F .cells → newFlag step c ≡ 1 → Weighty (newPart step c)
+  unfolding newPart newFlag
+  next-weighty c h n = go (flag c) refl
     where
-      go : (f : ℕ) → getD flags c 3 ≡ f → Weighty (newPart step c)
+      go : (f : ℕ) → flag c ≡ f → Weighty (newPart step c)
       go zero e = new-weighty c h e n
       go (suc zero) e =
           let k = kept (filled step c) (emptied step c) (subst (λ (f : ℕ). flagAfter f (besideFilled step c) (filled step c) (emptied step c) (besideEmptied step c) ≡ 1) e n) in
@@ -137,46 +131,39 @@ module _ (s : Sides) (g : Settings) (flags : List ℕ) (parts masses : List ℤ)
       go (suc (suc (suc m))) e =
           absurd (omega (arith, subst (λ (f : ℕ). flagAfter f (besideFilled step c) (filled step c) (emptied step c) (besideEmptied step c) ≡ 1) e n))
 
-  -- ---- as lists
-  module _ (flags2 : List ℕ) (parts2 masses2 : List ℤ) (flags-are : flags2 ≡ tab (cellsOf s) (newFlag step))
-      (parts-are : parts2 ≡ tab (19 * cellsOf s) (λ m. newPart step (m / 19) (m % 19))) (masses-are : masses2 ≡ tab (cellsOf s) (newMass step)) where
-    count : length flags2 ≡ cellsOf s
-    count = ap length flags-are ∙ length-tab (cellsOf s) (newFlag step)
+  -- ---- as the passes hold it
+  module _ {flags2 : List ℕ} {part2 : ℕ → ℕ → ℤ} {masses2 : List ℤ} (flags-are : flags2 ≡ tab (F .cells) (newFlag step))
+      (part-is : (c k : ℕ) → c < F .cells → k < 19 → part2 c k ≡ newPart step c k) (masses-are : masses2 ≡ tab (F .cells) (newMass step)) where
+    pub flags-count : length flags2 ≡ F .cells
+    flags-count = ap length flags-are ∙ length-tab (F .cells) (newFlag step)
 
-    flag-at : (c : ℕ) → c < cellsOf s → getD flags2 c 3 ≡ newFlag step c
-    flag-at c h = ap (λ (l : List ℕ). getD l c 3) flags-are ∙ getD-tab (cellsOf s) (newFlag step) 3 c h
+    flag-at : (c : ℕ) → c < F .cells → getD flags2 c 3 ≡ newFlag step c
+    flag-at c h = ap (λ (l : List ℕ). getD l c 3) flags-are ∙ getD-tab (F .cells) (newFlag step) 3 c h
 
-    mass-at : (c : ℕ) → c < cellsOf s → getD masses2 c (pos 0) ≡ newMass step c
-    mass-at c h = ap (λ (l : List ℤ). getD l c (pos 0)) masses-are ∙ getD-tab (cellsOf s) (newMass step) (pos 0) c h
+    mass-at : (c : ℕ) → c < F .cells → getD masses2 c (pos 0) ≡ newMass step c
+    mass-at c h = ap (λ (l : List ℤ). getD l c (pos 0)) masses-are ∙ getD-tab (F .cells) (newMass step) (pos 0) c h
 
-    new-part-at : (c k : ℕ) → c < cellsOf s → k ≤ 18 → partOf parts2 c k ≡ newPart step c k
-    new-part-at c k h l = ap (λ (x : List ℤ). getD x (19 * c + k) (pos 0)) parts-are ∙ part-at 18 (cellsOf s) c k h l (newPart step)
-
-    pub fillable : Fillable flags2 parts2 masses2
-    fillable = record {
-      few = subst (λ (n : ℕ). n ≤ 262144) (p .flags ∙ sym count) (calm .bodies .few);
-      parts-count = ap length parts-are ∙ length-tab (19 * cellsOf s) (λ m. newPart step (m / 19) (m % 19)) ∙ ap (λ (n : ℕ). 19 * n) (sym count);
-      masses-count = ap length masses-are ∙ length-tab (cellsOf s) (newMass step) ∙ sym count;
-      weighty = λ c h e.
-          let k = subst (λ (n : ℕ). c < n) count h in
-          weighty-same (newPart step c) (partOf parts2 c) (λ i l. sym (new-part-at c i k l)) (next-weighty c k (sym (flag-at c k) ∙ e));
-    }
+    -- what the pass over fills asks of an interface cell
+    pub fills-weighty : (c : ℕ) → c < length flags2 → getD flags2 c 3 ≡ 1 → Weighty (part2 c)
+    fills-weighty c h e =
+        let k = subst (λ (n : ℕ). c < n) flags-count h in
+        weighty-same (newPart step c) (part2 c) (λ i l. sym (part-is c i k (omega arith))) (next-weighty c k (sym (flag-at c k) ∙ e))
 
     -- what the pass leaves is the next state's
-    module _ {fills2 : List ℕ} {fair : Bool} (r : Refilled flags2 (partOf parts2) masses2 fills2 fair) where
-      fill-at : (c : ℕ) → c < cellsOf s → fillAt flags2 (partOf parts2) masses2 c ≡ newFill step c
-      unfolding fillAt newFill sceneOf d3q19
+    module _ {fills2 : List ℕ} {fair : Bool} (f : Refilled flags2 part2 masses2 fills2 fair) where
+      fill-at : (c : ℕ) → c < F .cells → fillAt flags2 part2 masses2 c ≡ newFill step c
+      unfolding fillAt newFill d3q19 density
       fill-at c h i =
-          fillFor (flag-at c h i) (mass-at c h i) (density-same d3q19 (partOf parts2 c) (newPart step c) (λ k l. new-part-at c k h l) i)
+          fillFor (flag-at c h i) (mass-at c h i) (density-same d3q19 (part2 c) (newPart step c) (λ k l. part-is c k h (omega arith)) i)
 
-      pub fills-next : fills2 ≡ tab (cellsOf s) (newFill step)
+      pub fills-next : fills2 ≡ tab (F .cells) (newFill step)
       fills-next =
-          r .fills-are ∙ ap (λ (n : ℕ). tab n (fillAt flags2 (partOf parts2) masses2)) count
-          ∙ tab-cong (cellsOf s) (fillAt flags2 (partOf parts2) masses2) (newFill step) 0 fill-at
+          f .fills-are ∙ ap (λ (n : ℕ). tab n (fillAt flags2 part2 masses2)) flags-count
+          ∙ tab-cong (F .cells) (fillAt flags2 part2 masses2) (newFill step) 0 fill-at
 
-      pub masses-fair : fair ≡ true → (c : ℕ) → c < cellsOf s → newFlag step c ≡ 1 → massGood (newMass step c) ≡ true
+      pub masses-fair : fair ≡ true → (c : ℕ) → c < F .cells → newFlag step c ≡ 1 → massGood (newMass step c) ≡ true
       unfolding fairAt fairMass
       masses-fair t c h n =
-          let a = all-at (length flags2) (fairAt flags2 masses2) (sym (r .fair-is) ∙ t) c (subst (λ (m : ℕ). c < m) (sym count) h) in
+          let a = all-at (length flags2) (fairAt flags2 masses2) (sym (f .fair-is) ∙ t) c (subst (λ (m : ℕ). c < m) (sym flags-count) h) in
           where-then (eqb (newFlag step c) 1) (massGood (newMass step c))
           (ap₂ (λ (f : ℕ) (m : ℤ). not (eqb f 1) || massGood m) (sym (flag-at c h)) (sym (mass-at c h)) ∙ a) (eq-eqb (newFlag step c) 1 n)

@@ -1,16 +1,19 @@
 -- Stages 1 to 4 do not read the carry: scenes that differ in it alone agree in them. So pass 1, which is not lent the carry, can be followed by passes that
 -- are. Assumes nothing.
-use mathlib.Core.Path.{_≡_, refl}
-use mathlib.Core.Bool.{_&&_, not, cond}
-use Prim.Native.Nat.{ℕ, zero, suc}
+use mathlib.Core.Path.{_≡_, refl, sym, ap, _∙_, subst}
+use mathlib.Core.Bool.{Bool, _&&_, not, cond}
+use mathlib.Core.List.{List}
+use Prim.Native.Nat.{ℕ, zero, suc, _≤_}
 use lib.IntN.{ℤ, pos, _+ℤ_, _-ℤ_}
-use Rattle.whole.specs.Fold.{dirs}
-use Rattle.lattice.specs.Lattice.{V3, dot, Lattice, density, momentum}
+use Rattle.whole.specs.Fold.{dirs, tab, first}
+use Rattle.lattice.specs.Body.{bodyGood}
+use Rattle.lattice.specs.Lattice.{V3, dot, Lattice, d3q19, density, momentum}
 use Rattle.lattice.specs.Cell.{dense, slow, pull, quad, relaxed, over, under}
 use Rattle.grid.specs.Grid.{Grid}
 use Rattle.grid.specs.State.{Scene, byFlag, liquid}
 use Rattle.grid.specs.Step.{seen, normal, oldDensity, oldMomentum, leansTo, rebuilt, rebuild, arrives, streamed, difference, traded, tradedMass, newDensity, newMomentum, tooFast, collidedDir, collided}
 use Rattle.grid.specs.Between.{movedPart, movedMass, firstMark}
+use Rattle.flow.specs.Flowed.{MovedTo}
 
 module _ (L : Lattice) (G : Grid) (flag : ℕ → ℕ) (part : ℕ → ℕ → ℤ) (mass : ℕ → ℤ) (fill : ℕ → ℕ) (g : V3) (p : ℕ → ℤ) (k k′ : ℤ) where
   abbrev A : Scene
@@ -69,3 +72,14 @@ module _ (L : Lattice) (G : Grid) (flag : ℕ → ℕ) (part : ℕ → ℕ → �
   pub first-mark-is : firstMark A ≡ firstMark B
   unfolding firstMark
   first-mark-is i c = byFlag (flag c) 0 (cond (over (traded-is c i) (density-is c i)) 1 (cond (under (traded-is c i) (density-is c i)) 2 0)) 0 0
+
+  -- all of pass 1
+  pub moved-carried : {n : ℕ} {part2 : ℕ → ℕ → ℤ} {masses2 : List ℤ} {marks : List ℕ} {fair still : Bool} → MovedTo A n part2 masses2 marks fair still → MovedTo B n part2 masses2 marks fair still
+  moved-carried {n} m = record {
+    steady = subst (λ (f : ℕ → Bool). n ≤ first n f) fast-is (m .steady);
+    part-is = λ c d h l. m .part-is c d h l ∙ ap (λ (f : ℕ → ℕ → ℤ). f c d) moved-part-is;
+    masses-are = m .masses-are ∙ ap (tab n) moved-mass-is;
+    marks-are = m .marks-are ∙ ap (tab n) first-mark-is;
+    fair-tells = λ e c h l. sym (ap (λ (f : ℕ → ℕ → ℤ). bodyGood d3q19 (f c)) collided-is) ∙ m .fair-tells e c h l;
+    still-tells = λ e c h. sym (ap (λ (f : ℕ → ℕ). f c) first-mark-is) ∙ m .still-tells e c h;
+  }

@@ -12,7 +12,7 @@ ghost use Rattle.lattice.specs.Body.{vec, Tame};
 
 // What both opposite parts add up to at weight w, with d = e·j.
 pub fn rebuilt(v: Flow, w: i64, d: i32) -> i64
-    requires { ⌜ Tame v × (pos 0 ≤ℤ w) × Within w 2 × Within d 1179648 ⌝ }
+    requires { ⌜ Tame v × (pos 0 ≤ℤ w) × Within w 4 × Within d 1179648 ⌝ }
     ensures { λ r. ⌜ r ≡ gas (natAbs w) (v .rho) d (dot (vec v) (vec v)) ⌝ }
 {
     let r = times(v.rho, v.rho);

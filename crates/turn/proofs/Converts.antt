@@ -1,43 +1,46 @@
--- The conversion, pass by pass: from a set that is ready with stages 1 to 4 made, what each of passes 2 to 7 asks, and that their outcome is the next
--- state. Assumes nothing.
+-- The conversion in the box, pass by pass: from a set that is ready with stages 1 to 4 made, what each of passes 2 to 7 asks, and that their outcome is the
+-- next state. All of it is the box's instance of the laws of a field. Assumes nothing.
 use mathlib.Core.Path.{_≡_, refl, sym, ap, _∙_, subst}
-use mathlib.Core.Bool.{Bool, true, false, _&&_, false≢true}
+use mathlib.Core.Bool.{Bool, true, false, false≢true}
 use mathlib.Core.List.{List, [], _∷_}
-use Prim.Native.Nat.{ℕ, zero, suc, _+_, _*_, _/_, _%_, _≤_, _<_}
+use Prim.Native.Nat.{ℕ, _*_, _/_, _%_, _≤_, _<_}
+use native.Mathlib.Nat.{mod-lt, div-add-mod}
 use native.Mathlib.Omega.{arith}
-use lib.IntN.{ℤ, pos, natAbs, _+ℤ_}
-use lib.ListN.{length, getD, replicate}
-use borrow.Author.Tests.{leb-true}
-use Rattle.whole.specs.Bools.{and-left, and-right}
+use lib.IntN.{ℤ, pos, _+ℤ_}
+use lib.ListN.{length, getD}
 use Rattle.whole.specs.Fold.{tab, first, sum}
 use Rattle.whole.specs.Machine.{Within}
-use Rattle.whole.specs.Tab.{length-tab}
+use Rattle.whole.specs.Tab.{length-tab, tab-cong}
 use Rattle.lattice.specs.Lattice.{d3q19}
-use Rattle.lattice.specs.Cell.{dense, over, under, carryGood}
+use Rattle.lattice.specs.Body.{bodyGood}
 use Rattle.lattice.specs.declared.Settings.{Settings}
 use Rattle.grid.specs.declared.Sides.{Sides}
-use Rattle.grid.specs.declared.Answer.the-variants.{Done}
-use Rattle.grid.specs.Grid.{cellsOf, gridOf, box}
-use Rattle.grid.specs.State.{Lent, State, Scene, byFlag, liquid, stateOf}
-use Rattle.grid.specs.Step.{flagAt, tooFast, tradedMass, newDensity, filled, emptied, besideFilled, newFlag, newPart, newMass, newCarry}
-use Rattle.grid.specs.Good.{badFlag}
-use Rattle.lattice.specs.Body.{bodyGood}
-use Rattle.grid.specs.Outcome.{sceneOf, goodAnswer}
-use Rattle.grid.specs.Between.{Ready, Poised, carried, movedPart, movedMass, firstMark, settledMark, bornPart, gatheredMass}
-use Rattle.grid.specs.Halfway.{Moved, Turning, Turned}
-use Rattle.grid.specs.Passes.{lowOf, offsetOf, flagOf, Flagged, Emptying, Marked, keptMark, turnedFlag}
 use Rattle.grid.specs.Fill.{partOf}
-use Rattle.grid.proofs.Listed.{part-at}
+use Rattle.grid.specs.Grid.{cellsOf, gridOf, box}
+use Rattle.grid.specs.State.{Lent, Scene, stateOf}
+use Rattle.grid.specs.Step.{flagAt, tooFast, newFlag, newPart, newCarry}
+use Rattle.grid.specs.Outcome.{sceneOf, goodAnswer}
+use Rattle.grid.specs.Between.{Ready, Poised, movedPart, movedMass, firstMark, settledMark, bornPart}
+use Rattle.grid.specs.Halfway.{Moved, Turning, Turned}
+use Rattle.grid.specs.Passes.{lowOf, offsetOf, Flagged, Emptying, Marked, keptMark, turnedFlag}
 use Rattle.grid.proofs.Accepted.{none-found}
-use Rattle.grid.proofs.Accurate.{not-both, both-tests, steady-dense}
+use Rattle.grid.proofs.Beside.{Offsets}
+use Rattle.grid.proofs.Blocks.{blocks-all}
+use Rattle.grid.proofs.Inside.{inner-amid}
+use Rattle.grid.proofs.Listed.{part-at}
 use Rattle.grid.proofs.Prepared.{ready-sound, ready-cell, ready-carry}
-use Rattle.excess.specs.Gifts.{Gathering, Straying, Settling, Settled, gatheredAt, strayAt}
-use Rattle.turn.specs.Born.{flowSight, newlyBorn, Fertile, Peopled}
-use Rattle.turn.proofs.Field.{fieldOf, standing}
-use Rattle.turn.proofs.Given.{Midway, gathered-is, carry-is}
-use Rattle.turn.proofs.Handed.{Listed, gathering, straying, settling, settled-is}
-use Rattle.turn.proofs.Offspring.{fertile, parts-later, newborn-fair}
+use Rattle.flow.specs.Flowed.{MovedTo}
+use Rattle.flow.proofs.Marking.{settled-box, turned-box}
+use Rattle.flow.proofs.Poise.{poised-bodied}
+use Rattle.excess.specs.Gifts.{strayAt}
+use Rattle.turn.specs.Born.{flowSight, newlyBorn, laterPart, Tested, Fertile, Peopled}
+use Rattle.turn.specs.Turned.{TurnedTo}
+use Rattle.turn.proofs.Field.{Field, fieldOf, Sound, sound}
+use Rattle.turn.proofs.Given.{Midway, carry-is}
+use Rattle.turn.proofs.Handed.{Listed}
+use Rattle.turn.proofs.Offspring.{tested, fills-good, gravity, flags-there, fed, later-is, newborn-fair}
 use Rattle.turn.proofs.Settled.{emptying, settled-marks, settled-marked, turned-flags}
+use Rattle.turn.proofs.Turns as turns
 
 -- tests 4 to 6 passed: test 4's in the form that passes 2 and 3 ask
 ready-flagged : (s : Sides) (g : Settings) (a : Lent) → Ready s g a → Flagged s (a .flags)
@@ -59,6 +62,78 @@ ready-poised s g a r = record {
   cells = ready-cell s g a r;
 }
 
+-- a field like any other
+pub ready-field : (s : Sides) (g : Settings) (a : Lent) → Ready s g a → Sound (fieldOf s g a)
+ready-field s g a r = sound s g a (ready-poised s g a r) (ready-carry s g a r)
+
+-- a list of one is its element
+single : (xs : List ℤ) → length xs ≡ 1 → xs ≡ getD xs 0 (pos 0) ∷ []
+single [] e = absurd (omega arith)
+single (x ∷ []) e = refl
+single (x ∷ (y ∷ xs)) e = absurd (omega arith)
+
+-- nineteen parts a cell in one list, and as a function
+pub moved-parts : {S : Scene} {n : ℕ} {parts masses : List ℤ} {marks : List ℕ} {fair still : Bool} → Moved S n parts masses marks fair still → MovedTo S n (partOf parts) masses marks fair still
+moved-parts {S} {n} m = record {
+  steady = m .steady;
+  part-is = λ c k h l. ap (λ (x : List ℤ). partOf x c k) (m .parts-are) ∙ part-at 18 n c k h (omega arith) (movedPart S);
+  masses-are = m .masses-are;
+  marks-are = m .marks-are;
+  fair-tells = m .fair-tells;
+  still-tells = m .still-tells;
+}
+
+pub turned-list : {S : Scene} {n : ℕ} {flags : List ℕ} {parts masses carry : List ℤ} {marks : List ℕ} {fair : Bool} → length parts ≡ 19 * n
+    → TurnedTo S n flags (partOf parts) masses carry marks fair → Turned S n flags parts masses carry marks fair
+turned-list {S} {n} {parts = parts} e t = record {
+  flags-are = t .flags-are;
+  parts-are = blocks-all (newPart S) parts n e (t .part-is);
+  masses-are = t .masses-are;
+  carry-is = t .carry-is;
+  marks-are = t .marks-are;
+  newborn = t .newborn;
+  carry-fair = t .carry-fair;
+}
+
+pub turned-parts : {S : Scene} {n : ℕ} {flags : List ℕ} {parts masses carry : List ℤ} {marks : List ℕ} {fair : Bool}
+    → Turned S n flags parts masses carry marks fair → TurnedTo S n flags (partOf parts) masses carry marks fair
+turned-parts {S} {n} t = record {
+  flags-are = t .flags-are;
+  part-is = λ c k h l. ap (λ (x : List ℤ). partOf x c k) (t .parts-are) ∙ part-at 18 n c k h (omega arith) (newPart S);
+  masses-are = t .masses-are;
+  carry-is = t .carry-is;
+  marks-are = t .marks-are;
+  newborn = t .newborn;
+  carry-fair = t .carry-fair;
+}
+
+-- ---- where nothing converts
+module _ (s : Sides) (g : Settings) (a : Lent) (r : Ready s g a) (parts masses : List ℤ) (marks : List ℕ) (fair : Bool)
+    (m : Moved (sceneOf s g a) (cellsOf s) parts masses marks fair true) where
+  pub still-turned : (flags : List ℕ) (carry : List ℤ) → flags ≡ a .flags → carry ≡ a .carry → Turned (sceneOf s g a) (cellsOf s) flags parts masses carry marks true
+  unfolding sceneOf stateOf
+  still-turned flags carry ef ec =
+      turned-list (ap length (m .parts-are) ∙ length-tab (19 * cellsOf s) (λ j. movedPart (sceneOf s g a) (j / 19) (j % 19)))
+      (turns.still-turned (fieldOf s g a) (ready-field s g a r) (moved-parts m) ef (ec ∙ single (a .carry) (r .sized .carry)))
+
+-- what the conversion asks, where it is to be made
+pub turning-on : (s : Sides) (g : Settings) (a : Lent) (flags : List ℕ) (parts masses carry : List ℤ) (marks : List ℕ) (still : Bool) (flags′ : List ℕ) (carry′ : List ℤ)
+    → flags′ ≡ a .flags → carry′ ≡ a .carry → Turning s g a flags parts masses carry marks still → Turning s g a flags′ parts masses carry′ marks false
+turning-on s g a flags parts masses carry marks still flags′ carry′ ef ec t = record {
+  ready = t .ready;
+  moved = record {
+    steady = t .moved .steady;
+    parts-are = t .moved .parts-are;
+    masses-are = t .moved .masses-are;
+    marks-are = t .moved .marks-are;
+    fair-tells = t .moved .fair-tells;
+    still-tells = λ e. absurd (false≢true e);
+  };
+  flags-room = ap length ef ∙ t .ready .sized .flags;
+  carry-room = ap length ec ∙ t .ready .sized .carry;
+}
+
+-- ---- the conversion
 module _ (s : Sides) (g : Settings) (a : Lent) (r : Ready s g a) (steady : cellsOf s ≤ first (cellsOf s) (tooFast (sceneOf s g a))) where
   abbrev S : Scene
   S = sceneOf s g a
@@ -66,51 +141,86 @@ module _ (s : Sides) (g : Settings) (a : Lent) (r : Ready s g a) (steady : cells
   abbrev n : ℕ
   n = cellsOf s
 
-  -- no cell is both filled and emptied
-  apart : (c : ℕ) → c < n → filled S c ≡ true → emptied S c ≡ true → ⊥
-  unfolding filled emptied
-  apart c h p q =
-      let t = both-tests (flagAt S c) (over (tradedMass S c) (newDensity S c)) (under (tradedMass S c) (newDensity S c)) _ p q in
-      not-both (tradedMass S c) (newDensity S c) (steady-dense s g a steady c h (was-liquid (flagAt S c) (over (tradedMass S c) (newDensity S c)) p)) (t .0) (t .1)
-    where
-      was-liquid : (f : ℕ) (o : Bool) → byFlag f false o false false ≡ true → liquid f ≡ true
-      was-liquid zero o e = absurd (false≢true e)
-      was-liquid (suc zero) o e = refl
-      was-liquid (suc (suc zero)) o e = absurd (false≢true e)
-      was-liquid (suc (suc (suc k))) o e = absurd (false≢true e)
+  abbrev F : Field
+  F = fieldOf s g a
+
+  v : Sound F
+  v = ready-field s g a r
+
+  offs : Offsets s (tab 19 (offsetOf s)) (lowOf s)
+  offs = record { table = refl; lowest = refl }
 
   -- passes 2 and 3
   pub asks-emptying : (marks : List ℕ) → marks ≡ tab n (firstMark S) → Emptying s marks
-  asks-emptying marks e = subst (λ (m : List ℕ). Emptying s m) (sym e) (emptying s g a (ready-flagged s g a r))
+  unfolding sceneOf stateOf
+  asks-emptying marks e = record { sides = r .sides; count = count; inner = λ c h k. inner-amid offs count (emptying F v e .inner c h k) }
+    where
+      count : length marks ≡ cellsOf s
+      count = ap length e ∙ length-tab n (firstMark S)
 
   pub marks-settled : (marks after : List ℕ) → marks ≡ tab n (firstMark S) → after ≡ tab n (keptMark s marks) → after ≡ tab n (settledMark S)
-  marks-settled marks after e f = f ∙ ap (λ (m : List ℕ). tab n (keptMark s m)) e ∙ settled-marks s g a (ready-flagged s g a r)
+  unfolding sceneOf stateOf
+  marks-settled marks after e f = settled-marks F v e (f ∙ sym (settled-box offs marks (asks-emptying marks e)))
 
   pub asks-marked : (marks : List ℕ) → marks ≡ tab n (settledMark S) → Marked s (a .flags) marks
-  asks-marked marks e = subst (λ (m : List ℕ). Marked s (a .flags) m) (sym e) (settled-marked s g a (ready-flagged s g a r))
+  unfolding sceneOf stateOf
+  asks-marked marks e =
+      let w = settled-marked F v e in
+      record { flagged = ready-flagged s g a r; count = w .count ∙ r .sized .flags; only = λ c h f. w .only c (subst (λ (m : ℕ). c < m) (w .count) h) f }
 
   pub flags-turned : (marks flags : List ℕ) → marks ≡ tab n (settledMark S) → flags ≡ tab n (turnedFlag s (a .flags) marks) → flags ≡ tab n (newFlag S)
-  flags-turned marks flags e f = f ∙ ap (λ (m : List ℕ). tab n (turnedFlag s (a .flags) m)) e ∙ turned-flags s g a (ready-flagged s g a r) apart
+  unfolding sceneOf stateOf
+  flags-turned marks flags e f = turned-flags F v e steady (f ∙ sym (turned-box offs (a .flags) marks (asks-marked marks e)))
 
   -- pass 4
+  pub calm : Tested (a .flags) (a .parts) (a .fills) (tab 19 (offsetOf s)) (lowOf s) g
+  unfolding sceneOf stateOf
+  calm =
+      let t = tested F (v .stands) steady in
+      record {
+        bodies = poised-bodied s g a (ready-poised s g a r);
+        fills-good = fills-good F (v .stands);
+        gravity = gravity F (v .stands);
+        around = t .around;
+        is-dense = t .is-dense;
+        is-slow = t .is-slow;
+      }
+
   module _ (flags : List ℕ) (ef : flags ≡ tab n (newFlag S)) where
     pub asks-fertile : Fertile (a .flags) (a .parts) (a .fills) (tab 19 (offsetOf s)) (lowOf s) g flags
-    asks-fertile = fertile s g (a .flags) (a .parts) (a .masses) (a .fills) (a .carry) (ready-poised s g a r) flags ef steady
+    unfolding sceneOf stateOf
+    asks-fertile = record {
+      tested = calm;
+      count = flags-there F (v .stands) flags ef;
+      fed = λ c h e. fed F (v .stands) flags ef c (subst (λ (m : ℕ). c < m) (r .sized .flags) h) e;
+    }
 
     module _ (before after : List ℤ) (eb : before ≡ tab (19 * n) (λ m. movedPart S (m / 19) (m % 19))) (fair : Bool)
         (peopled : Peopled (flowSight (a .flags) (a .parts) (a .fills) (tab 19 (offsetOf s)) (lowOf s) g) (newlyBorn (a .flags) flags) (length (a .flags)) before after fair) where
+      later : ℕ → ℕ → ℤ
+      later = laterPart (flowSight (a .flags) (a .parts) (a .fills) (tab 19 (offsetOf s)) (lowOf s) g) (newlyBorn (a .flags) flags) (partOf before)
+
+      later-at : (c k : ℕ) → c < n → k < 19 → later c k ≡ bornPart S c k
+      unfolding later sceneOf stateOf
+      later-at c k h l = later-is F (v .stands) flags ef (partOf before) c k h (ap (λ (x : List ℤ). partOf x c k) eb ∙ part-at 18 n c k h (omega arith) (movedPart S))
+
       pub parts-born : after ≡ tab (19 * n) (λ m. bornPart S (m / 19) (m % 19))
-      parts-born = parts-later s g (a .flags) (a .parts) (a .masses) (a .fills) (a .carry) (ready-poised s g a r) flags ef before eb peopled
+      unfolding later
+      parts-born =
+          peopled .parts ∙ ap (λ (k : ℕ). tab (19 * k) (λ m. later (m / 19) (m % 19))) (r .sized .flags)
+          ∙ tab-cong (19 * n) (λ m. later (m / 19) (m % 19)) (λ m. bornPart S (m / 19) (m % 19)) (pos 0)
+          (λ m h. let z : m % 19 < 19 = mod-lt m (omega arith) in let d = div-add-mod m 19 in later-at (m / 19) (m % 19) (omega arith) z)
 
       pub born-fair : fair ≡ true → (c : ℕ) → c < n → flagAt S c ≡ 0 → newFlag S c ≡ 1 → bodyGood d3q19 (newPart S c) ≡ true
-      born-fair = newborn-fair s g (a .flags) (a .parts) (a .masses) (a .fills) (a .carry) (ready-poised s g a r) flags ef before eb peopled
+      unfolding sceneOf stateOf
+      born-fair = newborn-fair F (v .stands) flags ef (peopled .fair-is)
 
     -- passes 5 to 7
     module _ (parts masses : List ℤ) (marks : List ℕ) (ep : parts ≡ tab (19 * n) (λ m. bornPart S (m / 19) (m % 19))) (em : masses ≡ tab n (movedMass S)) (ek : marks ≡ tab n (settledMark S)) where
-      middle : Midway (fieldOf s g a) flags (a .fills) (partOf parts) masses marks
+      middle : Midway F flags (a .fills) (partOf parts) masses marks
       unfolding sceneOf stateOf
       middle = record {
-        stands = standing s g a (ready-poised s g a r);
+        stands = v .stands;
         steady = steady;
         fills-are = refl;
         flags-are = ef;
@@ -128,4 +238,4 @@ module _ (s : Sides) (g : Settings) (a : Lent) (r : Ready s g a) (steady : cells
           f ∙ ap (λ (x : ℤ). x +ℤ sum n (strayAt flags (partOf parts) masses marks (tab 19 (offsetOf s)) (lowOf s))) e ∙ carry-is middle
 
   pub carry-within : Within (getD (a .carry) 0 (pos 0)) 1000000000000
-  carry-within = record { abs = leb-true (natAbs (getD (a .carry) 0 (pos 0))) 1000000000000 (ready-carry s g a r) }
+  carry-within = turns.carry-within F v

@@ -118,20 +118,20 @@ module _ {F : Field} {flags fills : List ℕ} {part : ℕ → ℕ → ℤ} {mass
   S = sceneIn F
 
   -- ---- lengths
-  flags-count : length flags ≡ F .cells
+  pub flags-count : length flags ≡ F .cells
   flags-count = ap length (w .flags-are) ∙ length-tab (F .cells) _
 
-  marks-count : length marks ≡ F .cells
+  pub marks-count : length marks ≡ F .cells
   marks-count = ap length (w .marks-are) ∙ length-tab (F .cells) _
 
-  masses-count : length masses ≡ F .cells
+  pub masses-count : length masses ≡ F .cells
   masses-count = ap length (w .masses-are) ∙ length-tab (F .cells) _
 
-  cell : {c : ℕ} → c < length flags → c < F .cells
+  pub cell : {c : ℕ} → c < length flags → c < F .cells
   cell {c} h = subst (λ (n : ℕ). c < n) flags-count h
 
   -- ---- cells that convert and cells that take are inner
-  around : (c : ℕ) → Amid (F .cells) (F .low) c → c < F .cells → Around (length flags) (F .off) (F .low) c
+  pub around : (c : ℕ) → Amid (F .cells) (F .low) c → c < F .cells → Around (length flags) (F .off) (F .low) c
   around c n h =
       subst (λ (m : ℕ). Around m (F .off) (F .low) c) (sym flags-count)
       (record {
@@ -141,10 +141,10 @@ module _ {F : Field} {flags fills : List ℕ} {part : ℕ → ℕ → ℤ} {mass
         self = w .stands .place c 0 n (omega arith) ∙ w .stands .self c;
       })
 
-  giver-inner : (c : ℕ) → c < F .cells → (getD marks c 0 ≡ 0 → ⊥) → Amid (F .cells) (F .low) c
+  pub giver-inner : (c : ℕ) → c < F .cells → (getD marks c 0 ≡ 0 → ⊥) → Amid (F .cells) (F .low) c
   giver-inner c h m = inner-cell F (w .stands) c h (λ f. omega (arith, converted-interface w c (marked-converted w c h m)))
 
-  taker-cell : (c : ℕ) → c < F .cells → getD flags c 0 ≡ 1 → Amid (F .cells) (F .low) c
+  pub taker-cell : (c : ℕ) → c < F .cells → getD flags c 0 ≡ 1 → Amid (F .cells) (F .low) c
   taker-cell c h f = inner-cell F (w .stands) c h (taker-inner w c (sym (flag-is w c h) ∙ f))
 
   -- ---- a marked cell's amounts
@@ -186,7 +186,7 @@ module _ {F : Field} {flags fills : List ℕ} {part : ℕ → ℕ → ℤ} {mass
 
   -- ---- what the passes ask
   -- there and back again
-  returning : (c i : ℕ) → c < F .cells → getD flags c 0 ≡ 1 → Dir 18 i → (getD marks (c - F .low + getD (F .off) i 0) 0 ≡ 0 → ⊥)
+  pub returning : (c i : ℕ) → c < F .cells → getD flags c 0 ≡ 1 → Dir 18 i → (getD marks (c - F .low + getD (F .off) i 0) 0 ≡ 0 → ⊥)
       → c - F .low + getD (F .off) i 0 - F .low + getD (F .off) (d3q19 .opp i) 0 ≡ c
   returning c i h f d m =
       let l : i < 19 = omega (arith, d .most) in

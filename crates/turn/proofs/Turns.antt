@@ -1,94 +1,108 @@
--- Where nothing converts: copies of flags and carry, with stages 1 to 4 made, are the next state, and no mark is left. Assumes nothing.
+-- From stages 1 to 4 to the conversion made, in any field: passes 2 to 7 one after the other, and the case that nothing converts, where copies of flags and
+-- carry are the next state's. Assumes nothing.
 use mathlib.Core.Path.{_≡_, refl, sym, ap, _∙_, subst}
-use mathlib.Core.Bool.{Bool, true, false, _&&_, false≢true}
+use mathlib.Core.Bool.{Bool, true, _&&_}
 use mathlib.Core.List.{List, [], _∷_}
-use Prim.Native.Nat.{ℕ, zero, suc, _+_, _*_, _/_, _%_, _≤_, _<_}
-use native.Mathlib.Nat.{div-lt-iff-lt-mul, mul-comm, zero-lt-suc}
+use Prim.Native.Nat.{ℕ, _<_}
 use native.Mathlib.Omega.{arith}
-use lib.IntN.{ℤ, pos}
-use lib.Dec.{leb}
+use lib.IntN.{ℤ, pos, natAbs, _+ℤ_}
 use lib.ListN.{length, getD, replicate}
 use borrow.Author.Tests.{leb-true}
 use Rattle.whole.specs.Bools.{and-left, and-right}
-use Rattle.whole.specs.Fold.{tab}
+use Rattle.whole.specs.Fold.{tab, all, sum}
+use Rattle.whole.specs.Machine.{Within}
 use Rattle.whole.specs.Tab.{tab-cong, tab-self}
-use Rattle.lattice.specs.Lattice.{d3q19}
 use Rattle.lattice.specs.Cell.{carryGood}
-use Rattle.lattice.specs.declared.Settings.{Settings}
-use Rattle.grid.specs.declared.Sides.{Sides}
-use Rattle.grid.specs.declared.Answer.the-variants.{Done}
-use Rattle.grid.specs.Grid.{cellsOf, gridOf, box}
-use Rattle.grid.specs.State.{Lent, State, Scene, stateOf}
-use Rattle.grid.specs.Step.{flagAt, newFlag, newPart, newMass, newCarry}
-use Rattle.grid.specs.Good.{badRule}
-use Rattle.grid.specs.Outcome.{sceneOf, goodAnswer}
-use Rattle.grid.specs.Between.{Ready, movedPart, movedMass, firstMark}
-use Rattle.grid.specs.Halfway.{Moved, Turning, Turned}
-use Rattle.grid.proofs.Box.{grid-laid}
-use Rattle.grid.proofs.Prepared.{ready-sound, ready-carry}
+use Rattle.grid.specs.State.{Scene}
+use Rattle.grid.specs.Step.{newFlag, newMass, newCarry}
+use Rattle.grid.specs.Between.{movedMass, firstMark, settledMark, gatheredMass}
+use Rattle.flow.specs.Flowed.{MovedTo}
+use Rattle.excess.specs.Gifts.{gatheredAt, strayAt, settledMass, settledPart}
 use Rattle.excess.proofs.Settles.{tab-replicate}
+use Rattle.turn.specs.Born.{newlyBorn, laterPart, laterFair}
+use Rattle.turn.specs.Turned.{TurnedTo}
+use Rattle.turn.proofs.Field.{Field, sceneIn, sightIn, Sound, laid, walled}
+use Rattle.turn.proofs.Given.{Midway, gathered-is, carry-is}
+use Rattle.turn.proofs.Handed.{mass-after, part-after, marks-count}
+use Rattle.turn.proofs.Offspring.{later-is, newborn-fair}
 use Rattle.turn.proofs.Quiet.{flags-stay, parts-stay, masses-stay, carry-stays}
 
--- a list of one is its element
-single : (xs : List ℤ) → length xs ≡ 1 → xs ≡ getD xs 0 (pos 0) ∷ []
-single [] e = absurd (omega arith)
-single (x ∷ []) e = refl
-single (x ∷ (y ∷ xs)) e = absurd (omega arith)
-
-module _ (s : Sides) (g : Settings) (a : Lent) (r : Ready s g a) (parts masses : List ℤ) (marks : List ℕ) (fair : Bool)
-    (m : Moved (sceneOf s g a) (cellsOf s) parts masses marks fair true) where
+module _ (F : Field) (v : Sound F) where
   abbrev S : Scene
-  S = sceneOf s g a
+  S = sceneIn F
 
-  quiet : (c : ℕ) → c < S .grid .cells → firstMark S c ≡ 0
-  unfolding sceneOf gridOf box cellsOf
-  quiet c h = m .still-tells refl c h
+  abbrev n : ℕ
+  n = F .cells
 
-  flag-stays : (c : ℕ) → c < cellsOf s → newFlag S c ≡ getD (a .flags) c 3
-  unfolding sceneOf gridOf box cellsOf stateOf
-  flag-stays c h = flags-stay S (grid-laid s) (ready-sound s g a r .walled) (ready-sound s g a r .flagged) quiet c h
+  pub carry-within : Within (F .carry) 1000000000000
+  carry-within = record { abs = leb-true (natAbs (F .carry)) 1000000000000 (v .carry-good) }
 
-  part-stays : (c k : ℕ) → c < cellsOf s → newPart S c k ≡ movedPart S c k
-  unfolding sceneOf gridOf box cellsOf
-  part-stays c k h = parts-stay S (grid-laid s) (ready-sound s g a r .walled) (ready-sound s g a r .flagged) quiet c k h
+  -- ---- where nothing converts
+  module _ {part : ℕ → ℕ → ℤ} {masses : List ℤ} {marks : List ℕ} {fair : Bool} (m : MovedTo S n part masses marks fair true) where
+    in-grid : {c : ℕ} → c < n → c < F .grid .cells
+    in-grid {c} h = subst (λ (k : ℕ). c < k) (sym (v .stands .cells-are)) h
 
-  mass-stays : (c : ℕ) → c < cellsOf s → newMass S c ≡ movedMass S c
-  unfolding sceneOf gridOf box cellsOf
-  mass-stays c h = masses-stay S (grid-laid s) (ready-sound s g a r .walled) (ready-sound s g a r .flagged) quiet c h
+    in-field : {c : ℕ} → c < F .grid .cells → c < n
+    in-field {c} h = subst (λ (k : ℕ). c < k) (v .stands .cells-are) h
 
-  carry-same : newCarry S ≡ getD (a .carry) 0 (pos 0)
-  unfolding sceneOf gridOf box cellsOf stateOf
-  carry-same = carry-stays S (grid-laid s) (ready-sound s g a r .walled) (ready-sound s g a r .flagged) quiet
+    quiet : (c : ℕ) → c < F .grid .cells → firstMark S c ≡ 0
+    quiet c h = m .still-tells refl c (in-field h)
 
-  below : (n j : ℕ) → j < 19 * n → j / 19 < n
-  below n j h = div-lt-iff-lt-mul {k = 19} (zero-lt-suc 18) .1 (subst (λ (t : ℕ). j < t) (mul-comm 19 n) h)
+    flagged : (c : ℕ) → c < F .grid .cells → getD (F .flags) c 3 < 4
+    flagged c h = v .flagged c (in-field h)
 
-  pub still-turned : (flags : List ℕ) (carry : List ℤ) → flags ≡ a .flags → carry ≡ a .carry → Turned S (cellsOf s) flags parts masses carry marks true
-  unfolding sceneOf stateOf
-  still-turned flags carry ef ec = record {
-    flags-are = ef ∙ tab-self 3 (a .flags) ∙ ap (λ (n : ℕ). tab n (λ j. getD (a .flags) j 3)) (r .sized .flags)
-        ∙ tab-cong (cellsOf s) (λ j. getD (a .flags) j 3) (newFlag S) 3 (λ c h. sym (flag-stays c h));
-    parts-are = m .parts-are ∙ tab-cong (19 * cellsOf s) (λ j. movedPart S (j / 19) (j % 19)) (λ j. newPart S (j / 19) (j % 19)) (pos 0) (λ j h. sym (part-stays (j / 19) (j % 19) (below (cellsOf s) j h)));
-    masses-are = m .masses-are ∙ tab-cong (cellsOf s) (movedMass S) (newMass S) (pos 0) (λ c h. sym (mass-stays c h));
-    carry-is = ec ∙ single (a .carry) (r .sized .carry) ∙ ap (λ (z : ℤ). z ∷ []) (sym carry-same);
-    marks-are = m .marks-are ∙ tab-cong (cellsOf s) (firstMark S) (λ c. 0) 0 (λ c h. m .still-tells refl c h) ∙ tab-replicate (cellsOf s) 0 0;
-    newborn = λ e c h f n. absurd (omega (arith, flag-stays c h));
-    carry-fair = λ e. ap carryGood carry-same ∙ ready-carry s g a r;
-  }
+    flag-stays : (c : ℕ) → c < n → newFlag S c ≡ getD (F .flags) c 3
+    flag-stays c h = flags-stay S (laid F (v .stands)) (walled F (v .stands)) flagged quiet c (in-grid h)
 
--- what the conversion asks, where it is to be made
-pub turning-on : (s : Sides) (g : Settings) (a : Lent) (flags : List ℕ) (parts masses carry : List ℤ) (marks : List ℕ) (still : Bool) (flags′ : List ℕ) (carry′ : List ℤ)
-    → flags′ ≡ a .flags → carry′ ≡ a .carry → Turning s g a flags parts masses carry marks still → Turning s g a flags′ parts masses carry′ marks false
-turning-on s g a flags parts masses carry marks still flags′ carry′ ef ec t = record {
-  ready = t .ready;
-  moved = record {
-    steady = t .moved .steady;
-    parts-are = t .moved .parts-are;
-    masses-are = t .moved .masses-are;
-    marks-are = t .moved .marks-are;
-    fair-tells = t .moved .fair-tells;
-    still-tells = λ e. absurd (false≢true e);
-  };
-  flags-room = ap length ef ∙ t .ready .sized .flags;
-  carry-room = ap length ec ∙ t .ready .sized .carry;
-}
+    carry-same : newCarry S ≡ F .carry
+    carry-same = carry-stays S (laid F (v .stands)) (walled F (v .stands)) flagged quiet
+
+    pub still-turned : {flags : List ℕ} {carry : List ℤ} → flags ≡ F .flags → carry ≡ F .carry ∷ [] → TurnedTo S n flags part masses carry marks true
+    still-turned ef ec = record {
+      flags-are = ef ∙ tab-self 3 (F .flags) ∙ ap (λ (k : ℕ). tab k (λ j. getD (F .flags) j 3)) (v .stands .count)
+          ∙ tab-cong n (λ j. getD (F .flags) j 3) (newFlag S) 3 (λ c h. sym (flag-stays c h));
+      part-is = λ c k h l. m .part-is c k h l ∙ sym (parts-stay S (laid F (v .stands)) (walled F (v .stands)) flagged quiet c k (in-grid h));
+      masses-are = m .masses-are ∙ tab-cong n (movedMass S) (newMass S) (pos 0) (λ c h. sym (masses-stay S (laid F (v .stands)) (walled F (v .stands)) flagged quiet c (in-grid h)));
+      carry-is = ec ∙ ap (λ (z : ℤ). z ∷ []) (sym carry-same);
+      marks-are = m .marks-are ∙ tab-cong n (firstMark S) (λ c. 0) 0 (λ c h. m .still-tells refl c h) ∙ tab-replicate n 0 0;
+      newborn = λ e c h f k. absurd (omega (arith, flag-stays c h));
+      carry-fair = λ e. ap carryGood carry-same ∙ v .carry-good;
+    }
+
+  -- ---- the conversion, once pass 2 has settled the marks and pass 3 has turned the flags
+  module _ {before : ℕ → ℕ → ℤ} {masses : List ℤ} {first : List ℕ} {fair still : Bool} (m : MovedTo S n before masses first fair still)
+      {flags marks : List ℕ} (ef : flags ≡ tab n (newFlag S)) (ek : marks ≡ tab n (settledMark S))
+      {part : ℕ → ℕ → ℤ} (ep : (c k : ℕ) → c < n → k < 19 → part c k ≡ laterPart (sightIn F) (newlyBorn (F .flags) flags) before c k) where
+    -- pass 4 has given new interface cells their parts: where stage 6 begins
+    pub midway : Midway F flags (F .fills) part masses marks
+    midway = record {
+      stands = v .stands;
+      steady = m .steady;
+      fills-are = refl;
+      flags-are = ef;
+      part-is = λ c k h l. let t : k < 19 = omega arith in ep c k h t ∙ later-is F (v .stands) flags ef before c k h (m .part-is c k h t);
+      masses-are = m .masses-are;
+      marks-are = ek;
+    }
+
+    pub carry-told : {k z : ℤ} → z ≡ F .carry → k ≡ z +ℤ sum n (strayAt flags part masses marks (F .off) (F .low)) → k ≡ newCarry S
+    carry-told e f = f ∙ ap (λ (x : ℤ). x +ℤ sum n (strayAt flags part masses marks (F .off) (F .low))) e ∙ carry-is midway
+
+    pub masses-gathered : {after : List ℤ} → after ≡ tab n (gatheredAt flags (F .fills) part masses marks (F .off) (F .low)) → after ≡ tab n (gatheredMass S)
+    masses-gathered e = e ∙ gathered-is midway
+
+    -- passes 5 to 7
+    module _ {carry : ℤ} (ec : carry ≡ newCarry S) {gathered : List ℤ} (eg : gathered ≡ tab n (gatheredMass S))
+        {part″ : ℕ → ℕ → ℤ} {masses″ : List ℤ} {marks″ : List ℕ} (sp : (c k : ℕ) → c < n → k < 19 → part″ c k ≡ settledPart part marks c k)
+        (sm : masses″ ≡ tab (length marks) (settledMass part gathered marks)) (sk : marks″ ≡ replicate (length marks) 0) where
+      pub converted : {a b : Bool} → a ≡ all (length (F .flags)) (laterFair (sightIn F) (newlyBorn (F .flags) flags)) → b ≡ carryGood carry
+          → TurnedTo S n flags part″ masses″ (carry ∷ []) marks″ (a && b)
+      converted {a} {b} fa fb = record {
+        flags-are = ef;
+        part-is = λ c k h l. sp c k h l ∙ part-after midway c k h (omega arith);
+        masses-are = sm ∙ ap (λ (k : ℕ). tab k (settledMass part gathered marks)) (marks-count midway) ∙ tab-cong n (settledMass part gathered marks) (newMass S) (pos 0) (mass-after midway gathered eg);
+        carry-is = ap (λ (z : ℤ). z ∷ []) ec;
+        marks-are = sk ∙ ap (λ (k : ℕ). replicate k 0) (marks-count midway);
+        newborn = λ e. newborn-fair F (v .stands) flags ef fa (and-left a b e);
+        carry-fair = λ e. ap carryGood (sym ec) ∙ sym fb ∙ and-right a b e;
+      }

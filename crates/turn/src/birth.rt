@@ -62,7 +62,7 @@ fn plus(a: i64, b: i32) -> i64
 }
 
 // The sums with one cell more, of flow v.
-fn joined(t: Sum, v: Flow) -> Sum
+pub fn joined(t: Sum, v: Flow) -> Sum
     requires { ⌜ Roomy t ⌝ }
     ensures { λ r. ⌜ Joined t v r ⌝ }
 {
@@ -103,7 +103,7 @@ fn cut_mean(sum: i64, n: i64) -> i32
 }
 
 // The means. A density is never negative, so that the cut mean is the floor.
-fn mean(t: Sum) -> Flow
+pub fn mean(t: Sum) -> Flow
     requires { ⌜ Countable t ⌝ }
     ensures { λ r. ⌜ Meant t r ⌝ }
 {
@@ -163,7 +163,7 @@ fn put_born(
     fair_parts(v)
 }
 
-fn is_newborn(old: u8, new: u8) -> bool
+pub fn is_newborn(old: u8, new: u8) -> bool
     ensures { λ r. ⌜ r ≡ (eqb old 0 && eqb new 1) ⌝ }
 {
     (old == 0) & (new == 1)

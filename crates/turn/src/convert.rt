@@ -11,7 +11,7 @@ ghost use Rattle.grid.specs.Step.{flagAfter};
 ghost use Rattle.grid.specs.Passes.{turnedBy, turnedFlag, MarkedBy, Marked};
 
 // The new flag of a cell with flag f and mark m, by whether a neighbour is filled or emptied.
-fn kind_after(f: u8, m: u8, filled: bool, emptied: bool) -> u8
+pub fn kind_after(f: u8, m: u8, filled: bool, emptied: bool) -> u8
     requires { ⌜ (f < 4) × ((f ≡ 1 → ⊥) → m ≡ 0) ⌝ }
     ensures { λ r. ⌜ r ≡ flagAfter f filled (eqb m 1) (eqb m 2) emptied ⌝ }
 {

@@ -20,7 +20,7 @@ fn plain_fill(f: u8) -> u32
 }
 
 // Every fill but those of interface cells; with nothing else in it this loop runs many cells at a time.
-fn plain_fills(flags: &[u8], fill: &mut [u32])
+pub fn plain_fills(flags: &[u8], fill: &mut [u32])
     requires { ⌜ length (now fill) ≡ length (now flags) ⌝ }
     ensures { λ r. ⌜ now (fill .exit) ≡ tab (length (now (flags .entry))) (plainAt (now (flags .entry))) ⌝ }
 {

@@ -25,7 +25,7 @@ pub fn put_count(room: &mut [u8], at: usize, n: usize)
     put_u32(room, at, n as u32);
 }
 
-fn put_setting(room: &mut [u8], at: usize, x: i64)
+pub fn put_setting(room: &mut [u8], at: usize, x: i64)
     requires { ⌜ at + 4 ≤ length (now room) ⌝ }
     requires { ⌜ Within x 2147483647 ⌝ }
     ensures { λ _. ⌜ now (room .exit) ≡ sets (now (room .entry)) at (i32Of x) ⌝ }

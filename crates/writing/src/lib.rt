@@ -1,5 +1,5 @@
 // Layer 2, the writer of grid records. Knows the promises of record.
-mod cells;
-mod front;
+pub mod cells;
+pub mod front;
 mod put;
 pub mod writer;

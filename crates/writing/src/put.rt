@@ -13,7 +13,7 @@ ghost use lib.Seq.{sets};
 ghost use Rattle.grid.specs.State.{byFlag, liquid};
 ghost use Rattle.record.specs.Bytes.{i32Of};
 ghost use Rattle.grid.specs.Passes.{flagOf};
-ghost use Rattle.record.specs.Layout.{interfaces, liquids, massBytes, cellBytes, partBytes};
+ghost use Rattle.record.specs.Layout.{interfaces, liquids, massBytes, cellNumbers, partNumbers};
 
 pub fn put_flags(room: &mut [u8], at: usize, flags: &[u8])
     requires { ⌜ at + length (now flags) ≤ length (now room) ⌝ }
@@ -54,14 +54,14 @@ pub fn put_masses(room: &mut [u8], from: usize, flags: &[u8], masses: &[i32])
     }
 }
 
-// The nineteen parts that begin at `from`.
-fn put_cell(room: &mut [u8], at: usize, parts: &[i32], from: usize)
-    requires { ⌜ at + 76 ≤ length (now room) ⌝ }
-    requires { ⌜ from + 19 ≤ length (now parts) ⌝ }
-    ensures { λ _. ⌜ now (room .exit) ≡ sets (now (room .entry)) at (cellBytes (λ k. getD (now (parts .entry)) (from + k) (pos 0))) ⌝ }
+// The w parts of a cell that begin at `from`.
+fn put_cell(room: &mut [u8], at: usize, parts: &[i32], from: usize, w: usize)
+    requires { ⌜ at + 4 * w ≤ length (now room) ⌝ }
+    requires { ⌜ from + w ≤ length (now parts) ⌝ }
+    ensures { λ _. ⌜ now (room .exit) ≡ sets (now (room .entry)) at (cellNumbers w (λ k. getD (now (parts .entry)) (from + k) (pos 0))) ⌝ }
 {
     let mut k = 0;
-    while k < 19 {
+    while k < w {
         let x = parts[from + k];
         put_i32(room, at + 4 * k, x);
         k += 1;
@@ -69,28 +69,30 @@ fn put_cell(room: &mut [u8], at: usize, parts: &[i32], from: usize)
 }
 
 // The parts of a liquid cell; nothing of another.
-fn put_liquid(room: &mut [u8], at: usize, flag: u8, parts: &[i32], from: usize)
-    requires { ⌜ at + 76 * cond (liquid flag) 1 0 ≤ length (now room) ⌝ }
-    requires { ⌜ from + 19 ≤ length (now parts) ⌝ }
-    ensures { λ _. ⌜ now (room .exit) ≡ sets (now (room .entry)) at (byFlag flag [] (cellBytes (λ k. getD (now (parts .entry)) (from + k) (pos 0))) (cellBytes (λ k. getD (now (parts .entry)) (from + k) (pos 0))) []) ⌝ }
+fn put_liquid(room: &mut [u8], at: usize, flag: u8, parts: &[i32], from: usize, w: usize)
+    requires { ⌜ at + 4 * w * cond (liquid flag) 1 0 ≤ length (now room) ⌝ }
+    requires { ⌜ from + w ≤ length (now parts) ⌝ }
+    ensures { λ _. ⌜ now (room .exit) ≡ sets (now (room .entry)) at (byFlag flag [] (cellNumbers w (λ k. getD (now (parts .entry)) (from + k) (pos 0))) (cellNumbers w (λ k. getD (now (parts .entry)) (from + k) (pos 0))) []) ⌝ }
 {
     if one_liquid(flag) == 0 {
         return;
     }
-    put_cell(room, at, parts, from);
+    put_cell(room, at, parts, from, w);
 }
 
-pub fn put_parts(room: &mut [u8], from: usize, flags: &[u8], parts: &[i32])
-    requires { ⌜ from + 76 * liquids (length (now flags)) (flagOf (now flags)) ≤ length (now room) ⌝ }
-    requires { ⌜ length (now parts) ≡ 19 * length (now flags) ⌝ }
-    ensures { λ _. ⌜ now (room .exit) ≡ sets (now (room .entry)) from (partBytes (length (now (flags .entry))) (flagOf (now (flags .entry))) (λ c k. getD (now (parts .entry)) (19 * c + k) (pos 0))) ⌝ }
+// The parts of every liquid cell, w each.
+pub fn put_parts(room: &mut [u8], from: usize, flags: &[u8], parts: &[i32], w: usize)
+    requires { ⌜ w ≤ 19 ⌝ }
+    requires { ⌜ from + 4 * w * liquids (length (now flags)) (flagOf (now flags)) ≤ length (now room) ⌝ }
+    requires { ⌜ length (now parts) ≡ w * length (now flags) ⌝ }
+    ensures { λ _. ⌜ now (room .exit) ≡ sets (now (room .entry)) from (partNumbers w (length (now (flags .entry))) (flagOf (now (flags .entry))) (λ c k. getD (now (parts .entry)) (w * c + k) (pos 0))) ⌝ }
 {
     let mut at = from;
     let mut c = 0;
     while c < flags.len() {
         let flag = flags[c];
-        put_liquid(room, at, flag, parts, 19 * c);
-        at += 76 * one_liquid(flag);
+        put_liquid(room, at, flag, parts, w * c, w);
+        at += 4 * w * one_liquid(flag);
         c += 1;
     }
 }

@@ -52,7 +52,7 @@ fn put_record(
     ensures { λ _. ⌜ now (room .exit) ≡ sets (now (room .entry)) 0 (headBytes s g t carry poured taken ++ cellsBytes (length (now (flags .entry))) (now (flags .entry)) (λ c. getD (now (masses .entry)) c (pos 0)) (λ c k. getD (now (parts .entry)) (19 * c + k) (pos 0))) ⌝ }
 {
     put_head(room, s, g, t, carry, poured, taken);
-    put_cells(room, flags, parts, masses);
+    put_cells(room, 96, flags, parts, masses, 19);
 }
 
 // Tests 1 to 6 of a grid to be written.
@@ -109,7 +109,7 @@ pub fn write(
             bytes: 0,
         };
     }
-    let long = record_length(flags);
+    let long = record_length(flags, 96, 19);
     if room.len() < long {
         return Written {
             answer: Answer::Refused(12, long),

@@ -13,9 +13,11 @@ use crate::flume::scenes::good;
 use crate::flume::sets::blank;
 use crate::flume::state::State;
 use crate::grid::Refusal;
+use crate::hunt::TURBULENT_EVENTS;
 use crate::sets::Store;
 use crate::state::{FLUID, INTERFACE};
 use crate::text::{refused_record, steps_asked};
+use crate::turbulence::Modes;
 
 /// What the arguments ask for; none where they ask for nothing.
 pub fn answer(arguments: &[&str], input: impl FnOnce() -> Result<Vec<u8>>) -> Option<Result<Vec<u8>>> {
@@ -32,7 +34,8 @@ pub fn answer(arguments: &[&str], input: impl FnOnce() -> Result<Vec<u8>>) -> Op
         }),
         ["make", "good", seed] => Ok(good(seed.parse().ok()?).record()),
         ["make", "bad", seed] => Ok(bad(seed.parse().ok()?).bytes),
-        ["hunt", seeds, steps] => hunted(seeds.parse().ok()?, steps.parse().ok()?),
+        ["hunt", seeds, steps] => hunted(seeds.parse().ok()?, steps.parse().ok()?, Modes::Plain),
+        ["hunt", seeds, steps, word] => hunted(seeds.parse().ok()?, steps.parse().ok()?, Modes::asked(word)?),
         _ => return None,
     })
 }
@@ -82,10 +85,12 @@ fn shown(reading: &Reading, store: Store) -> Vec<u8> {
     section(&grid, &store.flags).into_bytes()
 }
 
-fn hunted(seeds: u64, steps: u32) -> Result<Vec<u8>> {
+fn hunted(seeds: u64, steps: u32, modes: Modes) -> Result<Vec<u8>> {
     let start = Instant::now();
-    let (tally, met) = hunt(seeds, steps).map_err(|finding| Error::other(format!("hunt: {finding}")))?;
-    let events = EVENTS.iter().map(|event| format!("{:>10}  {event}\n", tally.count(event)));
+    let (tally, met) =
+        hunt(seeds, steps, modes).map_err(|finding| Error::other(format!("hunt: {finding}")))?;
+    let besides = TURBULENT_EVENTS.iter().filter(|_| modes != Modes::Plain);
+    let events = EVENTS.iter().chain(besides).map(|event| format!("{:>10}  {event}\n", tally.count(event)));
     let mut lines: Vec<String> = events.chain(met.lines().map(|(_, line)| format!("{line}\n"))).collect();
     lines.push(format!("{:>10.1}  seconds\n", start.elapsed().as_secs_f64()));
     let accepted = tally.count("steps accepted");

@@ -1,7 +1,7 @@
 // The flume's hunt: demands 2 and 3, the largest values, records and damages tried on the oracle itself, seed by seed.
 
 use crate::damage::{cut_refusal, LEFT_OVER};
-use crate::flume::bounds::Met;
+use crate::flume::bounds::{look_at, BOUNDS};
 use crate::flume::damage::{bad, starts_of};
 use crate::flume::grid::Grid;
 use crate::flume::lattice::{dot, Flow, DIRECTIONS, MOVING, WEIGHTS};
@@ -11,12 +11,14 @@ use crate::flume::scenes::{good, settings, Scene};
 use crate::flume::sets::{blank, store};
 use crate::flume::settings::Settings;
 use crate::flume::state::{check, speed_allowed, test_closed, test_flags, State};
-use crate::flume::step::{draft, normal, pushed, steady, step, streamed, traded, Draft};
+use crate::flume::step::{draft, normal, pushed, relaxed_by, steady, step, streamed, traded, Draft};
 use crate::grid::Refusal;
 use crate::hunt::{ensure, Finding, Tally};
+use crate::met::Met;
 use crate::random::Random;
 use crate::state::{density_allowed, Rule, EMPTY, FLUID, INTERFACE, MASS_LIMIT, PART_LIMIT};
 use crate::step::{runs_dry, Fate};
+use crate::turbulence::{Modes, Relaxation};
 
 /// What a hunt has to meet, or its silence says nothing. The order is that of printing.
 pub const EVENTS: &[&str] = &[
@@ -73,13 +75,13 @@ pub const EVENTS: &[&str] = &[
 ];
 
 /// Hunts over seeds 0 to seeds − 1; an error names the seed and what failed.
-pub fn hunt(seeds: u64, steps: u32) -> Result<(Tally, Met), String> {
-    let (mut tally, mut met) = (Tally::default(), Met::default());
+pub fn hunt(seeds: u64, steps: u32, modes: Modes) -> Result<(Tally, Met), String> {
+    let (mut tally, mut met) = (Tally::default(), Met::nothing(BOUNDS));
     for seed in 0..seeds {
         let scene = good(seed);
         let random = &mut Random::new(seed ^ 0x666c_756d_65);
-        let found = walk(random, &scene, steps, &mut tally, &mut met)
-            .and_then(|()| runs(&scene, steps.min(8), &mut tally))
+        let found = walk(random, &scene, steps, modes, &mut tally, &mut met)
+            .and_then(|()| runs(&scene, steps.min(8), modes, &mut tally))
             .and_then(|()| cuts(&scene, &mut tally))
             .and_then(|()| damages(seed, &mut tally))
             .and_then(|()| met.breach().map_or(Ok(()), Err));
@@ -89,11 +91,19 @@ pub fn hunt(seeds: u64, steps: u32) -> Result<(Tally, Met), String> {
 }
 
 /// Steps a scene, settings changed now and then and after every refusal.
-fn walk(random: &mut Random, scene: &Scene, steps: u32, tally: &mut Tally, met: &mut Met) -> Finding {
+fn walk(
+    random: &mut Random,
+    scene: &Scene,
+    steps: u32,
+    modes: Modes,
+    tally: &mut Tally,
+    met: &mut Met,
+) -> Finding {
     let grid = scene.grid();
     let start = scene.state.total();
     let mut state = scene.state.clone();
     let mut setting = scene.settings;
+    let mut turbulent = modes.chosen(random);
     let (mut changed, mut refused) = (false, 0);
     ensure(check(scene.sides, store(&state).lend()).is_ok(), "a good scene was refused")?;
     records(scene, &state, &setting, tally)?;
@@ -103,9 +113,10 @@ fn walk(random: &mut Random, scene: &Scene, steps: u32, tally: &mut Tally, met: 
         let mut second = blank(grid.n());
         second.masses.fill(77);
         let mut marks = vec![9; grid.n()];
-        met.look_at(&grid, &state, &setting);
+        let relaxation = Relaxation { p: setting.p, turbulent };
+        look_at(met, &grid, &state, relaxation, setting.gravity);
         let answer =
-            step(scene.sides, setting.p, setting.gravity, first.lend(), second.lend_mut(), &mut marks);
+            step(scene.sides, relaxation, setting.gravity, first.lend(), second.lend_mut(), &mut marks);
         ensure(first == kept, "a step wrote its first set")?;
         ensure(marks.iter().all(|&mark| mark == 0), "marks left after a step")?;
         match answer {
@@ -113,10 +124,11 @@ fn walk(random: &mut Random, scene: &Scene, steps: u32, tally: &mut Tally, met: 
                 let next = State::of(second.lend());
                 ensure(check(scene.sides, second.lend()).is_ok(), "an accepted step gave a bad state")?;
                 ensure(next.total() == start, "water was lost or made")?;
-                let drafted = draft(&grid, &state, setting.p, setting.gravity)
+                let drafted = draft(&grid, &state, relaxation, setting.gravity)
                     .map_err(|_| "an accepted step has no draft")?;
                 converted(&grid, &state, &next, &setting, &drafted, tally)?;
-                collided_near(&grid, &state, &next, &setting, tally)?;
+                collided_near(&grid, &state, &next, relaxation, setting.gravity, tally)?;
+                tally.add_if("steps accepted in the turbulent mode", turbulent);
                 count_rebuilt(&grid, &state, tally);
                 count_accepted(&state, &next, &setting, changed, tally);
                 state = next;
@@ -125,7 +137,7 @@ fn walk(random: &mut Random, scene: &Scene, steps: u32, tally: &mut Tally, met: 
             }
             Err(refusal) => {
                 ensure(second == first, "a refused step's second set is no copy")?;
-                refused_for(&grid, &state, &setting, refusal, tally)?;
+                refused_for(&grid, &state, relaxation, setting.gravity, refusal, tally)?;
                 refused += 1;
             }
         }
@@ -134,6 +146,7 @@ fn walk(random: &mut Random, scene: &Scene, steps: u32, tally: &mut Tally, met: 
         }
         if refused > 0 || random.percent(15) {
             setting = Settings { edge: setting.edge, ..settings(random) };
+            turbulent = modes.chosen(random);
             changed = true;
         }
     }
@@ -223,18 +236,28 @@ fn converted(
     ensure(next.carry - old.carry == carried, "the carry changed by something else than lone excess")
 }
 
-/// Demand 2: every part of a cell that stays liquid against the exact BGK value, cross-multiplied.
-fn collided_near(grid: &Grid, old: &State, next: &State, setting: &Settings, tally: &mut Tally) -> Finding {
+/// Demand 2: every part of a cell that stays liquid against the exact BGK value at its p, cross-multiplied.
+fn collided_near(
+    grid: &Grid,
+    old: &State,
+    next: &State,
+    relaxation: Relaxation,
+    gravity: [i32; 2],
+    tally: &mut Tally,
+) -> Finding {
     let stayed = |c: &usize| old.cells[*c].liquid() && next.cells[*c].liquid();
     for c in (0..grid.n()).filter(stayed) {
         tally.add("cells that stayed liquid, demand 2", 1);
         let streamed = streamed(grid, old, c);
-        let flow = pushed(&streamed, setting.gravity);
+        let flow = pushed(&streamed, gravity);
+        let p = relaxed_by(&streamed, &flow, relaxation);
+        tally.add_if("cells whose own p is below p", p < relaxation.p);
+        tally.add_if("cells whose own p is p", relaxation.turbulent && p == relaxation.p);
         // Everything over 1024·72ρ': f + p/1024·(w·Q/(72ρ') − f).
         let unit = 1024 * 72 * flow.rho;
         for (i, f) in streamed.iter().enumerate() {
             let equilibrium = WEIGHTS[i] * flow.q(i);
-            let exact = f * unit + i128::from(setting.p) * (equilibrium - 72 * flow.rho * f);
+            let exact = f * unit + i128::from(p) * (equilibrium - 72 * flow.rho * f);
             let away = (next.cells[c].parts[i] * unit - exact).abs();
             let allowed = if MOVING.contains(&i) { 1 } else { 8 };
             ensure(away < allowed * unit, &format!("part {i} of cell {c} is too far from BGK"))?;
@@ -244,17 +267,24 @@ fn collided_near(grid: &Grid, old: &State, next: &State, setting: &Settings, tal
 }
 
 /// A refused step must have been refused for a reason of 7, or for a rule that rounding and gravity can break.
-fn refused_for(grid: &Grid, old: &State, setting: &Settings, refusal: Refusal, tally: &mut Tally) -> Finding {
+fn refused_for(
+    grid: &Grid,
+    old: &State,
+    relaxation: Relaxation,
+    gravity: [i32; 2],
+    refusal: Refusal,
+    tally: &mut Tally,
+) -> Finding {
     let place = refusal.place as usize;
-    match (refusal.number, draft(grid, old, setting.p, setting.gravity)) {
+    match (refusal.number, draft(grid, old, relaxation, gravity)) {
         (7, Err(same)) if same == refusal => {
-            let flow: Flow = pushed(&streamed(grid, old, place), setting.gravity);
+            let flow: Flow = pushed(&streamed(grid, old, place), gravity);
             let thin = !density_allowed(flow.rho);
             tally.add_if("refusal 7, density", thin);
             tally.add_if("refusal 7, speed", !thin && !speed_allowed(&flow));
             ensure(!steady(&flow), "refusal 7 without its reason")?;
             let earlier = (0..place).filter(|&c| old.cells[c].liquid());
-            let fine = |c: usize| steady(&pushed(&streamed(grid, old, c), setting.gravity));
+            let fine = |c: usize| steady(&pushed(&streamed(grid, old, c), gravity));
             ensure(earlier.into_iter().all(fine), "refusal 7 not at its lowest cell")
         }
         (8, Ok(Draft { state: next, .. })) => {
@@ -324,9 +354,10 @@ fn rewritten(bytes: &[u8]) -> Result<Vec<u8>, String> {
 }
 
 /// The run against the same steps made singly; both sets and the marks afterwards.
-fn runs(scene: &Scene, steps: u32, tally: &mut Tally) -> Finding {
+fn runs(scene: &Scene, steps: u32, modes: Modes, tally: &mut Tally) -> Finding {
     let n = scene.state.cells.len();
-    let Settings { p, gravity, .. } = scene.settings;
+    let gravity = scene.settings.gravity;
+    let p = Relaxation { p: scene.settings.p, turbulent: modes != Modes::Plain };
     let mut reached = store(&scene.state);
     let (mut count, mut refusal) = (0, None);
     while count < steps && refusal.is_none() {

@@ -10,6 +10,7 @@ use crate::lattice::{cut, floor, opposite};
 use crate::sets::{Set, SetMut};
 use crate::state::{density_allowed, EMPTY, FLUID, INTERFACE, WALL};
 use crate::step::{exchange, fills_up, runs_dry, shares, Fate};
+use crate::turbulence::{own, stress, tension, Own, Relaxation};
 
 /// What stages 1 to 4 make of one liquid cell.
 #[derive(Clone, Copy, Debug)]
@@ -113,6 +114,25 @@ pub fn pull(flow: &Flow, i: usize, f: i128) -> i128 {
     WEIGHTS[i] * flow.q(i) - 72 * flow.rho * f
 }
 
+/// Π of the streamed parts against stage 5's equilibrium at stage 3's density and momentum.
+pub fn stressed(streamed: &Parts, flow: &Flow) -> [[i128; 2]; 2] {
+    let still = flow.equilibrium();
+    stress(MOVING.map(|i| (DIRECTIONS[i], streamed[i] - still[i])))
+}
+
+/// P10: the cell's own p, and the numbers on the way to it.
+pub fn own_relaxation(streamed: &Parts, flow: &Flow, p: i32) -> Own {
+    own(p, tension(&stressed(streamed, flow)))
+}
+
+/// Stage 4's p of a cell.
+pub fn relaxed_by(streamed: &Parts, flow: &Flow, relaxation: Relaxation) -> i32 {
+    match relaxation {
+        Relaxation { p, turbulent: false } => p,
+        Relaxation { p, turbulent: true } => own_relaxation(streamed, flow, p).p,
+    }
+}
+
 /// Stage 4: the parts after collision.
 pub fn collided(streamed: &Parts, flow: &Flow, p: i32) -> Parts {
     let mut parts = *streamed;
@@ -124,7 +144,12 @@ pub fn collided(streamed: &Parts, flow: &Flow, p: i32) -> Parts {
 }
 
 /// Stages 1 to 4 of every cell, none where there is no liquid; or refusal 7.
-fn moved(grid: &Grid, old: &State, p: i32, gravity: [i32; 2]) -> Result<Vec<Option<Moved>>, Refusal> {
+fn moved(
+    grid: &Grid,
+    old: &State,
+    relaxation: Relaxation,
+    gravity: [i32; 2],
+) -> Result<Vec<Option<Moved>>, Refusal> {
     let cell = |c: usize| {
         if !old.cells[c].liquid() {
             return Ok(None);
@@ -135,6 +160,7 @@ fn moved(grid: &Grid, old: &State, p: i32, gravity: [i32; 2]) -> Result<Vec<Opti
             return refuse(7, c);
         }
         let mass = if old.cells[c].flag == FLUID { flow.rho } else { traded(grid, old, c) };
+        let p = relaxed_by(&streamed, &flow, relaxation);
         Ok(Some(Moved { flow, parts: collided(&streamed, &flow, p), mass }))
     };
     (0..grid.n()).map(cell).collect()
@@ -165,8 +191,13 @@ fn newborn(grid: &Grid, moved: &[Option<Moved>], c: usize) -> Parts {
 }
 
 /// Stages 1 to 6 from a good state, and stage 7's fills. The only refusal is 7.
-pub fn draft(grid: &Grid, old: &State, p: i32, gravity: [i32; 2]) -> Result<Draft, Refusal> {
-    let moved = moved(grid, old, p, gravity)?;
+pub fn draft(
+    grid: &Grid,
+    old: &State,
+    relaxation: impl Into<Relaxation>,
+    gravity: [i32; 2],
+) -> Result<Draft, Refusal> {
+    let moved = moved(grid, old, relaxation.into(), gravity)?;
 
     // Stage 5.
     let fates = fates(grid, old, &moved);
@@ -216,8 +247,13 @@ pub fn draft(grid: &Grid, old: &State, p: i32, gravity: [i32; 2]) -> Result<Draf
 }
 
 /// Stages 1 to 7 from a good state: the next state, or refusal 7 or 8.
-pub fn next_state(grid: &Grid, old: &State, p: i32, gravity: [i32; 2]) -> Result<State, Refusal> {
-    let next = draft(grid, old, p, gravity)?.state;
+pub fn next_state(
+    grid: &Grid,
+    old: &State,
+    relaxation: impl Into<Relaxation>,
+    gravity: [i32; 2],
+) -> Result<State, Refusal> {
+    let next = draft(grid, old, relaxation, gravity)?.state;
     match next.broken_place() {
         Some(place) => refuse(8, place),
         None => Ok(next),
@@ -245,14 +281,15 @@ pub fn tested(
 /// The step: the next state into the second set; after 7 or 8 a copy of the first.
 pub fn step(
     sides: [u32; 2],
-    p: i32,
+    relaxation: impl Into<Relaxation>,
     gravity: [i32; 2],
     first: Set,
     mut second: SetMut,
     marks: &mut [u8],
 ) -> Result<(), Refusal> {
-    let (grid, old) = tested(sides, p, gravity, first, second.as_set(), marks)?;
-    let next = next_state(&grid, &old, p, gravity);
+    let relaxation = relaxation.into();
+    let (grid, old) = tested(sides, relaxation.p, gravity, first, second.as_set(), marks)?;
+    let next = next_state(&grid, &old, relaxation, gravity);
     put(&mut second, next.as_ref().unwrap_or(&old));
     marks.fill(0);
     next.map(|_| ())

@@ -11,6 +11,10 @@ pub const PLAIN: Letters = Letters(2);
 /// The squares: no smaller and no larger than this, and all of them in about this room.
 const SQUARES: std::ops::RangeInclusive<usize> = 6..=64;
 const ROOM: (usize, usize) = (720, 560);
+/// A flume may have more cells along or up than any box: then its squares are smaller, and have more room.
+const WIDEST_BOX: usize = 128;
+const SMALL_SQUARES: std::ops::RangeInclusive<usize> = 2..=6;
+const WIDE_ROOM: (usize, usize) = (1240, 1024);
 /// The smallest square whose edges are drawn.
 const LINED: usize = 8;
 /// A tick, and what lies between it and its label.
@@ -46,7 +50,11 @@ pub struct Plan {
 impl Plan {
     /// For so many squares.
     pub fn new(columns: usize, rows: usize) -> Plan {
-        let square = (ROOM.0 / columns).min(ROOM.1 / rows).clamp(*SQUARES.start(), *SQUARES.end());
+        let (squares, room) = match columns.max(rows) <= WIDEST_BOX {
+            true => (SQUARES, ROOM),
+            false => (SMALL_SQUARES, WIDE_ROOM),
+        };
+        let square = (room.0 / columns).min(room.1 / rows).clamp(*squares.start(), *squares.end());
         let (width, height) = (square * columns, square * rows);
         let left = MARGIN + letters(6) + GAP + TICK;
         // Title, two lines on the grid, an empty one, one of names and one of labels.
@@ -68,20 +76,20 @@ pub fn letters(count: usize) -> usize {
 pub fn picture(drawing: &Drawing) -> Picture {
     let plan = Plan::new(drawing.rows[0].len(), drawing.rows.len());
     let below = plan.below().max(plan.top + legend_height(drawing, &plan)) + PLAIN.line();
-    let [_, place] = drawing.place();
+    let [_, place] = &drawing.place;
     let widest = [
         plan.legend - MARGIN + SWATCH + 2 * GAP + letters(WORDS),
         letters(NAMES + AMOUNTS + BETWEEN + COUNT_NAMES + COUNT_NUMBERS),
-        PLAIN.width(&place),
+        PLAIN.width(place),
         TITLE.width(&drawing.title),
     ];
     let whole = widest.into_iter().max().unwrap_or(0) + 2 * MARGIN;
 
     let balance = (1 + drawing.balance.len() - COUNTS) * PLAIN.line();
     let mut picture = Picture::new(whole, below + balance + MARGIN);
-    heading(&mut picture, &drawing.title, &drawing.place());
+    heading(&mut picture, &drawing.title, &drawing.place);
     squares(&mut picture, drawing, &plan);
-    scales(&mut picture, drawing.view, drawing.site.edge, &plan);
+    scales(&mut picture, drawing.view, drawing.edge, &plan);
     legends(&mut picture, drawing, &plan);
     tables(&mut picture, drawing, below);
     picture

@@ -25,6 +25,16 @@ impl Tile {
         }
     }
 
+    /// How full a cell is, none where it is wall.
+    pub fn fill(&self) -> Option<f32> {
+        match *self {
+            Tile::Wall => None,
+            Tile::Empty => Some(0.0),
+            Tile::Interface(fill) => Some(fill),
+            Tile::Fluid | Tile::Deep(_) => Some(1.0),
+        }
+    }
+
     /// The letter of the drawing as text: those of examples/sump.txt, and tenths.
     pub fn letter(&self, darkest: f32) -> char {
         match *self {
@@ -39,6 +49,16 @@ impl Tile {
 
 fn tenth(share: f32) -> char {
     char::from(b'0' + (10.0 * share).clamp(0.0, 9.0) as u8)
+}
+
+/// The square of a cell.
+pub fn cell(flag: u8, fill: u32) -> Tile {
+    match flag {
+        WALL => Tile::Wall,
+        INTERFACE => Tile::Interface(share(fill)),
+        FLUID => Tile::Fluid,
+        _ => Tile::Empty,
+    }
 }
 
 /// The squares of a view, by rows from the top.
@@ -57,12 +77,7 @@ pub fn rows(grid: &Grid, view: View) -> Result<Vec<Vec<Tile>>, Refusal> {
             (place[across as usize], place[up as usize], place[axis as usize]) = (right, height, at);
             let cell = sides.cell(place[0], place[1], place[2])?;
             let state = grid.state();
-            Ok(match state.flags[cell] {
-                WALL => Tile::Wall,
-                INTERFACE => Tile::Interface(share(state.fills[cell])),
-                FLUID => Tile::Fluid,
-                _ => Tile::Empty,
-            })
+            Ok(self::cell(state.flags[cell], state.fills[cell]))
         }
     };
     let row = |height: usize| (0..side(across)).map(|right| tile(right, height)).collect();

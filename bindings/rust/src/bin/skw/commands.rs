@@ -4,6 +4,7 @@ mod check;
 mod depth;
 mod depths;
 mod draw;
+mod flume;
 mod invert;
 mod mirror;
 mod place;
@@ -18,11 +19,14 @@ mod take;
 mod water;
 mod write;
 
+use std::ffi::{OsStr, OsString};
+
 use crate::arguments::{Arguments, Choice};
 use crate::failure::Failure;
 
 /// A command as help tells it, and what it does.
 pub struct Command {
+    /// A word, or for the flume two.
     pub name: &'static str,
     /// What stands behind the name.
     pub usage: &'static str,
@@ -53,4 +57,27 @@ pub const COMMANDS: &[Command] = &[
     draw::COMMAND,
     depths::COMMAND,
     invert::COMMAND,
+    flume::check::COMMAND,
+    flume::water::COMMAND,
+    flume::step::COMMAND,
+    flume::run::COMMAND,
+    flume::draw::COMMAND,
 ];
+
+/// The command that these words begin with, and the words behind it.
+pub fn found(words: &[OsString]) -> Option<(&'static Command, &[OsString])> {
+    let begins = |command: &&Command| {
+        let mut given = words.iter();
+        command.name.split(' ').all(|word| given.next().is_some_and(|given| given == word))
+    };
+    let command = COMMANDS.iter().find(begins)?;
+    Some((command, &words[command.name.split(' ').count()..]))
+}
+
+/// The commands whose name has this word before another.
+pub fn under(word: &OsStr) -> Vec<&'static Command> {
+    COMMANDS
+        .iter()
+        .filter(|command| command.name.split_once(' ').is_some_and(|(first, _)| word == first))
+        .collect()
+}

@@ -6,11 +6,13 @@ mod arguments;
 mod commands;
 mod failure;
 mod files;
+mod flumes;
 mod help;
 mod interrupt;
 mod inverts;
 mod progress;
 mod records;
+mod running;
 mod told;
 
 use std::env::args_os;
@@ -18,7 +20,6 @@ use std::ffi::OsString;
 use std::process::ExitCode;
 
 use arguments::Arguments;
-use commands::COMMANDS;
 use failure::Failure;
 
 fn main() -> ExitCode {
@@ -37,9 +38,10 @@ fn obey(words: &[OsString]) -> Result<(), Failure> {
         Some("help") => files::print(&help::asked(rest)?),
         Some("-h" | "--help") => files::print(&help::all()),
         Some("-V" | "--version") => files::print(&help::version()),
-        name => {
-            let command = COMMANDS.iter().find(|command| Some(command.name) == name);
-            let command = command.ok_or_else(|| Failure::Usage(help::unknown(first)))?;
+        _ => {
+            let Some((command, rest)) = commands::found(words) else {
+                return help::not_found(words);
+            };
             if Arguments::ask_for_help(rest) {
                 return files::print(&help::of(command));
             }

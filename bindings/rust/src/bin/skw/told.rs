@@ -3,7 +3,7 @@
 use skwarzyna::{Place, Refusal, Sides};
 
 /// The sections of a record: what each holds, and the bytes of a number in it.
-const SECTIONS: [(&str, usize); 7] = [
+pub const SECTIONS: [(&str, usize); 7] = [
     ("sides", 4),
     ("settings", 4),
     ("origin", 8),
@@ -12,6 +12,9 @@ const SECTIONS: [(&str, usize); 7] = [
     ("interface masses", 4),
     ("parts of liquid cells", 4),
 ];
+
+/// The section that the flume has another name for.
+pub const CARRY: usize = 4;
 
 /// A refusal in a grid of these sides.
 pub fn in_grid(refusal: Refusal, sides: Sides) -> String {
@@ -40,11 +43,15 @@ pub fn in_record(refusal: Refusal, record: &[u8]) -> String {
         Place::Byte(byte) => match numbers.section_from(byte) {
             Some(section) => {
                 let rest = record.len().saturating_sub(byte);
-                format!(": {} begins there and is not whole, {rest} bytes being left", named(section))
+                let section = named(section, SECTIONS[section - 1].0);
+                format!(": {section} begins there and is not whole, {rest} bytes being left")
             }
             None => ": the record should end there, and does not".to_string(),
         },
         Place::Section(section) => match numbers.count(section) {
+            Some(2) if section == 1 => {
+                " (sides): it is 2, as in a record of the flume, for which there is skw flume".to_string()
+            }
             Some(count) => format!(" ({}): it is {count}", SECTIONS[section - 1].0),
             None => String::new(),
         },
@@ -65,12 +72,12 @@ pub fn in_record(refusal: Refusal, record: &[u8]) -> String {
     format!("{refusal}{told}")
 }
 
-fn named(section: usize) -> String {
-    format!("section {section} ({})", SECTIONS[section - 1].0)
+pub fn named(section: usize, name: &str) -> String {
+    format!("section {section} ({name})")
 }
 
 /// The numbers of a record that is refused, as far as it has them.
-struct Numbers<'a>(&'a [u8]);
+pub struct Numbers<'a>(pub &'a [u8]);
 
 impl Numbers<'_> {
     fn u32_at(&self, at: usize) -> Option<u32> {
@@ -88,16 +95,16 @@ impl Numbers<'_> {
         Some(at)
     }
 
-    fn section_from(&self, byte: usize) -> Option<usize> {
+    pub fn section_from(&self, byte: usize) -> Option<usize> {
         (1..=SECTIONS.len()).find(|&section| self.start(section) == Some(byte))
     }
 
-    fn count(&self, section: usize) -> Option<u32> {
+    pub fn count(&self, section: usize) -> Option<u32> {
         self.u32_at(self.start(section)?)
     }
 
     /// The numbers of section 1, 2 or 3.
-    fn list(&self, section: usize, between: &str) -> String {
+    pub fn list(&self, section: usize, between: &str) -> String {
         let width = SECTIONS[section - 1].1;
         let numbers = self.start(section).and_then(|start| {
             let count = usize::try_from(self.count(section)?).ok()?;
@@ -111,9 +118,13 @@ impl Numbers<'_> {
         spelled.collect::<Vec<_>>().join(between)
     }
 
+    /// A side that stands there.
+    pub fn side(&self, at: usize) -> Option<usize> {
+        usize::try_from(self.u32_at(at)?).ok()
+    }
+
     fn sides(&self) -> Option<Sides> {
-        let side = |at: usize| usize::try_from(self.u32_at(at)?).ok();
-        let sides = Sides::new(side(4)?, side(8)?, side(12)?);
+        let sides = Sides::new(self.side(4)?, self.side(8)?, self.side(12)?);
         sides.cells().ok().map(|_| sides)
     }
 }

@@ -17,8 +17,8 @@ use Rattle.lattice.proofs.Ranges.{relaxation-in}
 use Rattle.lattice.proofs.Reading.{reading, inside}
 use Rattle.lattice.proofs.Tame.{steady-tame}
 use Rattle.collision.specs.Estimate.{landed, EndsNear}
-use Rattle.collision.proofs.Landed.{slack, landed-part}
-use Rattle.collision.proofs.Turns.{Done, begun, more, all-done}
+use Rattle.collision.proofs.Landed.{room, slack, landed-part}
+use Rattle.collision.proofs.Turns.{Done, eighteen, begun, more, all-done}
 use Rattle.collision.proofs.collide.collided.Statement.{statement}
 use Rattle.collision.proofs.collide.collided.Tie as tie
 
@@ -78,7 +78,8 @@ settled-requires c κs =
     let i = c .before .before .loop .i in
     let p = relaxation-in (s .args .p) (s .pre .2) in
     let hf = s .pre .0 .at i (omega arith) (omega arith) in
-    (ends-are t .at (i - 1) (omega arith) .most, within-by (search reading depth 20) tt, slack-in s)
+    let h : Within (toZ w32 (ofZ w32 (partsOf (s .args .t1) (c .before .before .loop .i)))) 1572864 = within-by (search reading depth 20) tt in
+    (room 2305843009213693952 1572864 (ends-are t .most (i - 1) (omega arith)) h tt, h, slack-in s)
 
 mul-settled-3 : tie.Need-mul-settled-3 Inv-loop μ-loop
 mul-settled-3 c = search needs
@@ -102,7 +103,8 @@ settled-requires-2 c κs =
     let i = c .before .before .before .before .loop .i in
     let p = relaxation-in (s .args .p) (s .pre .2) in
     let hf = s .pre .0 .at (i + 1) (omega arith) (omega arith) in
-    (ends-are t .at i (omega arith) .most, within-by (search reading depth 20) tt, slack-in s)
+    let h : Within (toZ w32 (ofZ w32 (partsOf (s .args .t1) (c .before .before .before .before .loop .i + 1)))) 1572864 = within-by (search reading depth 20) tt in
+    (room 2305843009213693952 1572864 (ends-are t .most i (omega arith)) h tt, h, slack-in s)
 
 mul-a : tie.Need-mul-a Inv-loop μ-loop
 mul-a c = search needs
@@ -223,7 +225,7 @@ returns-2 : tie.Need-returns-2 Inv-loop μ-loop
 returns-2 c =
     let s = c .before .before .before .before .before .before in
     let e : toZ w32 (ofZ w32 (s .args .v .rho)) ≡ s .args .v .rho = reads-as (v32 (inside (steady-tame (s .args .v) (s .pre .1) .rho))) tt in
-    all-done (forms c) (s .args .v .rho) (vec (s .args .v)) (s .args .p) (partsOf (s .args .t1)) (form-is c) (rw e at (c .before .before .before .loop .inv)) (omega arith)
+    all-done (forms c) (s .args .v .rho) d3q19 eighteen (vec (s .args .v)) (s .args .p) (partsOf (s .args .t1)) (form-is c) (rw e at (c .before .before .before .loop .inv)) (omega arith)
 
 pub collided-spec : {M : Type 1} → statement M
 collided-spec =

@@ -1,19 +1,17 @@
 -- `collision::estimate::ends`: what each axis and each pair of axes asks holds of a steady flow's rates, and each end brackets its direction. Assumes nothing.
 use mathlib.Core.Path.{_≡_, refl}
 use mathlib.Core.List.{[], _∷_}
-use Prim.Native.Nat.{ℕ, suc}
+use Prim.Native.Nat.{ℕ, suc, _<_}
 use lib.IntN.{negℤ, _+ℤ_, _-ℤ_}
 use lib.ListN.{getD}
 use mir.Syntax.{w32, w64}
 use mir.Val.{toZ, ofZ}
 use mir.Facts.{toZ-ofZ}
-use Rattle.whole.specs.Ring.{ring-by, quotes}
 use Rattle.whole.specs.Machine.{v32, v64, same, reads-as}
-use Rattle.lattice.specs.declared.Flow.{Flow}
-use Rattle.lattice.specs.Lattice.{dot, d3q19, open-lattice}
-use Rattle.lattice.specs.Body.{vec}
+use Rattle.lattice.specs.Lattice.{d3q19, open-lattice}
 use Rattle.lattice.proofs.Reading.{inside}
 use Rattle.collision.specs.Estimate.{RatesAre, Near, speed, odd, even, energy}
+use Rattle.collision.proofs.Dots.{dot1, dot2, dot3, dot4, dot5, dot6, dot7, dot8, dot9, dot10, dot11, dot12, dot13, dot14, dot15, dot16, dot17, dot18}
 use Rattle.collision.proofs.Each.{each18}
 use Rattle.collision.proofs.Rates.{Fair, calm-of, axis-x, axis-y, axis-z, base-in, joined, turned}
 use Rattle.collision.proofs.Ends.{asks-axis, axis-is, asks-crossed, crossed-is, axis-to, axis-fro, diagonal-to, diagonal-fro, near}
@@ -100,80 +98,6 @@ crossed-requires-3 c κs =
     let g = fair (k .before) in
     asks-crossed g (axis-x g) (axis-z g) (ex k) (ez k) (evx k) (evz k) (eox k) (eoz k) (eb k)
 
--- the table's e·j of each direction
-module _ (v : Flow) where
-  dot1 : dot (d3q19 .e 1) (vec v) ≡ v .x
-  unfolding open-lattice
-  dot1 = ring-by (v .x ∷ v .y ∷ v .z ∷ []) (search quotes depth 20) (search quotes depth 20) tt
-
-  dot2 : dot (d3q19 .e 2) (vec v) ≡ negℤ (v .x)
-  unfolding open-lattice
-  dot2 = ring-by (v .x ∷ v .y ∷ v .z ∷ []) (search quotes depth 20) (search quotes depth 20) tt
-
-  dot3 : dot (d3q19 .e 3) (vec v) ≡ v .y
-  unfolding open-lattice
-  dot3 = ring-by (v .x ∷ v .y ∷ v .z ∷ []) (search quotes depth 20) (search quotes depth 20) tt
-
-  dot4 : dot (d3q19 .e 4) (vec v) ≡ negℤ (v .y)
-  unfolding open-lattice
-  dot4 = ring-by (v .x ∷ v .y ∷ v .z ∷ []) (search quotes depth 20) (search quotes depth 20) tt
-
-  dot5 : dot (d3q19 .e 5) (vec v) ≡ v .z
-  unfolding open-lattice
-  dot5 = ring-by (v .x ∷ v .y ∷ v .z ∷ []) (search quotes depth 20) (search quotes depth 20) tt
-
-  dot6 : dot (d3q19 .e 6) (vec v) ≡ negℤ (v .z)
-  unfolding open-lattice
-  dot6 = ring-by (v .x ∷ v .y ∷ v .z ∷ []) (search quotes depth 20) (search quotes depth 20) tt
-
-  dot7 : dot (d3q19 .e 7) (vec v) ≡ v .x +ℤ v .y
-  unfolding open-lattice
-  dot7 = ring-by (v .x ∷ v .y ∷ v .z ∷ []) (search quotes depth 20) (search quotes depth 20) tt
-
-  dot8 : dot (d3q19 .e 8) (vec v) ≡ negℤ (v .x +ℤ v .y)
-  unfolding open-lattice
-  dot8 = ring-by (v .x ∷ v .y ∷ v .z ∷ []) (search quotes depth 20) (search quotes depth 20) tt
-
-  dot9 : dot (d3q19 .e 9) (vec v) ≡ v .x -ℤ v .y
-  unfolding open-lattice
-  dot9 = ring-by (v .x ∷ v .y ∷ v .z ∷ []) (search quotes depth 20) (search quotes depth 20) tt
-
-  dot10 : dot (d3q19 .e 10) (vec v) ≡ negℤ (v .x -ℤ v .y)
-  unfolding open-lattice
-  dot10 = ring-by (v .x ∷ v .y ∷ v .z ∷ []) (search quotes depth 20) (search quotes depth 20) tt
-
-  dot11 : dot (d3q19 .e 11) (vec v) ≡ v .y +ℤ v .z
-  unfolding open-lattice
-  dot11 = ring-by (v .x ∷ v .y ∷ v .z ∷ []) (search quotes depth 20) (search quotes depth 20) tt
-
-  dot12 : dot (d3q19 .e 12) (vec v) ≡ negℤ (v .y +ℤ v .z)
-  unfolding open-lattice
-  dot12 = ring-by (v .x ∷ v .y ∷ v .z ∷ []) (search quotes depth 20) (search quotes depth 20) tt
-
-  dot13 : dot (d3q19 .e 13) (vec v) ≡ v .y -ℤ v .z
-  unfolding open-lattice
-  dot13 = ring-by (v .x ∷ v .y ∷ v .z ∷ []) (search quotes depth 20) (search quotes depth 20) tt
-
-  dot14 : dot (d3q19 .e 14) (vec v) ≡ negℤ (v .y -ℤ v .z)
-  unfolding open-lattice
-  dot14 = ring-by (v .x ∷ v .y ∷ v .z ∷ []) (search quotes depth 20) (search quotes depth 20) tt
-
-  dot15 : dot (d3q19 .e 15) (vec v) ≡ v .x +ℤ v .z
-  unfolding open-lattice
-  dot15 = ring-by (v .x ∷ v .y ∷ v .z ∷ []) (search quotes depth 20) (search quotes depth 20) tt
-
-  dot16 : dot (d3q19 .e 16) (vec v) ≡ negℤ (v .x +ℤ v .z)
-  unfolding open-lattice
-  dot16 = ring-by (v .x ∷ v .y ∷ v .z ∷ []) (search quotes depth 20) (search quotes depth 20) tt
-
-  dot17 : dot (d3q19 .e 17) (vec v) ≡ v .x -ℤ v .z
-  unfolding open-lattice
-  dot17 = ring-by (v .x ∷ v .y ∷ v .z ∷ []) (search quotes depth 20) (search quotes depth 20) tt
-
-  dot18 : dot (d3q19 .e 18) (vec v) ≡ negℤ (v .x -ℤ v .z)
-  unfolding open-lattice
-  dot18 = ring-by (v .x ∷ v .y ∷ v .z ∷ []) (search quotes depth 20) (search quotes depth 20) tt
-
 returns : tie.Need-returns
 unfolding open-lattice
 returns c =
@@ -224,6 +148,9 @@ returns c =
           (near g d3q19 16 1 (negℤ (v .x +ℤ v .z)) refl (dot16 v) (diagonal-fro g pxz) (rxz .b))
           (near g d3q19 17 1 (v .x -ℤ v .z) refl (dot17 v) (diagonal-to g mxz) (rxz .c))
           (near g d3q19 18 1 (negℤ (v .x -ℤ v .z)) refl (dot18 v) (diagonal-fro g mxz) (rxz .d));
+      most =
+          each18 (λ (i : ℕ). getD (nx .a ∷ nx .b ∷ ny .a ∷ ny .b ∷ nz .a ∷ nz .b ∷ nxy .a ∷ nxy .b ∷ nxy .c ∷ nxy .d ∷ nyz .a ∷ nyz .b ∷ nyz .c ∷ nyz .d ∷ nxz .a ∷ nxz .b ∷ nxz .c ∷ nxz .d ∷ []) i 0 < 2305843009213693952)
+          (rx .a .most) (rx .b .most) (ry .a .most) (ry .b .most) (rz .a .most) (rz .b .most) (rxy .a .most) (rxy .b .most) (rxy .c .most) (rxy .d .most) (ryz .a .most) (ryz .b .most) (ryz .c .most) (ryz .d .most) (rxz .a .most) (rxz .b .most) (rxz .c .most) (rxz .d .most);
     }
 
 pub ends-spec : {M : Type 1} → statement M

@@ -54,13 +54,13 @@ turned b =
     ⊎-elim
     (λ w. (
       ap length (w .6) ∙ settled-size (l .loop .parts) (l .loop .c) (room b) (w .3 .ensures) ∙ l .loop .inv .0,
-      upon-as _ _ _ (l .loop .c + 1) (w .6) (w .7) (w .8)
+      upon-as partOf _ _ _ (l .loop .c + 1) (w .6) (w .7) (w .8)
           (upon-settle _ _ _ (partOf (l .loop .parts)) (l .loop .masses) (l .loop .marks) (l .loop .c) (l .loop .inv .1) h (w .0 .taken)
           (omega (arith, l .loop .inv .1 .masses-size, s .pre .masses-there)) _ _ (settled-list (l .loop .parts) (l .loop .c) (room b) (w .3 .ensures))),
     ))
     (λ w. (
       ap length (w .1) ∙ l .loop .inv .0,
-      upon-as _ _ _ (l .loop .c + 1) (w .1) (w .2) (w .3) (upon-keep _ _ _ (partOf (l .loop .parts)) (l .loop .masses) (l .loop .marks) (l .loop .c) (l .loop .inv .1) h (w .0 .left)),
+      upon-as partOf _ _ _ (l .loop .c + 1) (w .1) (w .2) (w .3) (upon-keep _ _ _ (partOf (l .loop .parts)) (l .loop .masses) (l .loop .marks) (l .loop .c) (l .loop .inv .1) h (w .0 .left)),
     ))
     (b .if1 .came)
 

@@ -40,7 +40,7 @@ put-moved-requires : tie.Need-put-moved-requires
 put-moved-requires c κs =
     let t = c .before .before in
     let s = t .before .before .before .before .before in
-    (bounded-streamed _ light19 _ _ _ _ _ noSettings (bodiesOf (s .pre .bodied)) _ (s .pre .around (kind t)) (kind t) _ (c .before .chosen .ensures), s .pre .settings, room s)
+    (bounded-streamed _ light19 _ _ _ _ _ noSettings (bodiesOf (s .pre .bodied)) _ (s .pre .around (kind t)) (kind t) _ (c .before .chosen .ensures) _ _ (omega arith) (omega arith), s .pre .settings, room s)
 
 same-length : tie.Need-same-length
 same-length c = search needs

@@ -150,7 +150,7 @@ module _ (c : tie.Else3) where
   -- what is left to answer is the totals'
   on-to-last : last u ≡ ifNone (n u) 5 (place u) (six u)
   on-to-last =
-      let b = none-bad (n u) (stateIn (r (i u))) (bad u) (rules u) (fair (unfair (c .before))) (sym (carry-is (c .before)) ∙ not-false _ (c .if3 .left)) in
+      let b = none-bad d3q19 (n u) (stateIn (r (i u))) (bad u) (rules u) (fair (unfair (c .before))) (sym (carry-is (c .before)) ∙ not-false _ (c .if3 .left)) in
       sym (skip (n u) 5 (place u) (six u) (shut u) ∙ skip (suc (n u)) 6 (badRule d3q19 (n u) (stateIn (r (i u)))) (last u) (omega (arith, b)))
 
 totals-are : (c : tie.After-good-totals) → let q = r (i (u (carried c))) in c .good-totals .result ≡ totalsGood (pouredIn q) (takenIn q)
@@ -233,7 +233,7 @@ returns-2 c =
     let u = c .before in
     let e = found u in
     let h : first (n u) (bad u) < n u = omega (arith, e, cells-are (f (i u) .before), c .if2 .taken) in
-    let b = bad-cell (n u) (stateIn (r (i u))) (bad u) (rules u) h in
+    let b = bad-cell d3q19 (n u) (stateIn (r (i u))) (bad u) (rules u) h in
     ap (Refused 6) (e ∙ sym b)
     ∙ sym (skip (n u) 5 (place u) (six u) (shut u) ∙ stop (suc (n u)) 6 (badRule d3q19 (n u) (stateIn (r (i u)))) (last u) (omega (arith, b, h)))
 
@@ -247,7 +247,7 @@ returns-3 : tie.Need-returns-3
 returns-3 c =
     let v = unfair (c .before) in
     let u = v .before in
-    let b = bad-carry (n u) (stateIn (r (i u))) (bad u) (rules u) (fair v) (sym (carry-is (c .before)) ∙ not-true _ (c .if3 .taken)) in
+    let b = bad-carry d3q19 (n u) (stateIn (r (i u))) (bad u) (rules u) (fair v) (sym (carry-is (c .before)) ∙ not-true _ (c .if3 .taken)) in
     ap (Refused 6) (cells-are (f (i u) .before) ∙ sym b)
     ∙ sym (skip (n u) 5 (place u) (six u) (shut u) ∙ stop (suc (n u)) 6 (badRule d3q19 (n u) (stateIn (r (i u)))) (last u) (omega (arith, b)))
 

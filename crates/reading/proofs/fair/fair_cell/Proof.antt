@@ -36,7 +36,7 @@ one-liquid-requires c κs = search needs
 returns : tie.Need-returns
 returns c =
     let a = c .before .before .before .args in
-    sym (fair-dry (a .flag) (i32At (now (a .rec)) (a .m)) (λ k. i32At (now (a .rec)) (a .p + 4 * k)) (sym (c .before .one-liquid .ensures) ∙ c .if1 .taken))
+    sym (fair-dry d3q19 (a .flag) (i32At (now (a .rec)) (a .m)) (λ k. i32At (now (a .rec)) (a .p + 4 * k)) (sym (c .before .one-liquid .ensures) ∙ c .if1 .taken))
 
 -- src/fair.rt:43:19
 parts-at-requires : tie.Need-parts-at-requires
@@ -56,13 +56,13 @@ body c =
 returns-2 : tie.Need-returns-2
 returns-2 c =
     let a = c .before .before .before .before .before .before .args in
-    sym (fair-not (a .flag) (i32At (now (a .rec)) (a .m)) (λ k. i32At (now (a .rec)) (a .p + 4 * k)) (λ e. c .before .before .before .if1 .left (c .before .before .before .before .one-liquid .ensures ∙ e)) (sym (body (c .before)) ∙ not-true _ (c .if2 .taken)))
+    sym (fair-not d3q19 (a .flag) (i32At (now (a .rec)) (a .m)) (λ k. i32At (now (a .rec)) (a .p + 4 * k)) (λ e. c .before .before .before .if1 .left (c .before .before .before .before .one-liquid .ensures ∙ e)) (sym (body (c .before)) ∙ not-true _ (c .if2 .taken)))
 
 -- src/fair.rt:47:9
 returns-3 : tie.Need-returns-3
 returns-3 c =
     let a = c .before .before .before .before .before .before .before .args in
-    sym (fair-fluid (a .flag) (i32At (now (a .rec)) (a .m)) (λ k. i32At (now (a .rec)) (a .p + 4 * k)) (c .if3 .taken) (sym (body (c .before .before)) ∙ not-false _ (c .before .if2 .left)))
+    sym (fair-fluid d3q19 (a .flag) (i32At (now (a .rec)) (a .m)) (λ k. i32At (now (a .rec)) (a .p + 4 * k)) (c .if3 .taken) (sym (body (c .before .before)) ∙ not-false _ (c .before .if2 .left)))
 
 -- src/fair.rt:49:20
 is-one : (c : tie.Else3) → c .before .before .before .before .before .before .before .args .flag ≡ 1
@@ -90,7 +90,7 @@ returns-4 c =
     let y = toZ-ofZ w64 (c .before .wide .result) (record { sfits = c .before .wide .ok }) in
     c .fair-mass .ensures
     ∙ ap massGood (y ∙ c .before .wide .ensures ∙ w ∙ c .before .before .i32-at .ensures)
-    ∙ sym (fair-interface (a .flag) (i32At (now (a .rec)) (a .m)) (λ k. i32At (now (a .rec)) (a .p + 4 * k)) (is-one (c .before .before .before)) (sym (body (c .before .before .before .before .before)) ∙ not-false _ (c .before .before .before .before .if2 .left)))
+    ∙ sym (fair-interface d3q19 (a .flag) (i32At (now (a .rec)) (a .m)) (λ k. i32At (now (a .rec)) (a .p + 4 * k)) (is-one (c .before .before .before)) (sym (body (c .before .before .before .before .before)) ∙ not-false _ (c .before .before .before .before .if2 .left)))
 
 pub fair-cell-spec : {M : Type 1} → statement M
 fair-cell-spec =

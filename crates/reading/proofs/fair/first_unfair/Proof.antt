@@ -12,6 +12,7 @@ use denote.Ref.{now}
 use borrow.Author.Count.{below-more}
 use Rattle.whole.specs.Fold.{count, first}
 use Rattle.whole.specs.Search.{first-is, first-all}
+use Rattle.lattice.specs.Lattice.{d3q19}
 use Rattle.grid.specs.State.{liquid}
 use Rattle.grid.specs.Passes.{flagOf}
 use Rattle.record.specs.Layout.{interfaces, liquids}
@@ -59,7 +60,7 @@ here c =
     let l = c .before .before .before in
     let a = l .before .before .before .args in
     c .fair-cell .ensures
-    ∙ fair-at (now (a .rec)) (now (a .flags)) (a .masses) (a .parts) (l .loop .m) (l .loop .p) (l .loop .c) (c .before .before .loop-test .taken) (l .loop .inv .1) (l .loop .inv .2)
+    ∙ fair-at d3q19 19 (now (a .rec)) (now (a .flags)) (a .masses) (a .parts) (l .loop .m) (l .loop .p) (l .loop .c) (c .before .before .loop-test .taken) (l .loop .inv .1) (l .loop .inv .2)
 
 loop-holds : tie.Need-loop-holds Inv-loop μ-loop
 unfolding interfaces liquids count

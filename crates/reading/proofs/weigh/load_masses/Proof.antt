@@ -22,7 +22,7 @@ use Rattle.grid.specs.Passes.{flagOf}
 use Rattle.grid.proofs.Lists.{getD-there}
 use Rattle.record.specs.Bytes.{i32At}
 use Rattle.record.specs.Layout.{interfaces}
-use Rattle.record.specs.Passes.{loadedMass, loadedFill}
+use Rattle.record.specs.Passes.{massLoaded, fillLoaded, loadedMass, loadedFill}
 use Rattle.record.proofs.Gathered.{interfaces-more, interfaces-le}
 use Rattle.record.proofs.ByFlag.{by-twice, fill-twice}
 use Rattle.reading.proofs.weigh.load_masses.Statement.{statement}
@@ -52,14 +52,14 @@ abbrev ρ-of : List ℤ → ℕ → ℤ
 -- what is stored is this cell's
 mass-here : (rec flags : List ℕ) (from at c : ℕ) (parts : List ℤ) → c < length flags → at ≡ from + 4 * interfaces c (flagOf flags)
     → byFlag (getD flags c 0) (pos 0) (i32At rec at) (byFlag (getD flags c 0) (pos 0) (ρ-of parts c) (ρ-of parts c) (pos 0)) (pos 0) ≡ loadedMass rec flags from parts c
-unfolding loadedMass
+unfolding massLoaded
 mass-here rec flags from at c parts h e =
     by-twice (getD flags c 0) (pos 0) (i32At rec at) (ρ-of parts c)
     ∙ ap₂ (λ (f i : ℕ). byFlag f (pos 0) (i32At rec i) (ρ-of parts c) (pos 0)) (getD-there flags c 0 3 h) e
 
 fill-here : (rec flags : List ℕ) (from c : ℕ) (parts : List ℤ) → c < length flags
     → fillFor (getD flags c 0) (loadedMass rec flags from parts c) (byFlag (getD flags c 0) (pos 0) (ρ-of parts c) (ρ-of parts c) (pos 0)) ≡ loadedFill rec flags from parts c
-unfolding loadedFill
+unfolding fillLoaded
 fill-here rec flags from c parts h =
     fill-twice (getD flags c 0) (loadedMass rec flags from parts c) (ρ-of parts c)
     ∙ ap (λ (f : ℕ). fillFor f (loadedMass rec flags from parts c) (ρ-of parts c)) (getD-there flags c 0 3 h)

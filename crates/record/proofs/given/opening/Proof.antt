@@ -3,6 +3,7 @@ use borrow.Author.Needs.{needs}
 use mathlib.Core.Path.{_≡_, sym, ap, _∙_, subst}
 use mathlib.Core.Bool.{true}
 use Prim.Native.Nat.{ℕ, _≤_}
+use native.Mathlib.Omega.{arith}
 use borrow.Author.Tests.{not-true, not-false}
 use denote.Ref.{now}
 use Rattle.grid.specs.declared.Answer.{Answer}
@@ -65,9 +66,10 @@ unfolding cellsIn cellsOf
 slices-fit-requires c κs =
     let s = sidesIn (now (c .before .before .before .before .before .before .before .before .args .rec)) in
     let g = good-sides s (sides-good (c .before)) .all in
-    subst (λ (n : ℕ). n ≤ 262144) (sym (cells-are c)) g
+    (omega arith, subst (λ (n : ℕ). n ≤ 262144) (sym (cells-are c)) g)
 
 returns-3 : tie.Need-returns-3
+unfolding slicesFit
 returns-3 c =
     let a = c .before .before .before .before .before .before .before .before .before .before .args in
     let r = now (a .rec) in
@@ -76,6 +78,7 @@ returns-3 c =
     sym (section-on (c .before .before .before .before .before .before) (orRefuse (sidesGood (sidesIn r)) 1 0 two) ∙ or-pass 1 0 two (sides-good (c .before .before .before)) ∙ or-fail 2 0 Done bad)
 
 returns-4 : tie.Need-returns-4
+unfolding slicesFit
 returns-4 c =
     let a = c .before .before .before .before .before .before .before .before .before .before .args in
     let r = now (a .rec) in

@@ -1,20 +1,18 @@
 -- `turn::turning::turned`: where nothing converts the copies are the next state; else the conversion makes it. Assumes nothing.
-use mathlib.Core.Path.{_≡_, refl, sym, ap, _∙_, subst}
+use mathlib.Core.Path.{_≡_, sym, ap, _∙_, subst}
 use mathlib.Core.Bool.{Bool, true}
 use mathlib.Core.List.{List}
 use Prim.Native.Nat.{ℕ, _*_, _/_, _%_}
 use lib.IntN.{ℤ}
 use lib.ListN.{length, length-replicate}
 use Rattle.whole.specs.Tab.{length-tab}
-use Rattle.lattice.specs.declared.Settings.{Settings}
-use Rattle.grid.specs.declared.Sides.{Sides}
 use Rattle.grid.specs.Grid.{cellsOf}
 use Rattle.grid.specs.State.{Lent, Scene}
 use Rattle.grid.specs.Step.{newFlag, newPart, newMass}
 use Rattle.grid.specs.Outcome.{sceneOf}
 use Rattle.grid.specs.Between.{movedPart, movedMass, firstMark}
-use Rattle.grid.specs.Halfway.{Moved, Turning, Turned}
-use Rattle.turn.proofs.Turns.{still-turned, turning-on}
+use Rattle.grid.specs.Halfway.{Moved}
+use Rattle.turn.proofs.Converts.{still-turned, turning-on}
 use Rattle.turn.proofs.turning.turned.Statement.{statement}
 use Rattle.turn.proofs.turning.turned.Tie as tie
 

@@ -22,11 +22,17 @@ mul-at c = search needs
 add-at-2 : tie.Need-add-at-2
 add-at-2 c = search needs
 
+add-at-3 : tie.Need-add-at-3
+add-at-3 c = search needs
+
 put-flag-section-requires : tie.Need-put-flag-section-requires
 put-flag-section-requires c κs = search needs
 
 add-put-mass-section : tie.Need-add-put-mass-section
 add-put-mass-section c = search needs
+
+add-put-mass-section-2 : tie.Need-add-put-mass-section-2
+add-put-mass-section-2 c = search needs
 
 put-mass-section-requires : tie.Need-put-mass-section-requires
 put-mass-section-requires c κs = search needs
@@ -41,7 +47,7 @@ returns : tie.Need-returns
 returns c =
     let a = c .before .before .before .before .before .before .before .before .before .before .before .before .before .before .before .args in
     let s = now (a .flags) in
-    cells-put (now (a .room)) s (λ k. getD (now (a .masses)) k (pos 0)) (λ k j. getD (now (a .parts)) (19 * k + j) (pos 0)) (length s) _ refl
+    cells-put (a .from) (a .w) (now (a .room)) s (λ k. getD (now (a .masses)) k (pos 0)) (λ k j. getD (now (a .parts)) (a .w * k + j) (pos 0)) (length s) _ refl
     (omega (arith, c .before .before .before .before .before .before .before .before .before .before .before .before .interface-cells .ensures))
     (c .before .before .before .before .before .before .before .before .before .before .put-flag-section .ensures)
     (c .before .before .before .before .before .before .put-mass-section .ensures)
@@ -52,11 +58,13 @@ put-cells-spec =
     tie.close
     (tie.spec
     add-at
+    add-at-2
     interface-cells-requires
     mul-at
-    add-at-2
+    add-at-3
     put-flag-section-requires
     add-put-mass-section
+    add-put-mass-section-2
     put-mass-section-requires
     put-part-section-requires
     same-length

@@ -11,15 +11,15 @@ use mir.ValLaws.{toZ-ofZ}
 use mir.Syntax.{w32}
 use Rattle.record.proofs.Gathered.{cell-turn}
 use Rattle.record.specs.Bytes.{gathered, i32Of}
-use Rattle.record.specs.Layout.{cellBytes}
+use Rattle.record.specs.Layout.{cellNumbers}
 use Rattle.writing.proofs.put.put_cell.Statement.{statement}
 use Rattle.writing.proofs.put.put_cell.Tie as tie
 
 abbrev Inv-loop : tie.InvT-loop
-Inv-loop room₀ at parts from k₀ room k = (k ≤ 19) × (room ≡ sets room₀ at (gathered k (λ j. i32Of (getD parts (from + j) (pos 0)))))
+Inv-loop room₀ at parts from w k₀ room k = (k ≤ w) × (room ≡ sets room₀ at (gathered k (λ j. i32Of (getD parts (from + j) (pos 0)))))
 
 abbrev μ-loop : tie.MeasureT-loop
-μ-loop room₀ at parts from k₀ room k = 19 - k
+μ-loop room₀ at parts from w k₀ room k = w - k
 
 -- the room keeps its length
 long : (c : tie.At-loop Inv-loop μ-loop) → length (c .loop .room) ≡ length (now (c .before .before .args .room))
@@ -41,7 +41,7 @@ shared-slice-copy-out-x : tie.Need-shared-slice-copy-out-x Inv-loop μ-loop
 shared-slice-copy-out-x c = omega (arith, c .before .before .before .pre .1)
 
 mul-put-i32 : tie.Need-mul-put-i32 Inv-loop μ-loop
-mul-put-i32 c = record { fits = omega arith }
+mul-put-i32 c = record { fits = omega (arith, c .before .before .before .before .before .pre .0) }
 
 add-put-i32 : tie.Need-add-put-i32 Inv-loop μ-loop
 add-put-i32 c = record { fits = omega (arith, c .before .before .before .before .before .pre .0) }
@@ -70,10 +70,10 @@ same-length : tie.Need-same-length Inv-loop μ-loop
 same-length c = long (c .before)
 
 returns : tie.Need-returns Inv-loop μ-loop
-unfolding cellBytes
+unfolding cellNumbers
 returns c =
     let a = c .before .before .before .args in
-    let e : c .before .loop .k ≡ 19 = omega arith in
+    let e : c .before .loop .k ≡ a .w = omega arith in
     c .before .loop .inv .1 ∙ ap (λ (k : ℕ). sets (now (a .room)) (a .at) (gathered k (λ j. i32Of (getD (now (a .parts)) (a .from + j) (pos 0))))) e
 
 pub put-cell-spec : {M : Type 1} → statement M

@@ -33,12 +33,15 @@ put-cells-requires : tie.Need-put-cells-requires
 put-cells-requires c κs =
     let d = c .before .before .before .before .before .before .before in
     let p = d .pre .1 .1 in (
-      omega (arith, p .1 .1 .1, c .before .before .before .put-head .kept .0),
+      omega arith,
       (
-        small (d .args .s) (d .pre .0) (p .0),
+        omega (arith, p .1 .1 .1, c .before .before .before .put-head .kept .0),
         (
-          p .1 .0 ∙ ap (λ (n : ℕ). 19 * n) (sym (p .0)),
-          p .1 .1 .0 ∙ sym (p .0),
+          small (d .args .s) (d .pre .0) (p .0),
+          (
+            p .1 .0 ∙ ap (λ (n : ℕ). 19 * n) (sym (p .0)),
+            p .1 .1 .0 ∙ sym (p .0),
+          ),
         ),
       ),
     )

@@ -61,7 +61,7 @@ record-length-requires : tie.Need-record-length-requires
 unfolding cellsOf
 record-length-requires c κs =
     let d = c .before .before .before .before .before .before in
-    omega (arith, is-fit c .lengths .flags, good-sides (d .args .s) (is-fit c .sides) .all)
+    (omega (arith, is-fit c .lengths .flags, good-sides (d .args .s) (is-fit c .sides) .all), (omega arith, omega arith))
 
 returns-2 : tie.Need-returns-2
 returns-2 c =

@@ -1,15 +1,13 @@
-// skw run: any number of steps, in lots that the library makes at a time.
+// skw run: any number of steps.
 
-use std::time::{Duration, Instant};
-
-use skwarzyna::spelling::grouped;
-use skwarzyna::{Record, Refusal};
+use skwarzyna::{Record, Refusal, Stopped};
 
 use super::Command;
 use crate::arguments::{Arguments, OUTPUT, QUIET};
-use crate::failure::{remark, Failure};
-use crate::progress::{lasting, Progress};
-use crate::{interrupt, records, told};
+use crate::failure::Failure;
+use crate::files::Output;
+use crate::running::{self, Runs};
+use crate::{records, told};
 
 pub const COMMAND: Command = Command {
     name: "run",
@@ -32,78 +30,25 @@ left.
     act,
 };
 
-/// The library's limit to the steps of one run.
-const LOT: u64 = 1000;
-/// A lot is to take about this long, so that a run can be watched and ended.
-const SHORT: Duration = Duration::from_millis(50);
-const LONG: Duration = Duration::from_millis(200);
-
 fn act(mut arguments: Arguments) -> Result<(), Failure> {
     let steps = arguments.number("K")?;
-    self::steps(arguments, steps)
+    running::steps(arguments, steps, |input| Ok(records::read(input)?.0))
 }
 
-/// How a run ended.
-struct Ended {
-    made: u64,
-    refusal: Option<Refusal>,
-    signal: Option<u8>,
-}
-
-/// What step and run have in common.
-pub fn steps(mut arguments: Arguments, steps: u64) -> Result<(), Failure> {
-    let quiet = arguments.has(&QUIET);
-    let (input, output) = (arguments.input()?, arguments.output(true)?);
-    // Before the work, so that hours of it are not lost to a name that cannot be written.
-    output.ready()?;
-    let (mut record, _) = records::read(&input)?;
-    let before = record.grid.total();
-
-    interrupt::listen();
-    let mut progress = Progress::new(steps, quiet);
-    let ended = advance(&mut record, steps, &mut progress);
-    progress.end();
-    records::write(&record, &output)?;
-
-    let made = format!("{} of {} steps made", grouped(ended.made), grouped(steps));
-    let kept = format!("the state reached is in {}", output.name());
-    if let Some(refusal) = ended.refusal {
-        let why = told::in_grid(refusal, record.grid.sides());
-        return Err(Failure::Refused(format!("{}: {why}; {made}; {kept}", input.name())));
+impl Runs for Record {
+    fn run(&mut self, steps: usize) -> Result<(), Stopped> {
+        self.grid.run(steps, self.settings)
     }
-    if let Some(signal) = ended.signal {
-        return Err(Failure::Interrupted(format!("interrupted: {made}; {kept}"), signal));
-    }
-    if !quiet {
-        let [before, after] = [before, record.grid.total()].map(grouped);
-        remark(&format!(
-            "{made} in {}; total {before} units before, {after} after",
-            lasting(progress.seconds())
-        ));
-    }
-    Ok(())
-}
 
-/// Makes the steps until all are made, one is refused, or somebody asks to end.
-fn advance(record: &mut Record, steps: u64, progress: &mut Progress) -> Ended {
-    let (mut made, mut lot) = (0, 1);
-    while made < steps {
-        if let Some(signal) = interrupt::asked() {
-            return Ended { made, refusal: None, signal: Some(signal) };
-        }
-        let count = lot.min(steps - made);
-        let start = Instant::now();
-        if let Err(stopped) = record.grid.run(count as usize, record.settings) {
-            made += stopped.count as u64;
-            return Ended { made, refusal: Some(stopped.refusal), signal: None };
-        }
-        made += count;
-        match start.elapsed() {
-            took if took < SHORT => lot = (2 * lot).min(LOT),
-            took if took > LONG => lot = (lot / 2).max(1),
-            _ => (),
-        }
-        progress.show(made);
+    fn total(&self) -> i64 {
+        self.grid.total()
     }
-    Ended { made, refusal: None, signal: None }
+
+    fn write(&self, output: &Output) -> Result<(), Failure> {
+        records::write(self, output)
+    }
+
+    fn told(&self, refusal: Refusal) -> String {
+        told::in_grid(refusal, self.grid.sides())
+    }
 }

@@ -1,8 +1,9 @@
 // skw step: one step.
 
-use super::{run, Command};
+use super::Command;
 use crate::arguments::{Arguments, OUTPUT, QUIET};
 use crate::failure::Failure;
+use crate::{records, running};
 
 pub const COMMAND: Command = Command {
     name: "step",
@@ -20,5 +21,5 @@ refusal is told, and the status is 1.
 };
 
 fn act(arguments: Arguments) -> Result<(), Failure> {
-    run::steps(arguments, 1)
+    running::steps(arguments, 1, |input| Ok(records::read(input)?.0))
 }

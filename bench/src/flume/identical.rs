@@ -1,0 +1,103 @@
+// The proved step of the flume is the oracle's, every buffer, refused or not; and the plain one's over whole runs. What differs is told with its seed.
+
+use oracle::flume::scenes::good;
+use oracle::flume::sets::store;
+use oracle::{flume, Refusal, Store};
+
+use super::engine::Engine;
+use super::scenes::Scene;
+use super::Settings;
+use crate::engine::{Answer, Ran, ACCEPTED};
+
+/// A step and its inputs.
+#[derive(Clone, PartialEq)]
+pub struct Case {
+    pub sides: [usize; 2],
+    pub settings: Settings,
+    pub first: Store,
+    pub second: Store,
+    pub marks: Vec<u8>,
+}
+
+fn answer(refusal: Option<Refusal>) -> Answer {
+    refusal.map_or(ACCEPTED, |refusal| Answer::refused(refusal.number as u8, refusal.place as usize))
+}
+
+impl Case {
+    /// The second set and the marks hold what a step must overwrite.
+    pub fn of(sides: [usize; 2], settings: Settings, first: &Store) -> Case {
+        let mut second = first.clone();
+        second.flags.fill(7);
+        second.parts.fill(-5);
+        second.masses.fill(11);
+        second.fills.fill(13);
+        second.carry.fill(17);
+        Case { sides, settings, first: first.clone(), second, marks: vec![9; first.flags.len()] }
+    }
+
+    pub fn of_scene(scene: &Scene) -> Case {
+        Case::of(scene.sides, scene.settings, &scene.store)
+    }
+
+    pub fn step(&mut self, engine: Engine) -> Answer {
+        let Case { sides, settings, first, second, marks } = self;
+        (engine.step)(*sides, *settings, first.lend(), second.lend_mut(), marks)
+    }
+
+    pub fn run(&mut self, engine: Engine, steps: usize) -> Ran {
+        let Case { sides, settings, first, second, marks } = self;
+        (engine.run)(*sides, *settings, steps, first.lend_mut(), second.lend_mut(), marks)
+    }
+
+    /// The oracle's step.
+    fn wanted(&mut self) -> Answer {
+        let (sides, gravity) = (self.sides.map(|side| side as u32), self.settings.gravity.map(|g| g as i32));
+        let (first, second) = (self.first.lend(), self.second.lend_mut());
+        answer(flume::step(sides, self.settings.p as i32, gravity, first, second, &mut self.marks).err())
+    }
+}
+
+/// An engine's step and the oracle's from one case; the answer, and what both left.
+pub fn same_step(engine: Engine, case: &Case) -> Result<(Answer, Case), String> {
+    let (mut ours, mut theirs) = (case.clone(), case.clone());
+    let (given, wanted) = (ours.step(engine), theirs.wanted());
+    if given != wanted {
+        return Err(format!("{}: a step answers {given:?}, the oracle {wanted:?}", engine.name));
+    }
+    if ours != theirs {
+        return Err(format!("{}: a step leaves other buffers than the oracle's", engine.name));
+    }
+    Ok((given, ours))
+}
+
+/// A run of two engines from one case: what both answered and left.
+pub fn same_run(one: Engine, other: Engine, case: &Case, steps: usize) -> Result<(Ran, Case), String> {
+    let (mut ours, mut theirs) = (case.clone(), case.clone());
+    let (given, wanted) = (ours.run(one, steps), theirs.run(other, steps));
+    if given != wanted || ours != theirs {
+        return Err(format!("{} and {} part within {steps} steps", one.name, other.name));
+    }
+    Ok((given, ours))
+}
+
+/// Steps accepted and refused on random states, each stepped on while it can be.
+pub fn hunt(engine: Engine, seeds: u64, steps: usize) -> Result<[usize; 2], String> {
+    let mut met = [0; 2];
+    for seed in 0..seeds {
+        let scene = good(seed);
+        let settings =
+            Settings { p: scene.settings.p.into(), gravity: scene.settings.gravity.map(i64::from) };
+        let sides = scene.sides.map(|side| side as usize);
+        let mut case = Case::of(sides, settings, &store(&scene.state));
+        for step in 0..steps {
+            let named = |error: String| format!("flume seed {seed}, step {step}: {error}");
+            let (answer, after) = same_step(engine, &case).map_err(named)?;
+            met[usize::from(answer != ACCEPTED)] += 1;
+            if answer != ACCEPTED {
+                break;
+            }
+            case = Case::of(sides, settings, &after.second);
+        }
+    }
+    Ok(met)
+}

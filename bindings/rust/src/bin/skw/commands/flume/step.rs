@@ -1,0 +1,25 @@
+// skw flume step: one step of a flume.
+
+use crate::arguments::{Arguments, OUTPUT, QUIET};
+use crate::commands::Command;
+use crate::failure::Failure;
+use crate::{flumes, running};
+
+pub const COMMAND: Command = Command {
+    name: "flume step",
+    usage: "[FILE] [-o FILE] [-q]",
+    summary: "make one step of it with its own settings",
+    help: "\
+Makes one step of a flume with the record's own settings and writes the record
+of the state reached. A refused step (7 or 8) leaves the state as it was: that is
+written, the refusal is told, and the status is 1.
+
+    skw flume step weir.rec -o next.rec
+    skw flume step < weir.rec | skw flume step | skw flume water",
+    choices: &[OUTPUT, QUIET],
+    act,
+};
+
+fn act(arguments: Arguments) -> Result<(), Failure> {
+    running::steps(arguments, 1, |input| Ok(flumes::read(input)?.0))
+}

@@ -1,0 +1,34 @@
+// Settings of a flume, and where it lies in the survey.
+
+/// What a step is made with.
+#[derive(Clone, Copy, Debug, PartialEq, Eq, Hash)]
+pub struct Settings {
+    /// The relaxation in 1,024ths, 1 to 2037: the lower, the more viscous the water.
+    pub p: i64,
+    /// Gravity along x and up, in cells per step and step, in 1,048,576ths; gx² + gz² is at most 1,099,511.
+    pub gx: i64,
+    pub gz: i64,
+}
+
+/// A survey point in whole millimetres, each coordinate within ±10,000,000,000.
+#[derive(Clone, Copy, Debug, Default, PartialEq, Eq, Hash)]
+pub struct Point {
+    pub x: i64,
+    pub z: i64,
+}
+
+impl Point {
+    /// The point with these coordinates.
+    pub const fn new(x: i64, z: i64) -> Point {
+        Point { x, z }
+    }
+}
+
+/// Where a flume lies.
+#[derive(Clone, Copy, Debug, PartialEq, Eq, Hash)]
+pub struct Site {
+    /// The edge of a cell, 1 to 1,000 millimetres.
+    pub edge: i64,
+    /// The survey point of the section's corner, that of cell 0.
+    pub origin: Point,
+}

@@ -1,0 +1,4 @@
+pub mod Nines
+pub mod Gains
+pub mod Poise
+pub mod Puts

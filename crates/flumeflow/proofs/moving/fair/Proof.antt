@@ -1,0 +1,40 @@
+-- `flumeflow::moving::fair`: both tests together are the rule of a liquid cell's body, whose density is known. Assumes nothing.
+use mathlib.Core.Path.{_≡_, sym, ap, ap₂, _∙_, subst}
+use mathlib.Core.Bool.{_&&_}
+use lib.IntN.{ℤ}
+use mir.Facts.{toZ-ofZ}
+use Rattle.whole.specs.Machine.{Within}
+use Rattle.lattice.specs.declared.Flow.{Flow}
+use Rattle.lattice.specs.Body.{vec}
+use Rattle.lattice.proofs.Bodies.{flow-x, flow-y, flow-z, body-is}
+use borrow.Author.Needs.{needs}
+use Rattle.flumeflow.specs.PutAt.{atDensity}
+use Rattle.flumeflow.proofs.moving.fair.Statement.{statement}
+use Rattle.flumeflow.proofs.moving.fair.Tie as tie
+
+all-inside-requires : tie.Need-all-inside-requires
+all-inside-requires c κs = search needs
+
+flow-of-requires : tie.Need-flow-of-requires
+flow-of-requires c κs = search needs
+
+at-density-requires : tie.Need-at-density-requires
+at-density-requires c κs = search needs
+
+steady-requires : tie.Need-steady-requires
+steady-requires c κs =
+    let s = c .before .before .before in
+    let v = c .before .flow-of .result in
+    let e = c .before .flow-of .ensures .1 in
+    subst (λ (w : Flow). Within (w .x) 400000000 × Within (w .y) 400000000 × Within (w .z) 400000000) (sym (c .at-density .ensures))
+    (flow-x (s .args .f) (s .pre .0) v e 400000000 tt, flow-y (s .args .f) (s .pre .0) v e 400000000 tt, flow-z (s .args .f) (s .pre .0) v e 400000000 tt)
+
+returns : tie.Need-returns
+returns c =
+    let s = c .before .before .before .before in
+    let d = c .before .at-density .ensures in
+    ap₂ _&&_ (c .before .before .before .all-inside .ensures) (c .steady .ensures)
+    ∙ body-is (s .args .f) (c .before .at-density .result) (ap (λ (w : Flow). w .rho) d ∙ toZ-ofZ (s .fits .rho) ∙ sym (s .pre .1)) (ap vec d ∙ c .before .before .flow-of .ensures .1)
+
+pub fair-spec : {M : Type 1} → statement M
+fair-spec = tie.close (tie.spec all-inside-requires flow-of-requires at-density-requires steady-requires returns)

@@ -1,0 +1,94 @@
+-- `flumeflow::moving::put_parts9` does stages 1 to 4 of any cell: what is not liquid gets zeros. Assumes nothing.
+use mathlib.Core.Path.{_≡_, sym, ap, _∙_}
+use mathlib.Core.Bool.{true}
+use Prim.Native.Nat.{_+_, _*_, _≤_}
+use native.Mathlib.Omega.{arith}
+use lib.ListN.{length, getD}
+use Rattle.grid.specs.State.{liquid}
+use Rattle.grid.specs.Sight.{noSettings}
+use Rattle.grid.proofs.Lists.{getD-there}
+use Rattle.flow.proofs.Collisions.{told-dry, none}
+use Rattle.flow.proofs.Spans.{bounded-streamed}
+use Rattle.flume.specs.Spread.{spreadLattice}
+use Rattle.nine.specs.Cells.{partOf9, pasted9}
+use Rattle.nine.proofs.Pasted.{length-pasted9}
+use Rattle.flumeflow.proofs.Nines.{light9, quiet-streamed}
+use borrow.Author.Needs.{needs}
+use Rattle.flumeflow.proofs.moving.put_parts9.Statement.{statement}
+use Rattle.flumeflow.proofs.moving.put_parts9.Tie as tie
+
+-- the flag that was read, whatever stands for a missing one
+flag : (s : tie.Start) → getD (s .args .flags .now) (s .args .c) 0 ≡ getD (s .args .flags .now) (s .args .c) 3
+flag s = getD-there (s .args .flags .now) (s .args .c) 0 3 (s .pre .is-cell)
+
+shared-slice-read-is-liquid : tie.Need-shared-slice-read-is-liquid
+shared-slice-read-is-liquid c = search needs
+
+is-liquid-requires : tie.Need-is-liquid-requires
+is-liquid-requires c κs = search needs
+
+kind : (c : tie.Then1) → liquid (getD (c .before .before .before .before .before .args .flags .now) (c .before .before .before .before .before .args .c) 3) ≡ true
+kind c = sym (ap liquid (flag (c .before .before .before .before .before))) ∙ sym (c .before .is-liquid .ensures) ∙ c .if1 .taken
+
+-- the list has room for cell c
+room : (s : tie.Start) → 9 * s .args .c + 9 ≤ length (s .args .parts2 .now)
+room s = omega (arith, s .pre .is-cell, s .pre .size, s .pre .bodied .count)
+
+chosen9-requires : tie.Need-chosen9-requires
+chosen9-requires c κs =
+    let p = c .before .before .before .before .before .pre in
+    let l = kind c in
+    (p .bodied, p .filled, p .around l, l, p .mirrored, p .sources, p .marked l)
+
+quieted-requires : tie.Need-quieted-requires
+quieted-requires c κs = quiet-streamed _ _ _ _ _ _ _ _ (c .chosen9 .ensures)
+
+put-moved9-requires : tie.Need-put-moved9-requires
+put-moved9-requires c κs =
+    let t = c .before .before .before in
+    let s = t .before .before .before .before .before in
+    let e = c .before .quieted .ensures ∙ c .before .before .chosen9 .ensures in
+    (bounded-streamed _ light9 _ _ _ _ _ noSettings (s .pre .bodied .bodies) _ (s .pre .around (kind t)) (kind t) _ e _ _ (omega arith) (omega arith), quiet-streamed _ _ _ _ _ _ _ _ e, s .pre .settings, room s)
+
+same-length : tie.Need-same-length
+same-length c = search needs
+
+returns : tie.Need-returns
+returns c =
+    let t = c .before .before .before .before .before in
+    let s = t .before .before .before .before .before in
+    c .before .put-moved9 .ensures (s .args .flags .now) (s .args .parts .now) (s .args .fill .now) (s .args .off .now) (s .args .low) (kind t)
+    (c .before .before .before .quieted .ensures ∙ c .before .before .before .before .chosen9 .ensures)
+
+dry-out9-requires : tie.Need-dry-out9-requires
+dry-out9-requires c κs = room (c .before .before .before .before .before .before)
+
+same-length-2 : tie.Need-same-length-2
+same-length-2 c = search needs
+
+returns-2 : tie.Need-returns-2
+returns-2 c =
+    let e = c .before .before .before in
+    let s = e .before .before .before .before .before in
+    let dry = sym (ap liquid (flag s)) ∙ sym (e .before .is-liquid .ensures) ∙ e .if1 .left in
+    let put = c .before .dry-out9 .ensures in
+    record {
+      kept = ap length put ∙ length-pasted9 _ _ _ (room s);
+      told = told-dry (spreadLattice .weight) _ _ _ _ _ _ _ dry;
+      parts = λ h. put ∙ ap (pasted9 (s .args .parts2 .now) (s .args .c)) (sym (none (spreadLattice .weight) _ (partOf9 (s .args .parts .now)) _ _ _ _ _ dry));
+    }
+
+pub put-parts9-spec : {M : Type 1} → statement M
+put-parts9-spec =
+    tie.close
+    (tie.spec
+    shared-slice-read-is-liquid
+    is-liquid-requires
+    chosen9-requires
+    quieted-requires
+    put-moved9-requires
+    same-length
+    returns
+    dry-out9-requires
+    same-length-2
+    returns-2)

@@ -1,0 +1,46 @@
+// Pass 1 of the flume: stages 1 to 4 of every cell, and the marks that stage 5 makes of it.
+use crate::moving;
+use crate::streaming;
+use crate::trading;
+use flow::passing::Passed;
+use flow::trading::new_mark;
+use flume::FlumeSides;
+use flumegrid::neighbours;
+use lattice::Settings;
+ghost use Rattle.flumeflow.specs.Flowed.{FlumeFlowable, FlumeFlowed};
+
+pub fn flowing9(
+    flags: &[u8],
+    parts: &[i32],
+    mass: &[i32],
+    fill: &[u32],
+    parts2: &mut [i32],
+    mass2: &mut [i32],
+    marks: &mut [u8],
+    s: FlumeSides,
+    g: Settings,
+) -> Passed
+    requires { ⌜ FlumeFlowable s g (now flags) (now parts) (now mass) (now fill) (now parts2) (now mass2) (now marks) ⌝ }
+    ensures { λ r. ⌜ FlumeFlowed s g (now (flags .entry)) (now (parts .entry)) (now (mass .entry)) (now (fill .entry)) r (now (parts2 .exit)) (now (mass2 .exit)) (now (marks .exit)) ⌝ }
+{
+    let off = neighbours::offsets(s);
+    let low = neighbours::low_of(s);
+    let from = streaming::sources9(off, low);
+    let mut fair = true;
+    let mut still = true;
+    let mut c = 0;
+    while c < flags.len() {
+        let o = moving::put_parts9(flags, parts, fill, parts2, marks[c], &off, &from, low, c, g);
+        if !o.ok {
+            return Passed::Stopped(c);
+        }
+        let m = trading::new_mass9(flags, parts, mass, fill, &off, low, c, o.rho);
+        let k = new_mark(flags[c], m, o.rho);
+        mass2[c] = m;
+        marks[c] = k;
+        fair = fair & o.fair;
+        still = still & (k == 0);
+        c += 1;
+    }
+    Passed::Through(fair, still)
+}

@@ -1,0 +1,139 @@
+// Stage 1: the parts that stream into a cell. By the eight directions: nothing is looked at, and nothing arrives, at an idle place.
+use flow::streaming::leaning;
+use lattice::Flow;
+use lattice::directions::dots;
+use lattice::moments::flow_of;
+use nine::cells::own9;
+use nine::cells::place;
+use nine::weights::weight9;
+use surface::stream::rebuilt;
+use whole::wide;
+ghost use mathlib.Core.Path.{_≡_};
+ghost use mathlib.Core.Bool.{true};
+ghost use mathlib.Core.List.{List, []};
+ghost use Prim.Native.Nat.{ℕ, _+_, _-_, _<_};
+ghost use lib.IntN.{pos};
+ghost use lib.ListN.{length, getD};
+ghost use Rattle.whole.specs.Fold.{tab};
+ghost use Rattle.lattice.specs.Cell.{isPositive};
+ghost use Rattle.grid.specs.State.{liquid};
+ghost use Rattle.grid.specs.Step.{leansTo, arrives, streamed};
+ghost use Rattle.grid.specs.Sight.{noSettings, Around};
+ghost use Rattle.flow.specs.Sources.{Mirrored, Immersed};
+ghost use Rattle.flow.specs.Trade.{Fills};
+ghost use Rattle.flume.specs.Spread.{wide, spread};
+ghost use Rattle.flumeflow.specs.Seen.{sight9, Bodied9, sourceOf9, Beside9};
+
+// Where part k that streams straight into a cell lies, counted from the first part of the cell c - low.
+pub(crate) fn sources9(off: [usize; 19], low: usize) -> [usize; 9]
+    requires { ⌜ Mirrored off low ⌝ }
+    ensures { λ r. ⌜ r ≡ tab 9 (sourceOf9 off) ⌝ }
+{
+    let mut f = [0; 9];
+    let mut k = 0;
+    while k < 9 {
+        f[k] = 9 * (low + low - off[place(k)]) + k;
+        k += 1;
+    }
+    f
+}
+
+// The parts that stream into a cell with liquid all around, a being the first part of the cell c - low.
+fn streamed_open9(parts: &[i32], from: &[usize; 9], a: usize) -> [i32; 19]
+    requires { ⌜ ((k : ℕ) → k < 9 → a + getD (now from) k 0 < length (now parts)) ⌝ }
+    ensures { λ r. ⌜ r ≡ tab 19 (spread (pos 0) (λ (k : ℕ). getD (now (parts .entry)) (a + getD (now (from .entry)) k 0) (pos 0))) ⌝ }
+{
+    let mut f = [0i32; 19];
+    let mut k = 0;
+    while k < 9 {
+        f[place(k)] = parts[a + from[k]];
+        k += 1;
+    }
+    f
+}
+
+// What arrives at cell c from its neighbour b in direction k, which stands at place i and whose opposite is m; v is the cell's flow, d its e·j, and n·e
+// its lean.
+fn arriving9(
+    flags: &[u8],
+    parts: &[i32],
+    c: usize,
+    b: usize,
+    i: usize,
+    k: usize,
+    m: usize,
+    v: Flow,
+    d: i32,
+    lean: i32,
+) -> i32
+    requires { ⌜ Beside9 (now flags) (now parts) c b i k m v d ⌝ }
+    ensures { λ r. ⌜ ((fills off : List ℕ) (low : ℕ) → b ≡ (c - low) + getD off i 0 → isPositive lean ≡ leansTo (sight9 (now (flags .entry)) (now (parts .entry)) [] fills off low noSettings) c i → r ≡ arrives (sight9 (now (flags .entry)) (now (parts .entry)) [] fills off low noSettings) c i (wide m)) ⌝ }
+{
+    let f = flags[b];
+    if f > 2 {
+        return parts[9 * c + k];
+    }
+    if (f == 0) | (lean > 0) {
+        return (rebuilt(v, weight9(i), d) - wide(parts[9 * c + k])) as i32;
+    }
+    parts[9 * b + m]
+}
+
+// The parts that stream into a liquid cell, at their places. By pairs, so that the loop unrolls whole.
+pub fn streamed9(
+    flags: &[u8],
+    parts: &[i32],
+    fill: &[u32],
+    off: &[usize; 19],
+    low: usize,
+    c: usize,
+) -> [i32; 19]
+    requires { ⌜ Bodied9 (now flags) (now parts) × Fills (now flags) (now fill) × Around (length (now flags)) (now off) low c × (liquid (getD (now flags) c 3) ≡ true) ⌝ }
+    ensures { λ r. ⌜ r ≡ tab 19 (streamed (sight9 (now (flags .entry)) (now (parts .entry)) [] (now (fill .entry)) (now (off .entry)) low noSettings) c) ⌝ }
+{
+    let b = c - low;
+    let v = flow_of(own9(parts, c));
+    let d = dots(v);
+    let n = leaning(flags, fill, off, low, c);
+    let mut f = [0i32; 19];
+    f[0] = parts[9 * c];
+    let mut k = 1;
+    while k < 9 {
+        let i = place(k);
+        f[i + 1] = arriving9(flags, parts, c, b + off[i], i, k, k + 1, v, d[i], n[i]);
+        f[i] = arriving9(
+            flags,
+            parts,
+            c,
+            b + off[i + 1],
+            i + 1,
+            k + 1,
+            k,
+            v,
+            d[i + 1],
+            n[i + 1],
+        );
+        k += 2;
+    }
+    f
+}
+
+// The same, the short way where the mark of pass 0 says that the cell has liquid all around.
+pub(crate) fn chosen9(
+    flags: &[u8],
+    parts: &[i32],
+    fill: &[u32],
+    mark: u8,
+    off: &[usize; 19],
+    from: &[usize; 9],
+    low: usize,
+    c: usize,
+) -> [i32; 19]
+    requires { ⌜ Bodied9 (now flags) (now parts) × Fills (now flags) (now fill) × Around (length (now flags)) (now off) low c × (liquid (getD (now flags) c 3) ≡ true) × Mirrored (now off) low × (now from ≡ tab 9 (sourceOf9 (now off))) × (mark ≡ 1 → Immersed (now flags) (now off) low c) ⌝ }
+    ensures { λ r. ⌜ r ≡ tab 19 (streamed (sight9 (now (flags .entry)) (now (parts .entry)) [] (now (fill .entry)) (now (off .entry)) low noSettings) c) ⌝ }
+{
+    if mark == 1 {
+        return streamed_open9(parts, from, 9 * (c - low));
+    }
+    streamed9(flags, parts, fill, off, low, c)
+}

@@ -1,0 +1,19 @@
+-- `flumegrid::layer::outer` asks whether a coordinate is at either end. Assumes nothing.
+use borrow.Author.Needs.{needs}
+use native.Mathlib.Numerals.{add-one}
+use Rattle.flumegrid.specs.Layer.{edge}
+use Rattle.flumegrid.proofs.layer.outer.Statement.{statement}
+use Rattle.flumegrid.proofs.layer.outer.Tie as tie
+
+add-result : tie.Need-add-result
+add-result c = search needs
+
+add-result-2 : tie.Need-add-result-2
+add-result-2 c = search needs
+
+returns : tie.Need-returns
+unfolding edge
+returns c = simp add-one
+
+pub outer-spec : {M : Type 1} → statement M
+outer-spec = tie.close (tie.spec add-result add-result-2 returns)

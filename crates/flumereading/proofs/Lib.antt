@@ -1,0 +1,4 @@
+pub mod Flags
+pub mod Nine
+pub mod Taking
+pub mod ReadBy

@@ -1,0 +1,21 @@
+// The whole reader: the record in the lent slices, and its flags as the caller's own bytes.
+use crate::reader::read;
+use flumerecord::FlumeLoaded;
+use flumerecord::flags::flags_of;
+ghost use mathlib.Core.Path.{_≡_};
+ghost use Rattle.record.specs.Promise.{flagless};
+ghost use Rattle.flumerecord.specs.Promise.{FlumeRead, FlumeHanded};
+
+pub fn load<'a>(
+    rec: &'a [u8],
+    parts: &mut [i32],
+    masses: &mut [i32],
+    fills: &mut [u32],
+    carry: &mut [i64],
+) -> FlumeLoaded<'a>
+    ensures { λ r. ⌜ FlumeRead (now (rec .entry)) (flagless (now (parts .entry)) (now (masses .entry)) (now (fills .entry)) (now (carry .entry))) (r .head) (now (parts .exit)) (now (masses .exit)) (now (fills .exit)) (now (carry .exit)) × FlumeHanded (rec .entry) (flagless (now (parts .entry)) (now (masses .entry)) (now (fills .entry)) (now (carry .entry))) (r .flags) ⌝ }
+{
+    let h = read(rec, parts, masses, fills, carry);
+    let f = flags_of(rec, h);
+    FlumeLoaded { head: h, flags: f }
+}

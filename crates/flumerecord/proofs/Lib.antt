@@ -1,0 +1,10 @@
+pub mod Shaped
+pub mod Spanned
+pub mod Assembled
+pub mod WrittenBy
+pub mod ReadBack
+pub mod SameBytes
+pub mod WrittenAgain
+pub mod Other
+pub mod Unique
+pub mod Stars

@@ -1,0 +1,236 @@
+// The run of a flume: step after step between the two lent sets, first to second and back, until one is refused or all are made.
+use flume::FlumeSettings;
+use flume::FlumeSides;
+use flumegrid::entry;
+use flumestep::stepping;
+use grid::Answer;
+use grid::copying;
+use run::running;
+use run::running::Ran;
+ghost use mathlib.Core.Path.{_≡_};
+ghost use Rattle.grid.specs.State.{lent};
+ghost use Rattle.run.specs.Turns.{here, there};
+ghost use Rattle.flume.specs.Outcome.{flumeRunEntry};
+ghost use Rattle.flume.specs.Promise.{FlumeRanTo};
+ghost use Rattle.flumegrid.specs.Ready.{FlumeEntered};
+ghost use Rattle.flumerun.specs.Turns.{FlumeCrossed, FlumeWent};
+
+// One step from the set that holds the state to the other one.
+fn turn(
+    flags: &mut [u8],
+    parts: &mut [i32],
+    mass: &mut [i32],
+    fill: &mut [u32],
+    carry: &mut [i64],
+    flags2: &mut [u8],
+    parts2: &mut [i32],
+    mass2: &mut [i32],
+    fill2: &mut [u32],
+    carry2: &mut [i64],
+    marks: &mut [u8],
+    back: bool,
+    s: FlumeSides,
+    g: FlumeSettings,
+) -> Answer
+    requires { ⌜ FlumeEntered s g (here back (lent (now flags) (now parts) (now mass) (now fill) (now carry)) (lent (now flags2) (now parts2) (now mass2) (now fill2) (now carry2))) (there back (lent (now flags) (now parts) (now mass) (now fill) (now carry)) (lent (now flags2) (now parts2) (now mass2) (now fill2) (now carry2))) (now marks) ⌝ }
+    ensures { λ r. ⌜ FlumeCrossed s g back (lent (now (flags .entry)) (now (parts .entry)) (now (mass .entry)) (now (fill .entry)) (now (carry .entry))) (lent (now (flags2 .entry)) (now (parts2 .entry)) (now (mass2 .entry)) (now (fill2 .entry)) (now (carry2 .entry))) r (lent (now (flags .exit)) (now (parts .exit)) (now (mass .exit)) (now (fill .exit)) (now (carry .exit))) (lent (now (flags2 .exit)) (now (parts2 .exit)) (now (mass2 .exit)) (now (fill2 .exit)) (now (carry2 .exit))) (now (marks .exit)) ⌝ }
+{
+    if back {
+        return stepping::stepped(
+            flags2,
+            parts2,
+            mass2,
+            fill2,
+            carry2,
+            flags,
+            parts,
+            mass,
+            fill,
+            carry,
+            marks,
+            s,
+            g,
+        );
+    }
+    stepping::stepped(
+        flags,
+        parts,
+        mass,
+        fill,
+        carry,
+        flags2,
+        parts2,
+        mass2,
+        fill2,
+        carry2,
+        marks,
+        s,
+        g,
+    )
+}
+
+// The run of a set that is ready: no test is made again, since what an accepted step leaves is ready.
+pub fn going(
+    steps: usize,
+    flags: &mut [u8],
+    parts: &mut [i32],
+    mass: &mut [i32],
+    fill: &mut [u32],
+    carry: &mut [i64],
+    flags2: &mut [u8],
+    parts2: &mut [i32],
+    mass2: &mut [i32],
+    fill2: &mut [u32],
+    carry2: &mut [i64],
+    marks: &mut [u8],
+    s: FlumeSides,
+    g: FlumeSettings,
+) -> Ran
+    requires { ⌜ FlumeEntered s g (lent (now flags) (now parts) (now mass) (now fill) (now carry)) (lent (now flags2) (now parts2) (now mass2) (now fill2) (now carry2)) (now marks) ⌝ }
+    ensures { λ r. ⌜ FlumeWent steps s g (lent (now (flags .entry)) (now (parts .entry)) (now (mass .entry)) (now (fill .entry)) (now (carry .entry))) (now (marks .entry)) (r .count) (r .answer) (lent (now (flags .exit)) (now (parts .exit)) (now (mass .exit)) (now (fill .exit)) (now (carry .exit))) (lent (now (flags2 .exit)) (now (parts2 .exit)) (now (mass2 .exit)) (now (fill2 .exit)) (now (carry2 .exit))) (now (marks .exit)) ⌝ }
+{
+    let mut back = false;
+    let mut k = 0;
+    while k < steps {
+        let a = turn(
+            flags,
+            parts,
+            mass,
+            fill,
+            carry,
+            flags2,
+            parts2,
+            mass2,
+            fill2,
+            carry2,
+            marks,
+            back,
+            s,
+            g,
+        );
+        if let Answer::Refused(no, at) = a {
+            return Ran {
+                count: k,
+                answer: Answer::Refused(no, at),
+            };
+        }
+        back = !back;
+        k += 1;
+    }
+    running::evened(
+        flags,
+        parts,
+        mass,
+        fill,
+        carry,
+        flags2,
+        parts2,
+        mass2,
+        fill2,
+        carry2,
+        back,
+    );
+    copying::clear(marks);
+    Ran {
+        count: k,
+        answer: Answer::Done,
+    }
+}
+
+// The number of steps, and then tests 1 to 6: what refuses a run before its first step.
+fn admitted(
+    steps: usize,
+    flags: &[u8],
+    parts: &[i32],
+    mass: &[i32],
+    fill: &[u32],
+    carry: &[i64],
+    flags2: &[u8],
+    parts2: &[i32],
+    mass2: &[i32],
+    fill2: &[u32],
+    carry2: &[i64],
+    marks: &[u8],
+    s: FlumeSides,
+    g: FlumeSettings,
+) -> Answer
+    ensures { λ r. ⌜ r ≡ flumeRunEntry steps s g (lent (now (flags .entry)) (now (parts .entry)) (now (mass .entry)) (now (fill .entry)) (now (carry .entry))) (lent (now (flags2 .entry)) (now (parts2 .entry)) (now (mass2 .entry)) (now (fill2 .entry)) (now (carry2 .entry))) (now (marks .entry)) ⌝ }
+{
+    if steps > 1000 {
+        return Answer::Refused(9, 0);
+    }
+    entry::entered(
+        flags,
+        parts,
+        mass,
+        fill,
+        carry,
+        flags2,
+        parts2,
+        mass2,
+        fill2,
+        carry2,
+        marks,
+        s,
+        g,
+    )
+}
+
+// At most `steps` steps, 0 to 1,000, from the first set; both sets then hold the state reached, but where the run is not admitted.
+pub fn run(
+    steps: usize,
+    flags: &mut [u8],
+    parts: &mut [i32],
+    mass: &mut [i32],
+    fill: &mut [u32],
+    carry: &mut [i64],
+    flags2: &mut [u8],
+    parts2: &mut [i32],
+    mass2: &mut [i32],
+    fill2: &mut [u32],
+    carry2: &mut [i64],
+    marks: &mut [u8],
+    s: FlumeSides,
+    g: FlumeSettings,
+) -> Ran
+    ensures { λ r. ⌜ FlumeRanTo steps s g (lent (now (flags .entry)) (now (parts .entry)) (now (mass .entry)) (now (fill .entry)) (now (carry .entry))) (lent (now (flags2 .entry)) (now (parts2 .entry)) (now (mass2 .entry)) (now (fill2 .entry)) (now (carry2 .entry))) (now (marks .entry)) (r .count) (r .answer) (lent (now (flags .exit)) (now (parts .exit)) (now (mass .exit)) (now (fill .exit)) (now (carry .exit))) (lent (now (flags2 .exit)) (now (parts2 .exit)) (now (mass2 .exit)) (now (fill2 .exit)) (now (carry2 .exit))) (now (marks .exit)) ⌝ }
+{
+    let a = admitted(
+        steps,
+        flags,
+        parts,
+        mass,
+        fill,
+        carry,
+        flags2,
+        parts2,
+        mass2,
+        fill2,
+        carry2,
+        marks,
+        s,
+        g,
+    );
+    if let Answer::Refused(no, at) = a {
+        return Ran {
+            count: 0,
+            answer: Answer::Refused(no, at),
+        };
+    }
+    going(
+        steps,
+        flags,
+        parts,
+        mass,
+        fill,
+        carry,
+        flags2,
+        parts2,
+        mass2,
+        fill2,
+        carry2,
+        marks,
+        s,
+        g,
+    )
+}

@@ -1,0 +1,35 @@
+// Pass 0 in the flume, and the settings of its passes.
+use flume::FlumeSettings;
+use flume::FlumeSides;
+use flumegrid::neighbours;
+use flumemarks::passes;
+use lattice::Settings;
+ghost use mathlib.Core.Path.{_≡_};
+ghost use mathlib.Core.Bool.{true};
+ghost use lib.ListN.{length};
+ghost use Rattle.whole.specs.Fold.{tab};
+ghost use Rattle.grid.specs.Passes.{openedBy};
+ghost use Rattle.flume.specs.Flume.{flumeSidesGood, flumeCells, levelSettings};
+ghost use Rattle.flume.specs.Offsets.{flumeLow, flumeOffset};
+
+// The flume's gravity has no y.
+pub(crate) fn level(g: FlumeSettings) -> Settings
+    ensures { λ r. ⌜ r ≡ levelSettings g ⌝ }
+{
+    Settings {
+        p: g.p,
+        gx: g.gx,
+        gy: 0,
+        gz: g.gz,
+    }
+}
+
+// Marks 1 at fluid cells with no wall beside them.
+pub(crate) fn mark_open(flags: &[u8], marks: &mut [u8], s: FlumeSides)
+    requires { ⌜ (flumeSidesGood s ≡ true) × (length (now flags) ≡ flumeCells s) × (length (now marks) ≡ flumeCells s) ⌝ }
+    ensures { λ r. ⌜ now (marks .exit) ≡ tab (length (now (flags .entry))) (openedBy (now (flags .entry)) (now (marks .entry)) (tab 19 (flumeOffset s)) (flumeLow s)) ⌝ }
+{
+    let off = neighbours::offsets(s);
+    let low = neighbours::low_of(s);
+    passes::mark_open9(flags, marks, &off, low);
+}

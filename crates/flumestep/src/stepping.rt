@@ -1,0 +1,229 @@
+// The step of a flume that passed tests 1 to 6: passes in a row, and on refusal 7 or 8 the copy.
+use crate::marking;
+use flow::passing::Passed;
+use flume::FlumeSettings;
+use flume::FlumeSides;
+use flumeflow::passing;
+use flumegrid::checking;
+use flumegrid::entry;
+use flumeturn::filling;
+use flumeturn::turning;
+use grid::Answer;
+use grid::copying;
+use step::sets;
+ghost use mathlib.Core.Path.{_≡_};
+ghost use Prim.Native.Nat.{suc};
+ghost use lib.ListN.{length};
+ghost use Rattle.lattice.specs.Lattice.{d2q9};
+ghost use Rattle.grid.specs.State.{stateOf};
+ghost use Rattle.grid.specs.Good.{badRule};
+ghost use Rattle.grid.specs.Outcome.{ifNone};
+ghost use Rattle.flume.specs.Promise.{FlumeStepped};
+ghost use Rattle.flumegrid.specs.Ready.{FlumeSized, FlumeEntered};
+ghost use Rattle.flumestep.specs.Finished.{FlumeFinishing, FlumeFinished, FlumeTried, FlumeAdvanced};
+
+// Test 8 where something is not fair: test 6's own scan of the second set.
+fn judged(flags2: &[u8], parts2: &[i32], mass2: &[i32], fill2: &[u32], carry2: &[i64]) -> Answer
+    requires { ⌜ FlumeSized (length (now flags2)) (record { flags = now flags2; parts = now parts2; masses = now mass2; fills = now fill2; carry = now carry2 }) ⌝ }
+    ensures { λ r. ⌜ r ≡ ifNone (suc (length (now (flags2 .entry)))) 8 (badRule d2q9 (length (now (flags2 .entry))) (stateOf 8 (record { flags = now (flags2 .entry); parts = now (parts2 .entry); masses = now (mass2 .entry); fills = now (fill2 .entry); carry = now (carry2 .entry) }))) Answer.Done ⌝ }
+{
+    let d = checking::first_bad9(flags2, parts2, mass2, fill2, carry2[0]);
+    if d <= flags2.len() {
+        return Answer::Refused(8, d);
+    }
+    Answer::Done
+}
+
+// Stage 7, and test 8 by what the passes found fair.
+fn finished(
+    flags: &[u8],
+    parts: &[i32],
+    mass: &[i32],
+    fill: &[u32],
+    carry: &[i64],
+    flags2: &mut [u8],
+    parts2: &mut [i32],
+    mass2: &mut [i32],
+    fill2: &mut [u32],
+    carry2: &mut [i64],
+    marks: &mut [u8],
+    fair: bool,
+    still: bool,
+    s: FlumeSides,
+    g: FlumeSettings,
+) -> Answer
+    requires { ⌜ FlumeFinishing s g (record { flags = now flags; parts = now parts; masses = now mass; fills = now fill; carry = now carry }) (record { flags = now flags2; parts = now parts2; masses = now mass2; fills = now fill2; carry = now carry2 }) (now marks) fair still ⌝ }
+    ensures { λ r. ⌜ FlumeFinished s g (record { flags = now (flags .entry); parts = now (parts .entry); masses = now (mass .entry); fills = now (fill .entry); carry = now (carry .entry) }) r (record { flags = now (flags2 .exit); parts = now (parts2 .exit); masses = now (mass2 .exit); fills = now (fill2 .exit); carry = now (carry2 .exit) }) (now (marks .exit)) ⌝ }
+{
+    let h = marking::level(g);
+    let a = turning::turned9(
+        flags,
+        parts,
+        mass,
+        fill,
+        carry,
+        flags2,
+        parts2,
+        mass2,
+        carry2,
+        marks,
+        still,
+        s,
+        h,
+    );
+    let b = filling::new_fills9(flags2, parts2, mass2, fill2);
+    if fair & a & b {
+        return Answer::Done;
+    }
+    judged(flags2, parts2, mass2, fill2, carry2)
+}
+
+// The passes in a row; after a refusal the second set holds what was worked out so far.
+fn advanced(
+    flags: &[u8],
+    parts: &[i32],
+    mass: &[i32],
+    fill: &[u32],
+    carry: &[i64],
+    flags2: &mut [u8],
+    parts2: &mut [i32],
+    mass2: &mut [i32],
+    fill2: &mut [u32],
+    carry2: &mut [i64],
+    marks: &mut [u8],
+    s: FlumeSides,
+    g: FlumeSettings,
+) -> Answer
+    requires { ⌜ FlumeEntered s g (record { flags = now flags; parts = now parts; masses = now mass; fills = now fill; carry = now carry }) (record { flags = now flags2; parts = now parts2; masses = now mass2; fills = now fill2; carry = now carry2 }) (now marks) ⌝ }
+    ensures { λ r. ⌜ FlumeTried s g (record { flags = now (flags .entry); parts = now (parts .entry); masses = now (mass .entry); fills = now (fill .entry); carry = now (carry .entry) }) r (record { flags = now (flags2 .exit); parts = now (parts2 .exit); masses = now (mass2 .exit); fills = now (fill2 .exit); carry = now (carry2 .exit) }) (now (marks .exit)) ⌝ }
+{
+    marking::mark_open(flags, marks, s);
+    let h = marking::level(g);
+    let a = passing::flowing9(flags, parts, mass, fill, parts2, mass2, marks, s, h);
+    match a {
+        Passed::Stopped(c) => Answer::Refused(7, c),
+        Passed::Through(fair, still) => finished(
+            flags,
+            parts,
+            mass,
+            fill,
+            carry,
+            flags2,
+            parts2,
+            mass2,
+            fill2,
+            carry2,
+            marks,
+            fair,
+            still,
+            s,
+            g,
+        ),
+    }
+}
+
+// The step of a set that is ready.
+pub fn stepped(
+    flags: &[u8],
+    parts: &[i32],
+    mass: &[i32],
+    fill: &[u32],
+    carry: &[i64],
+    flags2: &mut [u8],
+    parts2: &mut [i32],
+    mass2: &mut [i32],
+    fill2: &mut [u32],
+    carry2: &mut [i64],
+    marks: &mut [u8],
+    s: FlumeSides,
+    g: FlumeSettings,
+) -> Answer
+    requires { ⌜ FlumeEntered s g (record { flags = now flags; parts = now parts; masses = now mass; fills = now fill; carry = now carry }) (record { flags = now flags2; parts = now parts2; masses = now mass2; fills = now fill2; carry = now carry2 }) (now marks) ⌝ }
+    ensures { λ r. ⌜ FlumeAdvanced s g (record { flags = now (flags .entry); parts = now (parts .entry); masses = now (mass .entry); fills = now (fill .entry); carry = now (carry .entry) }) r (record { flags = now (flags2 .exit); parts = now (parts2 .exit); masses = now (mass2 .exit); fills = now (fill2 .exit); carry = now (carry2 .exit) }) (now (marks .exit)) ⌝ }
+{
+    let a = advanced(
+        flags,
+        parts,
+        mass,
+        fill,
+        carry,
+        flags2,
+        parts2,
+        mass2,
+        fill2,
+        carry2,
+        marks,
+        s,
+        g,
+    );
+    if let Answer::Refused(no, at) = a {
+        sets::copied(
+            flags,
+            parts,
+            mass,
+            fill,
+            carry,
+            flags2,
+            parts2,
+            mass2,
+            fill2,
+            carry2,
+        );
+        copying::clear(marks);
+        return Answer::Refused(no, at);
+    }
+    Answer::Done
+}
+
+// One step: tests 1 to 6, then the step of a set that passed them.
+pub fn step(
+    flags: &[u8],
+    parts: &[i32],
+    mass: &[i32],
+    fill: &[u32],
+    carry: &[i64],
+    flags2: &mut [u8],
+    parts2: &mut [i32],
+    mass2: &mut [i32],
+    fill2: &mut [u32],
+    carry2: &mut [i64],
+    marks: &mut [u8],
+    s: FlumeSides,
+    g: FlumeSettings,
+) -> Answer
+    ensures { λ r. ⌜ FlumeStepped s g (record { flags = now (flags .entry); parts = now (parts .entry); masses = now (mass .entry); fills = now (fill .entry); carry = now (carry .entry) }) (record { flags = now (flags2 .entry); parts = now (parts2 .entry); masses = now (mass2 .entry); fills = now (fill2 .entry); carry = now (carry2 .entry) }) (now (marks .entry)) r (record { flags = now (flags2 .exit); parts = now (parts2 .exit); masses = now (mass2 .exit); fills = now (fill2 .exit); carry = now (carry2 .exit) }) (now (marks .exit)) ⌝ }
+{
+    let a = entry::entered(
+        flags,
+        parts,
+        mass,
+        fill,
+        carry,
+        flags2,
+        parts2,
+        mass2,
+        fill2,
+        carry2,
+        marks,
+        s,
+        g,
+    );
+    if let Answer::Refused(no, at) = a {
+        return Answer::Refused(no, at);
+    }
+    stepped(
+        flags,
+        parts,
+        mass,
+        fill,
+        carry,
+        flags2,
+        parts2,
+        mass2,
+        fill2,
+        carry2,
+        marks,
+        s,
+        g,
+    )
+}

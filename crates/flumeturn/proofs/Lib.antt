@@ -1,0 +1,4 @@
+pub mod Fields
+pub mod Newborns
+pub mod Flumes
+pub mod Turns

@@ -1,0 +1,3 @@
+pub mod Born
+pub mod Filled
+pub mod Turned

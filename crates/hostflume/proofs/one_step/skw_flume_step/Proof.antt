@@ -1,0 +1,43 @@
+-- `hostflume::one_step::skw_flume_step`: the step's own promise, its answer told as number and place. Assumes nothing.
+use borrow.Author.Needs.{needs}
+use Rattle.hostflume.proofs.Told.{settings-back, step-told}
+use Rattle.hostflume.proofs.one_step.skw_flume_step.Statement.{statement}
+use Rattle.hostflume.proofs.one_step.skw_flume_step.Tie as tie
+
+step-requires : tie.Need-step-requires
+step-requires c κs = search needs
+
+place-of-requires : tie.Need-place-of-requires
+place-of-requires c κs = search needs
+
+number-of-requires : tie.Need-number-of-requires
+number-of-requires c κs = search needs
+
+same-length : tie.Need-same-length
+same-length c = c .before .before .before .before .before .before .before .before .before .before .flags2 .given
+
+same-length-2 : tie.Need-same-length-2
+same-length-2 c = c .before .before .before .before .before .before .before .before .parts2 .given
+
+same-length-3 : tie.Need-same-length-3
+same-length-3 c = c .before .before .before .before .before .before .before .masses2 .given
+
+same-length-4 : tie.Need-same-length-4
+same-length-4 c = c .before .before .before .before .before .before .fills2 .given
+
+same-length-5 : tie.Need-same-length-5
+same-length-5 c = c .before .before .before .before .carry2 .given
+
+same-length-6 : tie.Need-same-length-6
+same-length-6 c = c .before .before .before .marks .given
+
+returns : tie.Need-returns
+returns c =
+    let v = c .before .before .before .before .before .before .before .before .before .before .before .before .before .before .before .before .before .before .before .before .before .before .before in
+    let a = v .args in
+    let f = v .fits in
+    step-told (settings-back (a .p) (a .gx) (a .gz) (f .p) (f .gx) (f .gz)) (c .before .before .before .before .before .before .before .before .before .before .before .step .ensures) (c .number-of .ensures) (c .before .place-of .ensures)
+
+pub skw-flume-step-spec : {M : Type 1} → statement M
+skw-flume-step-spec =
+    tie.close (tie.spec step-requires place-of-requires number-of-requires same-length same-length-2 same-length-3 same-length-4 same-length-5 same-length-6 returns)

@@ -1,0 +1,52 @@
+// The step.
+use flume::FlumeSettings;
+use flume::FlumeSides;
+use flumestep::stepping;
+use host::answers::number_of;
+use host::answers::place_of;
+ghost use Rattle.grid.specs.State.{lent};
+ghost use Rattle.hostflume.specs.Promise.{flumeSidesOf, flumeSettingsOf, StepTold};
+
+// One step from the first set to the second.
+#[no_mangle]
+pub extern "C" fn skw_flume_step(
+    flags: &[u8],
+    parts: &[i32],
+    masses: &[i32],
+    fills: &[u32],
+    carry: &[i64],
+    flags2: &mut [u8],
+    parts2: &mut [i32],
+    masses2: &mut [i32],
+    fills2: &mut [u32],
+    carry2: &mut [i64],
+    marks: &mut [u8],
+    nx: usize,
+    nz: usize,
+    p: i64,
+    gx: i64,
+    gz: i64,
+    place: &mut usize,
+) -> u8
+    ensures { λ r. ⌜ StepTold (flumeSidesOf nx nz) (flumeSettingsOf p gx gz) (lent (now (flags .entry)) (now (parts .entry)) (now (masses .entry)) (now (fills .entry)) (now (carry .entry))) (lent (now (flags2 .entry)) (now (parts2 .entry)) (now (masses2 .entry)) (now (fills2 .entry)) (now (carry2 .entry))) (now (marks .entry)) r (now (place .exit)) (lent (now (flags2 .exit)) (now (parts2 .exit)) (now (masses2 .exit)) (now (fills2 .exit)) (now (carry2 .exit))) (now (marks .exit)) ⌝ }
+{
+    let s = FlumeSides { nx, nz };
+    let g = FlumeSettings { p, gx, gz };
+    let a = stepping::step(
+        flags,
+        parts,
+        masses,
+        fills,
+        carry,
+        flags2,
+        parts2,
+        masses2,
+        fills2,
+        carry2,
+        marks,
+        s,
+        g,
+    );
+    *place = place_of(a);
+    number_of(a)
+}

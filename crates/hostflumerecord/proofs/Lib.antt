@@ -1,0 +1,4 @@
+pub mod FlagSpan
+pub mod Returned
+pub mod Told
+pub mod Unique

@@ -1,0 +1,98 @@
+-- The flume's own lattice and the nineteen places give the same own p and, by it, the same parts; and the tensor does not know the weights. Assumes nothing.
+use mathlib.Core.Path.{_≡_, refl, sym, ap, ap₂, _∙_}
+use Prim.Native.Nat.{ℕ, zero, suc, _+_, _*_, _≤_}
+use native.Mathlib.Nat.{lt-irrefl}
+use native.Mathlib.Omega.{arith}
+use lib.IntN.{ℤ, pos, natAbs, _+ℤ_, _-ℤ_, _*ℤ_, *ℤ-zero}
+use Rattle.whole.specs.Fold.{dirs}
+use Rattle.whole.specs.Search.{Dir}
+use Rattle.lattice.specs.Lattice.{V3, dot, Lattice, d3q19, d2q9}
+use Rattle.lattice.specs.Cell.{still, quad, relaxed}
+use Rattle.lattice.specs.Body.{stillDir, relaxedDir, collidedPart}
+use Rattle.grid.specs.State.{Scene}
+use Rattle.grid.specs.Step.{streamed, newDensity, newMomentum}
+use Rattle.flume.specs.Spread.{wide, Idle, Spreads, spreadLattice, plainScene, spreadScene}
+use Rattle.flume.proofs.Places.{by-nine, wide-dir, spread-at, dirs-same}
+use Rattle.flume.proofs.Flowing.{e-at, streamed-spreads, new-density-same, new-momentum-same}
+use Rattle.nine.proofs.Places.{idle-stays}
+use Rattle.turbulence.specs.Turbulence.{component, beyond, stress, square, tension, own, ownRelaxation, turbulentPart}
+use Rattle.turbulence.proofs.Tensor.{tension-entries}
+use Rattle.nineturbulence.proofs.Fours.{beyond-none}
+
+-- the tensor is of vectors alone
+pub tension-places : (g : ℕ → ℤ) → tension spreadLattice g ≡ tension d3q19 g
+unfolding tension stress
+tension-places g = refl
+
+module _ (ρ : ℤ) (j : V3) (f h : ℕ → ℤ) (z : Spreads f h) where
+  weight-at : (k : ℕ) → Dir 8 k → spreadLattice .weight (wide k) ≡ d2q9 .weight k
+  weight-at k d = spread-at 0 (d2q9 .weight) k (d .most)
+
+  beyond-at : (k : ℕ) → Dir 8 k → beyond spreadLattice ρ j f (wide k) ≡ beyond d2q9 ρ j h k
+  unfolding beyond stillDir
+  beyond-at k d i = z .at k (d .most) i -ℤ still (weight-at k d i) (quad ρ (dot (e-at k d i) j) (dot j j)) ρ
+
+  entry-same : (a b : ℕ) → stress spreadLattice (beyond spreadLattice ρ j f) a b ≡ stress d2q9 (beyond d2q9 ρ j h) a b
+  unfolding stress d3q19 d2q9
+  entry-same a b =
+      dirs-same (λ i. component a (spreadLattice .e i) *ℤ component b (spreadLattice .e i) *ℤ beyond spreadLattice ρ j f i)
+      (λ k. component a (d2q9 .e k) *ℤ component b (d2q9 .e k) *ℤ beyond d2q9 ρ j h k)
+      (λ k d i. component a (e-at k d i) *ℤ component b (e-at k d i) *ℤ beyond-at k d i)
+      (λ i n. ap (λ (x : ℤ). component a (spreadLattice .e i) *ℤ component b (spreadLattice .e i) *ℤ x) (beyond-none ρ j f i n (z .none i n))
+      ∙ *ℤ-zero (component a (spreadLattice .e i) *ℤ component b (spreadLattice .e i)))
+
+  pub tension-same : tension spreadLattice (beyond spreadLattice ρ j f) ≡ tension d2q9 (beyond d2q9 ρ j h)
+  tension-same =
+      omega (
+        arith,
+        tension-entries spreadLattice (beyond spreadLattice ρ j f),
+        tension-entries d2q9 (beyond d2q9 ρ j h),
+        ap square (entry-same 0 0),
+        ap square (entry-same 1 1),
+        ap square (entry-same 2 2),
+        ap square (entry-same 0 1),
+        ap square (entry-same 1 2),
+        ap square (entry-same 0 2),
+      )
+
+  pub own-same : (p : ℤ) → ownRelaxation spreadLattice ρ j p f ≡ ownRelaxation d2q9 ρ j p h
+  unfolding ownRelaxation
+  own-same p = ap (λ (t : ℕ). pos (own (natAbs p) t)) tension-same
+
+  -- ---- stage 4 with it
+  module _ (p : ℤ) where
+    relaxed-at : (k : ℕ) → Dir 8 k → relaxedDir spreadLattice ρ j p f (wide k) ≡ relaxedDir d2q9 ρ j p h k
+    unfolding relaxedDir
+    relaxed-at k d i = relaxed p (weight-at k d i) (quad ρ (dot (e-at k d i) j) (dot j j)) ρ (z .at k (d .most) i)
+
+    relaxed-idle : (i : ℕ) → Idle i → relaxedDir spreadLattice ρ j p f i ≡ pos 0
+    relaxed-idle i n = idle-stays ρ j p f i n (z .none i n)
+
+    moving : (L : Lattice) (g : ℕ → ℤ) (i : ℕ) → Dir (L .q) i → collidedPart L ρ j p g i ≡ relaxedDir L ρ j p g i
+    unfolding collidedPart
+    moving L g zero d = absurd (lt-irrefl zero (d .some))
+    moving L g (suc a) d = refl
+
+    rest-same : collidedPart spreadLattice ρ j p f (wide 0) ≡ collidedPart d2q9 ρ j p h 0
+    unfolding d3q19 d2q9 wide collidedPart
+    rest-same = ap (λ (x : ℤ). ρ -ℤ x) (dirs-same (relaxedDir spreadLattice ρ j p f) (relaxedDir d2q9 ρ j p h) relaxed-at relaxed-idle)
+
+    moving-same : (k : ℕ) → Dir 8 k → collidedPart spreadLattice ρ j p f (wide k) ≡ collidedPart d2q9 ρ j p h k
+    unfolding d3q19 d2q9
+    moving-same k d = moving spreadLattice f (wide k) (wide-dir k d) ∙ relaxed-at k d ∙ sym (moving d2q9 h k d)
+
+    collided-same : (k : ℕ) → k ≤ 8 → collidedPart spreadLattice ρ j p f (wide k) ≡ collidedPart d2q9 ρ j p h k
+    collided-same = by-nine (λ k. collidedPart spreadLattice ρ j p f (wide k) ≡ collidedPart d2q9 ρ j p h k) rest-same moving-same
+
+  pub part-same : (p : ℤ) (k : ℕ) → k ≤ 8 → turbulentPart spreadLattice ρ j p f (wide k) ≡ turbulentPart d2q9 ρ j p h k
+  unfolding turbulentPart
+  part-same p k l =
+      ap (λ (o : ℤ). collidedPart spreadLattice ρ j o f (wide k)) (own-same p) ∙ collided-same (ownRelaxation d2q9 ρ j p h) k l
+
+-- ---- own p of cell c in a step
+pub own-in-step : (S : Scene) (p : ℤ) (c : ℕ)
+    → ownRelaxation spreadLattice (newDensity (spreadScene S) c) (newMomentum (spreadScene S) c) p (streamed (spreadScene S) c)
+    ≡ ownRelaxation d2q9 (newDensity (plainScene S) c) (newMomentum (plainScene S) c) p (streamed (plainScene S) c)
+own-in-step S p c =
+    own-same (newDensity (spreadScene S) c) (newMomentum (spreadScene S) c) (streamed (spreadScene S) c) (streamed (plainScene S) c) (streamed-spreads S c) p
+    ∙ ap₂ (λ (ρ : ℤ) (j : V3). ownRelaxation d2q9 ρ j p (streamed (plainScene S) c)) (new-density-same S c) (new-momentum-same S c)

@@ -1,0 +1,9 @@
+pub mod Roots
+pub mod Quotients
+pub mod Still
+pub mod Steady
+pub mod Tensor
+pub mod Nines
+pub mod Own
+pub mod Laws
+pub mod Figures
