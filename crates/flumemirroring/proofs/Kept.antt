@@ -1,5 +1,5 @@
 -- An accepted mirror of a flume: its second set passes the check, has the first one's carry, is the reflection of which P13 speaks, and mirrored again is the
--- first set. Each from the crate mirror's theorem. Assumes nothing.
+-- first set; so that a step of it gives reflected water. Each from the crate mirror's theorem. Assumes nothing.
 use mathlib.Core.Path.{_≡_, refl, sym, ap, _∙_, subst}
 use mathlib.Core.Bool.{Bool, true, _&&_}
 use mathlib.Core.List.{List, [], _∷_}
@@ -17,22 +17,31 @@ use Rattle.grid.specs.State.{Lent, lent, stateOf, lentOf}
 use Rattle.grid.specs.Outcome.{goodAnswer}
 use Rattle.grid.proofs.Box.{flume9-laid}
 use Rattle.flume.specs.declared.FlumeSides.{FlumeSides}
-use Rattle.flume.specs.Flume.{flumeSidesGood, flumeCells, flumeGrid, flumeLengths}
-use Rattle.flume.specs.Outcome.{flumeCheck}
+use Rattle.flume.specs.declared.FlumeSettings.{FlumeSettings}
+use Rattle.flume.specs.Flume.{flumeSidesGood, flumeCells, flumeGrid, flumeLengths, flumeGround}
+use Rattle.flume.specs.Outcome.{flumeCheck, flumeScene, flumeStep, flumeSecond, open-outcome}
 use Rattle.flumegrid.specs.Ready.{FlumeSized}
 use Rattle.flumegrid.proofs.Checks.{then-checked}
-use Rattle.mirror.specs.Mirror.{Mirror, flumeMirror, Reflects, mirrored, mirroredSet}
+use Rattle.mirror.specs.Mirror.{Mirror, Reflects, mirrored, mirroredSet}
+use Rattle.mirror.specs.Demands.{Calm, Room}
+use Rattle.mirror.specs.Flume.{mirrorIn, reflectFlume}
+use Rattle.mirror.proofs.Flume.{flume-step-mirrors}
 use Rattle.mirror.proofs.Cells.{flume9-mirror}
 use Rattle.mirror.proofs.Rules.{good-too}
 use Rattle.mirror.proofs.Sets.{set-reflects, set-twice}
 use Rattle.mirroring.specs.Turned.{turnedSet, axesOf}
 use Rattle.flumemirroring.specs.Turned.{flumeTurned}
 use Rattle.flumemirroring.specs.Outcome.{flumeMirrorAnswer, ifDone, flumeMirrorSecond}
-use Rattle.flumemirroring.specs.Demands.{Keeps}
+use Rattle.flumemirroring.specs.Demands.{Keeps, StepsAlike}
 use Rattle.flumemirroring.proofs.Answers.{accepted}
 
 abbrev pub Claim : Type 0
 Claim = (s : FlumeSides) (axis : ℕ) (a b : Lent) → flumeMirrorAnswer s axis a b ≡ Done → Keeps s axis a b
+
+abbrev pub StepClaim : Type 0
+StepClaim = (s : FlumeSides) (axis : ℕ) (a b : Lent) → flumeMirrorAnswer s axis a b ≡ Done
+    → (g : FlumeSettings) (room : Lent) (marks : List ℕ) → flumeStep s g a room marks ≡ Done → Calm (flumeScene s g a)
+    → (second : Lent) (marks′ : List ℕ) → Room (flumeGround s) second marks′ → StepsAlike s axis g a b (flumeSecond s g a room marks) second marks′
 
 one : (l : List ℤ) → length l ≡ 1 → l ≡ getD l 0 (pos 0) ∷ []
 one [] e = absurd (omega arith)
@@ -41,7 +50,7 @@ one (x ∷ y ∷ l) e = absurd (omega arith)
 
 module _ (s : FlumeSides) (axis : ℕ) where
   abbrev M : Mirror
-  M = flumeMirror (axesOf axis) (s .nx) (s .nz)
+  M = mirrorIn s (axesOf axis)
 
   abbrev n : ℕ
   n = flumeCells s
@@ -97,4 +106,14 @@ keeps s axis a b e =
       set-is = r;
       reflects = subst (λ (d : Lent). Reflects (M s axis) 8 (flumeCells s) (stateOf 8 a) (stateOf 8 d)) (sym r) (state-too s axis a);
       back = λ c f. second-is s axis (flumeMirrorSecond s axis a b) c f ∙ ap (mirroredSet (M s axis) 8 (flumeCells s)) r ∙ turned-back s axis a (good .first);
+    }
+
+pub steps-alike : StepClaim
+unfolding open-outcome
+steps-alike s axis a b e g room marks accepted-step calm second marks′ fits =
+    let m = flume-step-mirrors s (axesOf axis) g a room marks accepted-step calm second marks′ fits in
+    let r = second-is s axis a b e in
+    record {
+      accepted = ap (λ (d : Lent). flumeStep s (reflectFlume (axesOf axis) g) d second marks′) r ∙ m .accepted;
+      result = ap (λ (d : Lent). flumeSecond s (reflectFlume (axesOf axis) g) d second marks′) r ∙ m .result;
     }
