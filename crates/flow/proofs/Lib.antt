@@ -5,9 +5,9 @@ pub mod Spans
 pub mod Leans
 pub mod Arrivals
 pub mod Mirrored
+pub mod Plain
 pub mod Collisions
 pub mod Marking
-pub mod Plain
 pub mod Poise
 pub mod Onward
 pub mod Walked

@@ -103,7 +103,7 @@ pub(crate) fn put_parts(
     g: Settings,
     keep: u64,
 ) -> Put
-    requires { ⌜ Putting (now flags) (now parts) (now fill) (now parts2) mark (now off) (now from) low c g × Keeps (natAbs (g .p)) keep ⌝ }
+    requires { ⌜ Putting (now flags) (now parts) (now fill) (now parts2) mark (now off) (now from) low c g keep ⌝ }
     ensures { λ r. ⌜ PutAt (boxSight (now (flags .entry)) (now (parts .entry)) [] (now (fill .entry)) (now (off .entry)) low g) c (now (parts2 .entry)) (now (parts2 .exit)) r ⌝ }
 {
     if wet(flags[c]) {
