@@ -9,5 +9,6 @@ pub mod Plain
 pub mod Collisions
 pub mod Marking
 pub mod Poise
+pub mod Modes
 pub mod Onward
 pub mod Walked
