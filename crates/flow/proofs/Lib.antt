@@ -5,6 +5,7 @@ pub mod Spans
 pub mod Leans
 pub mod Arrivals
 pub mod Mirrored
+pub mod Paces
 pub mod Plain
 pub mod Collisions
 pub mod Marking

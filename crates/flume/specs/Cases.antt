@@ -14,7 +14,7 @@ square n = record { nx = n; nz = n }
 
 -- p 1024
 abbrev pub pulled : ℤ → ℤ → FlumeSettings
-pulled gx gz = record { p = pos 1024; gx = gx; gz = gz }
+pulled gx gz = record { p = pos 1024; gx = gx; gz = gz; turbulent = false }
 
 abbrev pub falling : FlumeSettings
 falling = pulled (pos 0) (negsuc 1023)

@@ -42,7 +42,7 @@ use Rattle.flumeflow.proofs.Nines.{part-at, part-none}
 -- the box's settings with gy = 0
 pub settings-good : (s : FlumeSides) (g : Settings) {flags : List ℕ} {parts masses : List ℤ} {fills : List ℕ} → FlumePoised s (alongSettings g) (uncarried flags parts masses fills) → g .gy ≡ pos 0
     → settingsGood g ≡ true
-settings-good s g r e = ap (λ (y : ℤ). settingsGood (record { p = g .p; gx = g .gx; gy = y; gz = g .gz })) e ∙ r .settings
+settings-good s g r e = ap (λ (y : ℤ). settingsGood (record { p = g .p; gx = g .gx; gy = y; gz = g .gz; turbulent = g .turbulent })) e ∙ r .settings
 
 -- the scene of pass 1 is the flume's own, spread
 pub wide-scene : (s : FlumeSides) (h : FlumeSettings) (flags : List ℕ) (parts masses : List ℤ) (fills : List ℕ)

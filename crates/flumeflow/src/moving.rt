@@ -106,7 +106,7 @@ pub(crate) fn put_parts9(
     g: Settings,
     keep: u64,
 ) -> Put
-    requires { ⌜ Putting9 (now flags) (now parts) (now fill) (now parts2) mark (now off) (now from) low c g × Keeps (natAbs (g .p)) keep ⌝ }
+    requires { ⌜ Putting9 (now flags) (now parts) (now fill) (now parts2) mark (now off) (now from) low c g keep ⌝ }
     ensures { λ r. ⌜ PutAt9 (sight9 (now (flags .entry)) (now (parts .entry)) [] (now (fill .entry)) (now (off .entry)) low g) c (now (parts2 .entry)) (now (parts2 .exit)) r ⌝ }
 {
     if is_liquid(flags[c]) {

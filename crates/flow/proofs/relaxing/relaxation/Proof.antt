@@ -2,29 +2,17 @@
 use mathlib.Core.Path.{_≡_, refl, sym, ap, _∙_}
 use mathlib.Core.Bool.{Bool, true, false}
 use native.Mathlib.Omega.{arith}
-use Prim.Native.Nat.{ℕ}
 use lib.IntN.{ℤ, pos, natAbs}
 use mir.Syntax.{w64}
 use mir.Val.{toZ, ofZ}
 use mir.Facts.{toZ-ofZ}
 use borrow.Author.Tests.{not-true, not-false}
-use Rattle.lattice.specs.Lattice.{V3, Lattice}
 use Rattle.lattice.specs.Cell.{relaxationGood}
-use Rattle.turbulence.specs.Turbulence.{ownRelaxation}
 use Rattle.turbulence.proofs.Laws.{keeps-none}
-use Rattle.flow.specs.Relaxed.{relaxedBy}
 use Rattle.flow.proofs.Collisions.{relaxation-of}
+use Rattle.flow.proofs.Paces.{plain-is, own-is}
 use Rattle.flow.proofs.relaxing.relaxation.Statement.{statement}
 use Rattle.flow.proofs.relaxing.relaxation.Tie as tie
-
--- in the plain mode, and in the turbulent one
-plain-is : (mode : Bool) (L : Lattice) (ρ : ℤ) (j : V3) (p : ℤ) (f : ℕ → ℤ) → mode ≡ false → p ≡ relaxedBy mode L ρ j p f
-unfolding relaxedBy
-plain-is mode L ρ j p f e = ap (λ (b : Bool). relaxedBy b L ρ j p f) (sym e)
-
-own-is : (mode : Bool) (L : Lattice) (ρ : ℤ) (j : V3) (p : ℤ) (f : ℕ → ℤ) → mode ≡ true → ownRelaxation L ρ j p f ≡ relaxedBy mode L ρ j p f
-unfolding relaxedBy
-own-is mode L ρ j p f e = ap (λ (b : Bool). relaxedBy b L ρ j p f) (sym e)
 
 good : (s : tie.Start) → relaxationGood (s .args .g .p) ≡ true
 good s = relaxation-of (s .args .g) (s .pre .2)
