@@ -105,7 +105,7 @@ module _ (weights : ℕ → ℕ) (flags : List ℕ) (part : ℕ → ℕ → ℤ)
     calm = before (weighing weights) (S .grid) (S .old .flag) (S .old .part) (S .old .fill) (S .g)
 
     pace-in : (mode : Bool) → relaxedBy mode (weighing weights) (w .rho) (vec w) (g .p) (partsOf f) ≡ relaxIn mode calm (g .p) c
-    unfolding relaxedBy relaxIn ownAt sight d3q19
+    unfolding relaxedBy ownAt sight d3q19
     pace-in false = refl
     pace-in true =
         own-cong (weighing weights) (w .rho) (newDensity calm c) (vec w) (newMomentum calm c) (g .p) (partsOf f) (streamed calm c)

@@ -20,12 +20,12 @@ use Rattle.grid.specs.Step.{seen, normal, oldDensity, oldMomentum, leansTo, reb
 use Rattle.grid.specs.Mode.{ownAt, relaxIn, before, pullOf, sceneBy}
 
 pub relax-good : (mode : Bool) (S : Scene) (p : ℤ) (c : ℕ) → relaxationGood p ≡ true → relaxationGood (relaxIn mode S p c) ≡ true
-unfolding relaxIn ownAt
+unfolding ownAt
 relax-good false S p c e = e
 relax-good true S p c e = own-good (S .lat) (newDensity S c) (newMomentum S c) p (streamed S c)
 
 pub relax-most : (mode : Bool) (S : Scene) (p : ℤ) (c : ℕ) → relaxationGood p ≡ true → relaxIn mode S p c ≤ℤ p
-unfolding relaxIn ownAt
+unfolding ownAt
 relax-most false S p c e = parts-≤ (omega arith)
 relax-most true S p c e = own-not-above (S .lat) (newDensity S c) (newMomentum S c) p (streamed S c) e
 
@@ -58,11 +58,10 @@ module _ (L : Lattice) (G : Grid) (s : State) (g : Settings) (c : ℕ) where
       }
 
   pub plain-relax : g .turbulent ≡ false → S .relax c ≡ g .p
-  unfolding relaxIn
   plain-relax e = ap (λ (mode : Bool). relaxIn mode first (g .p) c) e
 
   pub own-relax : g .turbulent ≡ true → S .relax c ≡ ownRelaxation L (newDensity S c) (newMomentum S c) (g .p) (streamed S c)
-  unfolding relaxIn ownAt
+  unfolding ownAt
   own-relax e =
       ap (λ (mode : Bool). relaxIn mode first (g .p) c) e
       ∙ own-cong L (newDensity first c) (newDensity S c) (newMomentum first c) (newMomentum S c) (g .p) (streamed first c) (streamed S c) density-first momentum-first

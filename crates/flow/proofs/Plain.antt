@@ -128,7 +128,6 @@ module _ (L : Lattice) (turned : (i : ℕ) → Dir (L .q) i → Dir (L .q) (L .o
 
   -- in either mode the cell's relaxation turns on no mass, no carry and no other relaxation
   pub relax-same : (mode : Bool) (g : V3) (q : ℤ) → relaxIn mode (before L G flag part fill g) q c ≡ relaxIn mode (before L H flag part fill g) q c
-  unfolding relaxIn
   relax-same false g q = refl
   relax-same true g q = own-same (λ d. pos 0) (λ d. pos 0) (pos 0) (pos 0) g (λ d. pos 0) (λ d. pos 0) q
 

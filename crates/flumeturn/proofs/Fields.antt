@@ -22,7 +22,7 @@ use Rattle.flumeturn.proofs.Flumes as flumes
 -- the step's scene is the flume's own, spread
 pub turn-scene-is : (s : FlumeSides) (g : Settings) (a : Lent) → turnScene s g a ≡ spreadScene (sceneOn (flumeGround s) g a)
 unfolding stateOf partOf9
-turn-scene-is s g a = refl
+turn-scene-is s g a = flumes.scene-spread s g a
 
 abbrev pub flumeField : FlumeSides → Settings → Lent → List ℕ → ℕ → Field
 flumeField s g a off low = record {

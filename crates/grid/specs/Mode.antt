@@ -14,7 +14,7 @@ unfoldable pub ownAt : Scene → ℤ → ℕ → ℤ
 ownAt S p c = ownRelaxation (S .lat) (newDensity S c) (newMomentum S c) p (streamed S c)
 
 -- in the plain mode, and in the turbulent one
-unfoldable pub relaxIn : Bool → Scene → ℤ → ℕ → ℤ
+abbrev pub relaxIn : Bool → Scene → ℤ → ℕ → ℤ
 relaxIn false S p c = p
 relaxIn true S p c = ownAt S p c
 
@@ -44,5 +44,5 @@ sceneBy L G s g = record {
 
 -- names every definition of this file: whoever unfolds this computes with all of them
 unfoldable pub open-mode : Unit {0}
-unfolding ownAt relaxIn
+unfolding ownAt
 open-mode = tt

@@ -127,4 +127,4 @@ set-back s t a e = set-twice d3q19 (gridOf s) (mirrorOf s t) (grid-mirror s t) a
 
 pub settings-back : (t : Axes) (g : Settings) → reflectSettings t (reflectSettings t g) ≡ g
 unfolding reflectSettings
-settings-back t g i = record { p = g .p; gx = turn-twice (t .x) (g .gx) i; gy = turn-twice (t .y) (g .gy) i; gz = turn-twice (t .z) (g .gz) i }
+settings-back t g i = record { p = g .p; gx = turn-twice (t .x) (g .gx) i; gy = turn-twice (t .y) (g .gy) i; gz = turn-twice (t .z) (g .gz) i; turbulent = g .turbulent }

@@ -9,7 +9,7 @@ use mir.Facts.{toZ-ofZ}
 use borrow.Author.Tests.{not-true, not-false}
 use Rattle.lattice.specs.Cell.{relaxationGood}
 use Rattle.turbulence.proofs.Laws.{keeps-none}
-use Rattle.flow.proofs.Collisions.{relaxation-of}
+use Rattle.flow.proofs.Collisions.{loosened, relaxation-of}
 use Rattle.flow.proofs.Paces.{plain-is, own-is}
 use Rattle.flumeflow.proofs.relaxing.relaxation9.Statement.{statement}
 use Rattle.flumeflow.proofs.relaxing.relaxation9.Tie as tie
@@ -27,7 +27,7 @@ own-relaxation9-requires : tie.Need-own-relaxation9-requires
 own-relaxation9-requires c κs =
     let s = c .before .before .before .before in
     let e : toZ w64 (ofZ w64 (s .args .g .p)) ≡ s .args .g .p = toZ-ofZ (record { sfits = c .struct-told2 .given .0 .1 }) in
-    (s .pre .0, s .pre .1, ap relaxationGood e ∙ good s, rw e (keeps-none (s .args .g .p) (good s)))
+    (loosened _ _ _ _ _ (s .pre .0) (omega arith) (omega arith), s .pre .1, ap relaxationGood e ∙ good s, rw e (keeps-none (s .args .g .p) (good s)), s .pre .4)
 
 returns-2 : tie.Need-returns-2
 returns-2 c =
@@ -43,7 +43,7 @@ own-relaxation9-requires-2 : tie.Need-own-relaxation9-requires-2
 own-relaxation9-requires-2 c κs =
     let s = c .before .before .before .before in
     let e : toZ w64 (ofZ w64 (s .args .g .p)) ≡ s .args .g .p = toZ-ofZ (record { sfits = c .struct-told3 .given .0 .1 }) in
-    (s .pre .0, s .pre .1, ap relaxationGood e ∙ good s, rw e (s .pre .3))
+    (loosened _ _ _ _ _ (s .pre .0) (omega arith) (omega arith), s .pre .1, ap relaxationGood e ∙ good s, rw e (s .pre .3), s .pre .4)
 
 returns-3 : tie.Need-returns-3
 returns-3 c =
