@@ -68,7 +68,7 @@ enum { SKW_SURFACE_REFUSED = 0, SKW_SURFACE_FOUND = 1, SKW_SURFACE_NONE = 2 };
 /* Kinds of line in a profile. */
 enum { SKW_LINE_SOLID = 1, SKW_LINE_DRY = 2, SKW_LINE_DEEP = 3, SKW_LINE_OUTSIDE = 4 };
 
-/* Axes of skw_mirror. */
+/* Axes of skw_mirror, and but for y of skw_flume_mirror. */
 enum { SKW_AXIS_X = 0, SKW_AXIS_Y = 1, SKW_AXIS_Z = 2 };
 
 /* One density unit, 36*16,384: the water of a full cell under no pressure. */
@@ -679,6 +679,26 @@ size_t skw_flume_run(size_t steps,
                      size_t nx, size_t nz,
                      int64_t p, int64_t gx, int64_t gz,
                      uint8_t *number, size_t *place);
+
+/*
+ * FLUME MIRROR: the first set reflected in an axis into the second. On the axis cell x goes to n - 1 - x, with its flag, mass, fill and parts, part k to
+ * the place of the reflected direction; the carry is the first's. The second set may hold anything before. Gravity is no part of a set: step
+ * the second with the sign of that component changed. As long as no cell is filled or emptied, it then does what the first does, mirrored.
+ * Mirrored once more in the same axis it is the first set again.
+ * Tests 1, 2 (both sets), 3 (an axis other than SKW_AXIS_X and SKW_AXIS_Z), 4, 5, 6 of the first set. Beside a refusal the second set is as it was.
+ */
+uint8_t skw_flume_mirror(const uint8_t *flags, size_t flags_len,
+                         const int32_t *parts, size_t parts_len,
+                         const int32_t *masses, size_t masses_len,
+                         const uint32_t *fills, size_t fills_len,
+                         const int64_t *carry, size_t carry_len,
+                         uint8_t *flags2, size_t flags2_len,
+                         int32_t *parts2, size_t parts2_len,
+                         int32_t *masses2, size_t masses2_len,
+                         uint32_t *fills2, size_t fills2_len,
+                         int64_t *carry2, size_t carry2_len,
+                         size_t nx, size_t nz,
+                         size_t axis, size_t *place);
 
 /*
  * FLUME READ: a record of the flume, rec_len bytes of it, into a set without flags, fills worked out. The flags are the record's own

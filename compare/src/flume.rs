@@ -3,6 +3,7 @@
 
 mod calls;
 mod cases;
+pub mod mirrored;
 // One extern block for all who call the library.
 #[path = "../../bindings/rust/src/flume/raw.rs"]
 mod raw;

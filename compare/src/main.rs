@@ -22,7 +22,7 @@ use programs::{gridread, gridrun, gridstep, Starter};
 use report::{Total, Wish};
 
 const USAGE: &str = "compare [--from SEED] [--first] [PART...], from the top of the repository
-  PART      gridstep, gridrun, gridread, library, profile, pools, schemes, heights, mirror or flume; all if not said
+  PART      gridstep, gridrun, gridread, library, profile, pools, schemes, heights, mirror, flume or flumemirror; all if not said
   --from    the first seed, 0 if not said
   --first   stop at the first difference";
 
@@ -33,7 +33,7 @@ enum Part {
     Library(&'static str, fn(&Wish, &mut Total)),
 }
 
-const PARTS: [Part; 10] = [
+const PARTS: [Part; 11] = [
     Part::Program("gridstep", gridstep::compare),
     Part::Program("gridrun", gridrun::compare),
     Part::Program("gridread", gridread::compare),
@@ -44,6 +44,7 @@ const PARTS: [Part; 10] = [
     Part::Library("heights", heights::compare),
     Part::Library("mirror", mirror::compare),
     Part::Library("flume", flume::compare),
+    Part::Library("flumemirror", flume::mirrored::compare),
 ];
 
 impl Part {

@@ -4,13 +4,14 @@ use oracle::flume::drawing::{drawn, section};
 use oracle::flume::grid::Grid;
 use oracle::flume::hunt::{hunt, EVENTS};
 use oracle::flume::lattice::{Flow, DIRECTIONS, WEIGHTS};
+use oracle::flume::mirror::Axis;
 use oracle::flume::record::{read_whole, section_starts};
 use oracle::flume::scenes::{case_f, good, parts_at, resting, Scene};
 use oracle::flume::sets::{blank, store};
 use oracle::flume::settings::{test_step, Settings};
 use oracle::flume::state::{Cell, State};
 use oracle::flume::step::{draft, next_state, normal, pushed, streamed, traded};
-use oracle::flume::{check, read, run, step, write};
+use oracle::flume::{check, mirror, read, run, step, write};
 use oracle::grid::Refusal;
 use oracle::hunt::TURBULENT_EVENTS;
 use oracle::lattice::{opposite, DIRECTIONS as BOX_DIRECTIONS, ONE};
@@ -448,4 +449,77 @@ fn the_weir_is_good_and_drawn_as_it_stands() {
         assert!(drawn(&format!("{wrong}section\n###\n#~#\n###\n")).is_err(), "{wrong}");
     }
     assert!(drawn("p 1500\ngravity 0 -5\nsection\n###\n#~#\n###\n").is_ok());
+}
+
+/// P13's figure: a section of 5×4 cells with one surface cell, 6, whose parts all differ.
+fn glass() -> Scene {
+    let mut cell = resting(100_000);
+    for (k, part) in cell.parts.iter_mut().enumerate() {
+        *part += k as i128;
+    }
+    let mut scene = Scene::of([5, 4], CALM, &[(6, cell.filled())]);
+    scene.state.carry = 7;
+    for c in [7, 8, 11, 12, 13] {
+        scene.state.cells[c] = Cell::blank(EMPTY);
+    }
+    scene
+}
+
+#[test]
+fn mirrored_in_x_and_in_z() {
+    let scene = glass();
+    let first = store(&scene.state);
+    assert_eq!((first.fills[6], Flow::of(&scene.state.cells[6].parts).rho), (11_110, 589_860));
+    for (axis, cell, parts) in [
+        (0, 8, [65_538, 65_537, 65_539, 65_540, 16_392, 16_391, 16_390, 16_389]),
+        (2, 11, [65_537, 65_538, 65_540, 65_539, 16_391, 16_392, 16_389, 16_390]),
+    ] {
+        let (mut second, mut back) = (blank(20), blank(20));
+        assert_eq!(mirror([5, 4], first.lend(), second.lend_mut(), axis), Ok(()));
+        assert_eq!(second.parts[9 * cell + 1..][..8], parts);
+        assert_eq!(
+            (second.flags[cell], second.masses[cell], second.fills[cell]),
+            (INTERFACE, 100_000, 11_110)
+        );
+        assert_eq!((second.carry[0], check([5, 4], second.lend())), (7, Ok(())));
+        assert_eq!(mirror([5, 4], second.lend(), back.lend_mut(), axis), Ok(()));
+        assert_eq!(back, first);
+    }
+    // What is refused, and that it writes nothing.
+    let tried = |first: &Store, flags: usize, axis: u64| {
+        let mut second = blank(20);
+        second.flags.truncate(flags);
+        let before = second.clone();
+        let answer = mirror([5, 4], first.lend(), second.lend_mut(), axis);
+        assert!(answer.is_ok() || second == before);
+        answer
+    };
+    let broken = Store { carry: vec![1_000_000_000_001], ..first.clone() };
+    for axis in [1, 3, 1 << 32, u64::MAX] {
+        assert_eq!(tried(&first, 20, axis), Err(refusal(3, 0)));
+        assert_eq!(tried(&broken, 20, axis), Err(refusal(3, 0)));
+        assert_eq!(tried(&first, 19, axis), Err(refusal(2, 0)));
+    }
+    assert_eq!(tried(&broken, 20, 2), Err(refusal(6, 20)));
+}
+
+#[test]
+fn mirrored_steps_of_calm_water_are_mirrored() {
+    let mut calm = 0;
+    for seed in 0..400 {
+        let scene = good(seed);
+        let (grid, Settings { p, gravity: [gx, gz], .. }) = (scene.grid(), scene.settings);
+        for (axis, turned) in [(Axis::X, [-gx, gz]), (Axis::Z, [gx, -gz])] {
+            let old = axis.turned_state(&grid, &scene.state);
+            assert_eq!(axis.turned_state(&grid, &old), scene.state);
+            let Ok(draft) = draft(&grid, &scene.state, p, [gx, gz]) else { continue };
+            let Ok(next) = next_state(&grid, &scene.state, p, [gx, gz]) else { continue };
+            if draft.fates.iter().all(|&fate| fate == oracle::step::Fate::Stays) {
+                calm += 1;
+                let beside = next_state(&grid, &old, p, turned);
+                assert_eq!(beside.as_ref(), Ok(&axis.turned_state(&grid, &next)), "seed {seed}");
+            }
+        }
+    }
+    assert!(calm > 100, "{calm}");
 }

@@ -1,6 +1,6 @@
 /*
- * Every call of the flume in skwarzyna.h on good and on bad input, held to the figures of document 01 as amended (P3). The same text is compiled
- * as C and as C++.
+ * Every call of the flume in skwarzyna.h on good and on bad input, held to the figures of document 01 as amended (P3, P13). The same text is
+ * compiled as C and as C++.
  */
 #include "expect.h"
 
@@ -10,6 +10,9 @@
 #define CELLS 9
 #define CENTRE 4
 #define RECORD 125
+/* The mirror's figure: a section of 5 by 4 cells with one surface cell. */
+#define GLASS 20
+#define GLASS_WET 6
 /* A row of three inner cells: the second is fluid in one of the states below. */
 #define ROW 15
 #define ROW_FLUID 7
@@ -49,6 +52,7 @@ struct head {
 
 static const struct sides THREE = {3, 3};
 static const struct sides FIVE = {5, 3};
+static const struct sides WIDE = {5, 4};
 static const struct settings FALLING = {1024, 0, -1024};
 static const struct site CORNER = {50, 0, 0};
 
@@ -99,6 +103,15 @@ static long run(size_t steps, struct set *a, struct lengths la, struct set *b, s
     *count = skw_flume_run(steps, a->flags, la.flags, a->parts, la.parts, a->masses, la.masses, a->fills, la.fills, a->carry, la.carry, b->flags,
                            lb.flags, b->parts, lb.parts, b->masses, lb.masses, b->fills, lb.fills, b->carry, lb.carry, marks, lb.marks, s.nx, s.nz,
                            g.p, g.gx, g.gz, &number, &place);
+    return REFUSED(number, place);
+}
+
+static long mirror(const struct set *a, struct lengths la, struct set *b, struct lengths lb, struct sides s, size_t axis)
+{
+    size_t place = (size_t)-1;
+    const uint8_t number = skw_flume_mirror(a->flags, la.flags, a->parts, la.parts, a->masses, la.masses, a->fills, la.fills, a->carry, la.carry,
+                                            b->flags, lb.flags, b->parts, lb.parts, b->masses, lb.masses, b->fills, lb.fills, b->carry, lb.carry,
+                                            s.nx, s.nz, axis, &place);
     return REFUSED(number, place);
 }
 
@@ -184,6 +197,21 @@ static void row(struct set *a, int open)
     if (open) {
         a->flags[ROW_FLUID - 1] = SKW_EMPTY;
     }
+}
+
+static void figure(struct set *a)
+{
+    size_t c;
+    int k;
+    solid(a, GLASS);
+    for (c = 0; c < GLASS; c += 1) {
+        a->flags[c] = c % 5 % 4 == 0 || c / 5 % 3 == 0 ? SKW_WALL : SKW_EMPTY;
+    }
+    wet(a, GLASS_WET, SKW_INTERFACE, 100000, 11110);
+    for (k = 1; k < SKW_FLUME_PARTS; k += 1) {
+        a->parts[SKW_FLUME_PARTS * GLASS_WET + k] += k;
+    }
+    a->carry[0] = 7;
 }
 
 static void test_check(void)
@@ -358,6 +386,65 @@ static int refused_head(const struct head *h)
            h->flags_from == 0 && h->flags_to == 0;
 }
 
+/* That it is refused so, and has written nothing. */
+static int refused_mirror(const struct set *a, struct lengths la, struct lengths lb, struct sides s, size_t axis, long answer)
+{
+    struct set b, dirty;
+    soil(&b), soil(&dirty);
+    return mirror(a, la, &b, lb, s, axis) == answer && same(&b, &dirty);
+}
+
+static void test_mirror(void)
+{
+    /* Parts 1 to 8 of the surface cell, and where it is then, by axis; a flume has no y. */
+    static const int32_t parts[3][8] = {{65538, 65537, 65539, 65540, 16392, 16391, 16390, 16389},
+                                        {0},
+                                        {65537, 65538, 65540, 65539, 16391, 16392, 16389, 16390}};
+    static const size_t cells[3] = {8, 0, 11};
+    const struct lengths l = lengths_of(GLASS);
+    struct lengths short_flags = l;
+    struct set a, b, wanted, back;
+    size_t axis;
+    int way;
+
+    for (axis = SKW_AXIS_X; axis <= SKW_AXIS_Z; axis += 2) {
+        const size_t c = cells[axis];
+        figure(&a), soil(&b), soil(&back);
+        figure(&wanted), wanted.flags[GLASS_WET] = SKW_EMPTY, wanted.masses[GLASS_WET] = 0, wanted.fills[GLASS_WET] = 0;
+        memset(wanted.parts, 0, sizeof wanted.parts);
+        wet(&wanted, c, SKW_INTERFACE, 100000, 11110);
+        memcpy(wanted.parts + SKW_FLUME_PARTS * c + 1, parts[axis], sizeof parts[axis]);
+        EXPECT(mirror(&a, l, &b, l, WIDE, axis) == ACCEPTED && same_state(&b, &wanted, GLASS));
+        EXPECT(check(&b, l, WIDE) == ACCEPTED);
+        EXPECT(mirror(&b, l, &back, l, WIDE, axis) == ACCEPTED && same_state(&back, &a, GLASS));
+    }
+
+    /* each fault is added to those before it, and is found before them */
+    figure(&a), a.carry[0] = 1000000000001;
+    EXPECT(refused_mirror(&a, l, l, WIDE, SKW_AXIS_Z, REFUSED(SKW_BAD_STATE, GLASS)));
+    a.fills[GLASS_WET] = 1;
+    EXPECT(refused_mirror(&a, l, l, WIDE, SKW_AXIS_X, REFUSED(SKW_BAD_STATE, GLASS_WET)));
+    a.flags[GLASS_WET + 1] = SKW_FLUID;
+    EXPECT(refused_mirror(&a, l, l, WIDE, SKW_AXIS_X, REFUSED(SKW_BAD_LAYER, GLASS_WET + 1)));
+    a.flags[GLASS - 1] = SKW_EMPTY;
+    EXPECT(refused_mirror(&a, l, l, WIDE, SKW_AXIS_X, REFUSED(SKW_BAD_FLAG, GLASS - 1)));
+    EXPECT(refused_mirror(&a, l, l, WIDE, SKW_AXIS_Y, REFUSED(SKW_BAD_SETTING, 0)));
+    EXPECT(refused_mirror(&a, l, l, WIDE, 3, REFUSED(SKW_BAD_SETTING, 0)));
+    EXPECT(refused_mirror(&a, l, l, WIDE, (size_t)-1, REFUSED(SKW_BAD_SETTING, 0)));
+    short_flags.flags = GLASS - 1;
+    EXPECT(refused_mirror(&a, l, short_flags, WIDE, SKW_AXIS_Y, REFUSED(SKW_BAD_LENGTH, 0)));
+    {
+        const struct sides flat = {5, 2};
+        EXPECT(refused_mirror(&a, l, short_flags, flat, SKW_AXIS_Y, REFUSED(SKW_BAD_SIDES, 0)));
+    }
+
+    for (way = 0; way < WRONG_SET_LENGTHS; way += 1) {
+        case_f(&a);
+        EXPECT(refused_mirror(&a, wrong_lengths(way), lengths_of(CELLS), THREE, SKW_AXIS_X, REFUSED(SKW_BAD_LENGTH, 0)));
+        EXPECT(refused_mirror(&a, lengths_of(CELLS), wrong_lengths(way), THREE, SKW_AXIS_X, REFUSED(SKW_BAD_LENGTH, 0)));
+    }
+}
+
 static void test_write(uint8_t *record)
 {
     const struct lengths l = lengths_of(CELLS);
@@ -472,6 +559,7 @@ int main(void)
     test_check();
     test_step();
     test_run();
+    test_mirror();
     test_write(record);
     test_read(record);
     printf("header, the flume (%s): %d expectations, %d failed\n", LANGUAGE, tried, failed);

@@ -37,7 +37,7 @@ use std::mem::swap;
 
 use crate::{Counts, Refusal, State, StateMut, Stopped, Water, EMPTY, WALL};
 
-pub use settings::{Point, Settings, Site};
+pub use settings::{Axis, Point, Settings, Site};
 pub use sides::Sides;
 
 /// Parts of a cell.
@@ -202,6 +202,14 @@ impl Flume {
     pub fn run(&mut self, steps: usize) -> Result<(), Stopped> {
         let (first, second) = (self.first.lend_mut(), self.second.lend_mut());
         lent::run(self.sides, self.settings, steps, first, second, &mut self.marks)
+    }
+
+    /// The flume mirrored in an axis, gravity with it; mirrored once more it is this flume again. Refusals 4, 5 and 6. As long as no cell is
+    /// filled or emptied, it does what this flume does, mirrored.
+    pub fn mirrored(&self, axis: Axis) -> Result<Flume, Refusal> {
+        let mut first = Buffers::new(self.first.flags.len());
+        lent::mirror(self.sides, self.state(), first.lend_mut(), axis)?;
+        Ok(Flume::holding(self.sides, self.settings.mirrored(axis), self.site, first))
     }
 
     /// How many cells there are of each flag.

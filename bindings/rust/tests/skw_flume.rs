@@ -161,7 +161,7 @@ fn help_knows_the_flume() {
         assert!(help.starts_with(&format!("skw flume {command} [FILE]")));
     }
     for (words, told) in [
-        (&["flume"][..], "usage: skw flume check|water|step|run|draw"),
+        (&["flume"][..], "usage: skw flume check|water|step|run|mirror|draw"),
         (&["flume", "pour"], "there is no command 'flume pour'"),
         (&["help", "flume", "pour"], "usage: skw flume check|"),
         (&["help", "flume", "check", "more"], "usage: skw help [COMMAND]"),

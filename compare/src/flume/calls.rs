@@ -72,6 +72,41 @@ pub fn step(case: &mut Case) -> Reply {
     Reply { number, place, values: vec![] }
 }
 
+pub fn mirror(case: &mut Case, axis: usize) -> Reply {
+    let [nx, nz] = case.sides;
+    let (first, second) = (&case.first, &mut case.second);
+    let mut place = BEFORE;
+    let number = unsafe {
+        raw::skw_flume_mirror(
+            first.flags.as_ptr(),
+            first.flags.len(),
+            first.parts.as_ptr(),
+            first.parts.len(),
+            first.masses.as_ptr(),
+            first.masses.len(),
+            first.fills.as_ptr(),
+            first.fills.len(),
+            first.carry.as_ptr(),
+            first.carry.len(),
+            second.flags.as_mut_ptr(),
+            second.flags.len(),
+            second.parts.as_mut_ptr(),
+            second.parts.len(),
+            second.masses.as_mut_ptr(),
+            second.masses.len(),
+            second.fills.as_mut_ptr(),
+            second.fills.len(),
+            second.carry.as_mut_ptr(),
+            second.carry.len(),
+            nx,
+            nz,
+            axis,
+            &mut place,
+        )
+    };
+    Reply { number, place, values: vec![] }
+}
+
 /// Its value is the count.
 pub fn run(case: &mut Case) -> Reply {
     let [nx, nz] = case.sides;

@@ -26,6 +26,12 @@ pub fn step(case: &mut Case) -> Reply {
     reply(outcome.map(|()| []))
 }
 
+pub fn mirror(case: &mut Case, axis: usize) -> Reply {
+    let sides = sides(case);
+    let outcome = flume::mirror(sides, case.first.lend(), case.second.lend_mut(), axis as u64);
+    reply(outcome.map(|()| []))
+}
+
 pub fn run(case: &mut Case) -> Reply {
     let (sides, settings) = (sides(case), settings(case));
     let steps = u32::try_from(case.steps).unwrap_or(u32::MAX);

@@ -13,5 +13,6 @@ pub mod Stepped
 pub mod Sets
 pub mod Outcomes
 pub mod Many
+pub mod Flume
 pub mod Case
 pub mod Owned

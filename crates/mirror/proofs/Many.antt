@@ -1,4 +1,4 @@
--- Any number of steps that convert no cell: over any lattice and grid, over the step's own outcome, and over a run. Assumes nothing.
+-- Any number of steps that convert no cell: over any lattice and grid, over the step's own outcome on any ground, and over a run. Assumes nothing.
 use mathlib.Core.Path.{_≡_, refl, sym, ap, _∙_, subst}
 use mathlib.Core.Logic.{_⊎_, inl, inr}
 use mathlib.Core.Bool.{Bool, true, false, cond, false≢true}
@@ -15,20 +15,20 @@ use Rattle.lattice.proofs.Paired.{Paired, paired19, paired9}
 use Rattle.grid.specs.declared.Sides.{Sides}
 use Rattle.grid.specs.declared.Answer.{Answer}
 use Rattle.grid.specs.declared.Answer.the-variants.{Done}
-use Rattle.grid.specs.Grid.{Grid, gridOf, flume, cellsOf}
+use Rattle.grid.specs.Grid.{Grid, gridOf, box, flume, cellsOf, sidesGood}
 use Rattle.grid.specs.State.{Lent, State}
 use Rattle.grid.specs.Step.{next}
-use Rattle.grid.specs.Outcome.{accepted, orRefuse, sceneOf, entryAnswer, moveAnswer, stepAnswer, nextOf, Ran, ranBy, ran, runEntry, runCount, runAnswer, runFirst, runSecond, open-outcome}
-use Rattle.grid.specs.Ground.{boxGround}
+use Rattle.grid.specs.Outcome.{accepted, moveAnswer, sceneOf, Ran, ranBy, runAnswer, runFirst, open-outcome}
+use Rattle.grid.specs.Ground.{Ground, ground, boxGround, sceneOn, stepOn, nextOn, ranOn, runEntryOn, runCountOn, runAnswerOn, runFirstOn}
 use Rattle.grid.proofs.Laid.{Laid}
 use Rattle.grid.proofs.Box.{grid-laid, flume9-laid}
 use Rattle.grid.proofs.Accepted.{passed, accepted-done}
-use Rattle.grid.proofs.Counted.{after, Counted, counted-holds}
-use Rattle.mirror.specs.Mirror.{Axes, reflect, Mirror, mirrorOf, flumeMirror, Reflection, Reflects, reflectSet, reflectSettings}
-use Rattle.mirror.specs.Demands.{Calm, Mode, plain, sceneIn, Even, Calms, none, more, count, Follows, Room, Calmly, start, then, steps, RunMirrors}
+use Rattle.grid.proofs.Counted.{after, Counted, counted-on}
+use Rattle.mirror.specs.Mirror.{Axes, reflect, Mirror, mirrorOf, boxMirror, flumeMirror, Reflection, Reflects, reflectSettings}
+use Rattle.mirror.specs.Demands.{Calm, Mode, plain, sceneIn, Even, Calms, none, more, count, Follows, Room, reflectOn, Calmly, start, then, steps, RunMirrors}
 use Rattle.mirror.proofs.Cells.{grid-mirror, flume9-mirror}
 use Rattle.mirror.proofs.Stepped.{mode-holds, plain-even}
-use Rattle.mirror.proofs.Outcomes.{step-mirrors, step-too, next-too, entry-too, room-of, lengths-too}
+use Rattle.mirror.proofs.Outcomes.{mirrors-on, step-too, next-too, entry-too, room-of, lengths-on}
 
 -- ---- any lattice and grid, any mode that is even
 abbrev pub Following : Type 0
@@ -65,91 +65,106 @@ box-follows mode s a even x y z same r = follows-holds mode d3q19 (gridOf s) (mi
 pub box-plain : (s : Sides) (a : Axes) → Even plain d3q19 (gridOf s) (mirrorOf s a)
 box-plain s a = plain-even d3q19 (gridOf s) (mirrorOf s a)
 
--- ---- document 01's grid, over the step's own outcome
+-- ---- any ground with a reflection, over the step's own outcome
 abbrev pub Claim : Type 0
-Claim = (s : Sides) (t : Axes) (a b : Lent) (r : Calmly s a b) → (w : Calmly s (reflectSet s t a) (reflectSet s t b)) × (steps w ≡ steps r)
-
-step-room : (s : Sides) (g : Settings) (a b : Lent) (marks : List ℕ) → stepAnswer s g a b marks ≡ Done → Room s b marks
-unfolding stepAnswer
-step-room s g a b marks e = room-of s g a b marks (moveAnswer (sceneOf s g a)) e
+Claim = (L : Lattice) (K : Grid) (fits : Bool) (M : Mirror) → Paired L → Laid L K → Reflection L K M
+    → (a b : Lent) (r : Calmly (ground L K fits) a b)
+    → (w : Calmly (ground L K fits) (reflectOn (ground L K fits) M a) (reflectOn (ground L K fits) M b)) × (steps w ≡ steps r)
 
 pub calmly-mirrors : Claim
-calmly-mirrors s t a b start = (start, refl)
-calmly-mirrors s t a c (then {b} r g second marks e calm) =
-    let w = calmly-mirrors s t a b r in
-    let k = step-mirrors s t g b second marks e calm second marks (step-room s g b second marks e) in
-    subst (λ (x : Lent). (w : Calmly s (reflectSet s t a) x) × (steps w ≡ suc (steps r))) (k .result)
-    (then (w .0) (reflectSettings t g) second marks (k .accepted) (k .calm), ap suc (w .1))
+calmly-mirrors L K fits M paired laid m a b start = (start, refl)
+calmly-mirrors L K fits M paired laid m a c (then {b} r g second marks e calm) =
+    let G = ground L K fits in
+    let w = calmly-mirrors L K fits M paired laid m a b r in
+    let k = mirrors-on L K fits M paired laid m g b second marks e calm second marks (room-of G g b second marks (moveAnswer (sceneOn G g b)) e) in
+    subst (λ (x : Lent). (w : Calmly G (reflectOn G M a) x) × (steps w ≡ suc (steps r))) (k .result)
+    (then (w .0) (reflectSettings (M .axes) g) second marks (k .accepted) (k .calm), ap suc (w .1))
 
 -- ---- a run
 abbrev pub Running : Type 0
-Running = (n : ℕ) (s : Sides) (t : Axes) (g : Settings) (a b : Lent) (marks : List ℕ) → runAnswer n s g a b marks ≡ Done
-    → ((j : ℕ) → j < n → Calm (sceneOf s g (after (boxGround s) g marks j a))) → (second : Lent) (marks′ : List ℕ) → Room s second marks′
-    → RunMirrors n s t g a (runFirst n s g a b marks) second marks′
+Running = (L : Lattice) (K : Grid) (fits : Bool) (M : Mirror) → Paired L → Laid L K → Reflection L K M
+    → (n : ℕ) (g : Settings) (a b : Lent) (marks : List ℕ) → runAnswerOn (ground L K fits) n g a b marks ≡ Done
+    → ((j : ℕ) → j < n → Calm (sceneOn (ground L K fits) g (after (ground L K fits) g marks j a))) → (second : Lent) (marks′ : List ℕ) → Room (ground L K fits) second marks′
+    → RunMirrors n (ground L K fits) M (reflectSettings (M .axes) g) a (runFirstOn (ground L K fits) n g a b marks) second marks′
 
-module _ (s : Sides) (t : Axes) (g : Settings) (marks marks′ : List ℕ) (long : length marks′ ≡ cellsOf s) where
+-- of document 01's grid
+abbrev pub BoxRunning : Type 0
+BoxRunning = (n : ℕ) (s : Sides) (t : Axes) (g : Settings) (a b : Lent) (marks : List ℕ) → runAnswer n s g a b marks ≡ Done
+    → ((j : ℕ) → j < n → Calm (sceneOf s g (after (boxGround s) g marks j a))) → (second : Lent) (marks′ : List ℕ) → Room (boxGround s) second marks′
+    → RunMirrors n (boxGround s) (mirrorOf s t) (reflectSettings t g) a (runFirst n s g a b marks) second marks′
+
+module _ (L : Lattice) (K : Grid) (fits : Bool) (M : Mirror) (paired : Paired L) (laid : Laid L K) (m : Reflection L K M)
+    (g : Settings) (marks marks′ : List ℕ) (long : length marks′ ≡ K .cells) where
+  abbrev G : Ground
+  G = ground L K fits
+
+  abbrev h : Settings
+  h = reflectSettings (M .axes) g
+
   -- what a run of n calm steps comes to
   abbrev All : ℕ → Lent → Type 0
   All n a =
-      ran s g marks n a .count ≡ n → ((j : ℕ) → j < n → Calm (sceneOf s g (after (boxGround s) g marks j a)))
-      → ran s (reflectSettings t g) marks′ n (reflectSet s t a) ≡ record { count = n; stop = Done; reached = reflectSet s t (ran s g marks n a .reached) }
+      ranOn G g marks n a .count ≡ n → ((j : ℕ) → j < n → Calm (sceneOn G g (after G g marks j a)))
+      → ranOn G h marks′ n (reflectOn G M a) ≡ record { count = n; stop = Done; reached = reflectOn G M (ranOn G g marks n a .reached) }
 
-  one-more : (n : ℕ) (a : Lent) (b : Bool) → accepted (stepAnswer s g a a marks) ≡ b → All n (nextOf s g a) → All (suc n) a
-  unfolding ran after nextOf sceneOf
-  one-more n a false e r h calm = absurd (let k : 0 ≡ suc n = rw (e, ranBy) at h in omega arith)
-  one-more n a true e r h calm =
-      let k : suc (ran s g marks n (nextOf s g a) .count) ≡ suc n = rw (e, ranBy) at h in
-      let done : stepAnswer s g a a marks ≡ Done = accepted-done (stepAnswer s g a a marks) e in
-      let too : accepted (stepAnswer s (reflectSettings t g) (reflectSet s t a) (reflectSet s t a) marks′) ≡ true =
-      ap accepted (step-too s t g a a marks done (calm 0 (omega arith)) (reflectSet s t a) marks′ (record { second-long = lengths-too s t a; marks-long = long })) in
+  one-more : (n : ℕ) (a : Lent) (b : Bool) → accepted (stepOn G g a a marks) ≡ b → All n (nextOn G g a) → All (suc n) a
+  unfolding after
+  one-more n a false e r p calm = absurd (let k : 0 ≡ suc n = rw (e, ranBy) at p in omega arith)
+  one-more n a true e r p calm =
+      let k : suc (ranOn G g marks n (nextOn G g a) .count) ≡ suc n = rw (e, ranBy) at p in
+      let done : stepOn G g a a marks ≡ Done = accepted-done (stepOn G g a a marks) e in
+      let too : accepted (stepOn G h (reflectOn G M a) (reflectOn G M a) marks′) ≡ true =
+      ap accepted (step-too L K fits M paired laid m g a a marks done (calm 0 (omega arith)) (reflectOn G M a) marks′ (record { second-long = lengths-on L K fits M a; marks-long = long })) in
       rw (e, too, ranBy)
       (ap (λ (x : Ran). record { count = suc (x .count); stop = x .stop; reached = x .reached })
-      (ap (ran s (reflectSettings t g) marks′ n) (next-too s t g a a marks done (calm 0 (omega arith))) ∙ r (suc-inj k) (λ j l. calm (suc j) (omega arith))))
+      (ap (ranOn G h marks′ n) (next-too L K fits M paired laid m g a a marks done (calm 0 (omega arith))) ∙ r (suc-inj k) (λ j l. calm (suc j) (omega arith))))
 
   all-made : (n : ℕ) (a : Lent) → All n a
-  unfolding ran after nextOf sceneOf
-  all-made zero a h calm = refl
-  all-made (suc n) a h calm = one-more n a (accepted (stepAnswer s g a a marks)) refl (all-made n (nextOf s g a)) h calm
+  unfolding after
+  all-made zero a p calm = refl
+  all-made (suc n) a p calm = one-more n a (accepted (stepOn G g a a marks)) refl (all-made n (nextOn G g a)) p calm
 
 -- a run with no refusal has made all its steps
-entered : (n : ℕ) (s : Sides) (g : Settings) (a b : Lent) (marks : List ℕ) → runAnswer n s g a b marks ≡ Done
-    → (runEntry n s g a b marks ≡ Done) × (ran s g marks n a .stop ≡ Done)
-unfolding runAnswer
-entered n s g a b marks e = go (runEntry n s g a b marks) (ran s g marks n a .stop) e
-  where
-    go : (x y : Answer) → cond (accepted x) y x ≡ Done → (x ≡ Done) × (y ≡ Done)
-    go x y h = at (accepted x) refl
-      where
-        at : (b : Bool) → accepted x ≡ b → (x ≡ Done) × (y ≡ Done)
-        at true k = (accepted-done x k, rw k at h)
-        at false k = absurd (false≢true (sym k ∙ ap accepted (let z : x ≡ Done = rw k at h in z)))
+module _ (G : Ground) (n : ℕ) (g : Settings) (a b : Lent) (marks : List ℕ) where
+  entered : runAnswerOn G n g a b marks ≡ Done → (runEntryOn G n g a b marks ≡ Done) × (ranOn G g marks n a .stop ≡ Done)
+  entered e = go (runEntryOn G n g a b marks) (ranOn G g marks n a .stop) e
+    where
+      go : (x y : Answer) → cond (accepted x) y x ≡ Done → (x ≡ Done) × (y ≡ Done)
+      go x y p = at (accepted x) refl
+        where
+          at : (b : Bool) → accepted x ≡ b → (x ≡ Done) × (y ≡ Done)
+          at true k = (accepted-done x k, rw k at p)
+          at false k = absurd (false≢true (sym k ∙ ap accepted (let z : x ≡ Done = rw k at p in z)))
 
-count-of : (n : ℕ) (s : Sides) (g : Settings) (a b : Lent) (marks : List ℕ) → runEntry n s g a b marks ≡ Done → runCount n s g a b marks ≡ ran s g marks n a .count
-unfolding runCount
-count-of n s g a b marks e = rw e refl
+  count-of : runEntryOn G n g a b marks ≡ Done → runCountOn G n g a b marks ≡ ranOn G g marks n a .count
+  count-of e = ap (λ (x : Answer). cond (accepted x) (ranOn G g marks n a .count) 0) e
 
-made : (n : ℕ) (s : Sides) (g : Settings) (a b : Lent) (marks : List ℕ) → runEntry n s g a b marks ≡ Done → runAnswer n s g a b marks ≡ Done → ran s g marks n a .count ≡ n
-made n s g a b marks entry answer = sym (count-of n s g a b marks entry) ∙ go (eq-or-lt-of-le (k .at-most))
-  where
-    k : Counted (boxGround s) g marks n a (runCount n s g a b marks) (runAnswer n s g a b marks) (runFirst n s g a b marks)
-    k = counted-holds n s g a b marks entry
+  made : runEntryOn G n g a b marks ≡ Done → runAnswerOn G n g a b marks ≡ Done → ranOn G g marks n a .count ≡ n
+  made entry answer = sym (count-of entry) ∙ go (eq-or-lt-of-le (k .at-most))
+    where
+      k : Counted G g marks n a (runCountOn G n g a b marks) (runAnswerOn G n g a b marks) (runFirstOn G n g a b marks)
+      k = counted-on G n g a b marks entry
 
-    go : (runCount n s g a b marks ≡ n) ⊎ (runCount n s g a b marks < n) → runCount n s g a b marks ≡ n
-    go (inl h) = h
-    go (inr h) = absurd (false≢true (sym (k .stopped h .1) ∙ ap accepted answer))
+      go : (runCountOn G n g a b marks ≡ n) ⊎ (runCountOn G n g a b marks < n) → runCountOn G n g a b marks ≡ n
+      go (inl p) = p
+      go (inr p) = absurd (false≢true (sym (k .stopped p .1) ∙ ap accepted answer))
 
-pub run-mirrors : Running
-unfolding runEntry runCount runAnswer runFirst runSecond
-run-mirrors n s t g a b marks e calm second marks′ room =
-    let x = entered n s g a b marks e in
+pub runs-on : Running
+runs-on L K fits M paired laid m n g a b marks e calm second marks′ room =
+    let G = ground L K fits in
+    let x = entered G n g a b marks e in
     let y = passed (leb n 1000) 9 0 _ (x .0) in
-    let z = entry-too s t g a b marks Done Done (y .1) second marks′ room in
-    let r = all-made s t g marks marks′ (room .marks-long) n a (made n s g a b marks (x .0) e) calm in
-    let w : orRefuse (leb n 1000) 9 0 (entryAnswer s (reflectSettings t g) (reflectSet s t a) second marks′ Done) ≡ Done = rw (y .0) z in
-    let v : accepted (runEntry n s g a b marks) ≡ true = ap accepted (x .0) in
+    let z = entry-too L K fits M paired laid m g a b marks Done Done (y .1) second marks′ room in
+    let r = all-made L K fits M paired laid m g marks marks′ (room .marks-long) n a (made G n g a b marks (x .0) e) calm in
+    let w : runEntryOn G n (reflectSettings (M .axes) g) (reflectOn G M a) second marks′ ≡ Done = rw (y .0) z in
     record {
       answer = rw (w, r) refl;
       count = rw (w, r) refl;
       first = rw (w, r, x .0) refl;
       last = rw (w, r, x .0) refl;
     }
+
+pub run-mirrors : BoxRunning
+unfolding open-outcome gridOf box cellsOf d3q19 mirrorOf boxMirror
+run-mirrors n s t g a b marks e calm second marks′ room =
+    runs-on d3q19 (gridOf s) (sidesGood s) (mirrorOf s t) paired19 (grid-laid s) (grid-mirror s t) n g a b marks e calm second marks′ room

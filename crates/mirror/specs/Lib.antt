@@ -1,3 +1,4 @@
 pub mod Mirror
 pub mod Demands
+pub mod Flume
 pub mod Cases

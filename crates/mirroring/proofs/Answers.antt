@@ -3,11 +3,14 @@ use mathlib.Core.Path.{_≡_, refl, sym, ap, ap₂, _∙_, subst}
 use mathlib.Core.Bool.{Bool, true, false, _&&_}
 use mathlib.Core.List.{List, []}
 use Prim.Native.Nat.{ℕ, _*_, _≤_}
+use native.Mathlib.Omega.{arith}
 use borrow.Author.Tests.{leb-true}
 use lib.Dec.{eqb, leb}
 use lib.IntN.{ℤ}
 use lib.ListN.{length}
 use Rattle.whole.specs.Bools.{and-left, and-right}
+use Rattle.whole.specs.Fold.{tab}
+use Rattle.lattice.specs.Lattice.{d3q19}
 use Rattle.grid.specs.declared.Sides.{Sides}
 use Rattle.grid.specs.declared.Answer.{Answer}
 use Rattle.grid.specs.declared.Answer.the-variants.{Done, Refused}
@@ -23,11 +26,13 @@ use Rattle.index.specs.Held.{Held, held, indexed}
 use Rattle.index.specs.Laid.{Room}
 use Rattle.index.proofs.Flagged.{room-of}
 use Rattle.index.proofs.Answers.{few-cells}
-use Rattle.mirror.specs.Mirror.{mirrored, mirroredSet}
-use Rattle.mirroring.specs.Turned.{turnedSet, turned}
+use Rattle.mirror.specs.Mirror.{mirrorOf, mirrored, mirroredSet}
+use Rattle.mirror.proofs.Lattices.{turns19}
+use Rattle.mirroring.specs.Turned.{turnedSet, axesOf, turned}
 use Rattle.mirroring.specs.Outcome.{mirrorAnswer, ifDone, mirrorSecond}
 use Rattle.mirroring.specs.Promise.{Mirrored}
-use Rattle.mirroring.specs.Between.{Celled, Turnable}
+use Rattle.mirroring.specs.Between.{dirIn, tableMirror, Celled, Directed, Turnable}
+use Rattle.mirroring.proofs.Reflected.{directed, by-table}
 
 -- a set without its totals
 abbrev pub bare : Lent → Lent
@@ -72,11 +77,17 @@ module _ (s : Sides) (axis : ℕ) (a : Lent) (b : Held) where
       second-room = room-of (cellsOf s) (b .index) (few-cells s g) (and-right (threeLengths (cellsOf s) a && threeLengths (cellsOf s) (b .set)) (indexSized (cellsOf s) (b .index)) l)
 
   -- ---- an accepted mirror
-  celled : (d : Lent) → threeLengths (cellsOf s) d ≡ true → Celled (cellsOf s) (bare d)
+  celled : (d : Lent) → threeLengths (cellsOf s) d ≡ true → Celled 18 (cellsOf s) (bare d)
   celled d l = let z = head-sized s d l in record { flags = z .flags; parts = z .parts; masses = z .masses; fills = z .fills }
 
+  box-directed : (dirs : List ℕ) → dirs ≡ tab 19 (dirIn d3q19 axis) → Directed 19 dirs
+  unfolding d3q19
+  box-directed dirs e = directed d3q19 (omega arith) axis dirs e (turns19 (axesOf axis))
+
   pub record Accepted : Type 0 where
-    pub turnable : Turnable s axis (bare a) (bare (b .set))
+    pub axis-good : axis ≤ 2
+    pub turnable : (dirs : List ℕ) → dirs ≡ tab 19 (dirIn d3q19 axis) → Turnable s 18 dirs (bare a) (bare (b .set))
+    pub second-flags : length (b .set .flags) ≡ cellsOf s
     pub first-carry : length (a .carry) ≡ 3
     pub second-carry : length (b .set .carry) ≡ 3
     pub room : Room (cellsOf s) (b .index)
@@ -89,7 +100,15 @@ module _ (s : Sides) (axis : ℕ) (a : Lent) (b : Held) where
       let y = passed lengths 2 0 _ (x .1) in
       let z = passed (leb axis 2) 3 0 _ (y .1) in
       record {
-        turnable = record { sides = x .0; axis-good = leb-true axis 2 (z .0); first = celled a (first-three (x .0) (y .0)); second = celled (b .set) (second-three (x .0) (y .0)) };
+        axis-good = leb-true axis 2 (z .0);
+        turnable = λ dirs t. record {
+          few = few-cells s (x .0);
+          narrow = omega arith;
+          directed = box-directed dirs t;
+          first = celled a (first-three (x .0) (y .0));
+          second = celled (b .set) (second-three (x .0) (y .0));
+        };
+        second-flags = celled (b .set) (second-three (x .0) (y .0)) .flags;
         first-carry = carry-three s a (first-three (x .0) (y .0));
         second-carry = carry-three s (b .set) (second-three (x .0) (y .0));
         room = second-room (x .0) (y .0);
@@ -106,10 +125,16 @@ module _ (s : Sides) (axis : ℕ) (a : Lent) (b : Held) where
   unfolding turned turnedSet mirroredSet mirrored lentOf stateOf
   totals-aside = refl
 
-  pub done : mirrorAnswer s axis a b ≡ Done → {d : Lent} {carry : List ℤ} {x : Index} → d ≡ turned s axis (bare a) → carry ≡ a .carry → length (d .flags) ≡ cellsOf s
+  -- by the table of directions
+  tabled : (dirs : List ℕ) → dirs ≡ tab 19 (dirIn d3q19 axis) → turnedSet (tableMirror s axis dirs) 18 (cellsOf s) (bare a) ≡ turned s axis (bare a)
+  unfolding turned mirrorOf d3q19
+  tabled dirs e = by-table d3q19 (omega arith) axis dirs e s (cellsOf s) (bare a)
+
+  pub done : mirrorAnswer s axis a b ≡ Done → {dirs : List ℕ} {d : Lent} {carry : List ℤ} {x : Index} → dirs ≡ tab 19 (dirIn d3q19 axis)
+      → d ≡ turnedSet (tableMirror s axis dirs) 18 (cellsOf s) (bare a) → carry ≡ a .carry → length (d .flags) ≡ cellsOf s
       → x ≡ indexOf (length (d .flags)) (d .flags) → Mirrored s axis a b Done (held (lent (d .flags) (d .parts) (d .masses) (d .fills) carry) x)
   unfolding mirrorSecond indexed
-  done e {d} {carry} {x} t k l i = record {
+  done e {dirs} {d} {carry} {x} r t k l i = record {
     answer-is = sym e;
     second-is =
         ap₂ held made (i ∙ ap₂ indexOf l (ap (λ (y : Lent). y .flags) made))
@@ -117,4 +142,4 @@ module _ (s : Sides) (axis : ℕ) (a : Lent) (b : Held) where
   }
     where
       made : lent (d .flags) (d .parts) (d .masses) (d .fills) carry ≡ turned s axis a
-      made = ap₂ (λ (y : Lent) (z : List ℤ). lent (y .flags) (y .parts) (y .masses) (y .fills) z) t k ∙ totals-aside
+      made = ap₂ (λ (y : Lent) (z : List ℤ). lent (y .flags) (y .parts) (y .masses) (y .fills) z) (t ∙ tabled dirs r) k ∙ totals-aside

@@ -18,7 +18,8 @@ use Rattle.grid.specs.declared.Answer.the-variants.{Done}
 use Rattle.grid.specs.Grid.{cellsOf, sidesGood, gridOf, box}
 use Rattle.grid.specs.State.{Lent, lent, State, stateOf, lentOf}
 use Rattle.grid.specs.Between.{Sized}
-use Rattle.grid.specs.Outcome.{orRefuse, goodAnswer, lengthsGood, sceneOf, stepAnswer, stepSecond}
+use Rattle.grid.specs.Outcome.{orRefuse, goodAnswer, lengthsGood, sceneOf, stepAnswer, stepSecond, open-outcome}
+use Rattle.grid.specs.Ground.{boxGround}
 use Rattle.grid.proofs.Box.{grid-laid}
 use Rattle.grid.proofs.Accepted.{passed, sound}
 use Rattle.pumps.specs.Three.{numberIn, headOf, totalsGood, threeLengths, threeGood, threeAnswer}
@@ -42,7 +43,7 @@ Claim = (s : Sides) (axis : ℕ) (a : Lent) (b : Held) → mirrorAnswer s axis a
 abbrev pub StepClaim : Type 0
 StepClaim = (s : Sides) (axis : ℕ) (a : Lent) (b : Held) → mirrorAnswer s axis a b ≡ Done
     → (g : Settings) (room : Lent) (marks : List ℕ) → stepAnswer s g (headOf a) room marks ≡ Done → Calm (sceneOf s g (headOf a))
-    → (second : Lent) (marks′ : List ℕ) → Room s second marks′ → StepsAlike s axis g a b (stepSecond s g (headOf a) room marks) second marks′
+    → (second : Lent) (marks′ : List ℕ) → Room (boxGround s) second marks′ → StepsAlike s axis g a b (stepSecond s g (headOf a) room marks) second marks′
 
 -- a set with the cells of one and the totals of another
 abbrev joined : Lent → List ℤ → Lent
@@ -162,6 +163,7 @@ keeps s axis a b e =
     }
 
 pub steps-alike : StepClaim
+unfolding open-outcome reflectSet
 steps-alike s axis a b e g room marks accepted-step calm second marks′ fits =
     let m = step-mirrors s (axesOf axis) g (headOf a) room marks accepted-step calm second marks′ fits in
     let h = keeps s axis a b e .reflects in

@@ -1,14 +1,14 @@
 // Where a reflection takes cells and directions.
 use grid::Sides;
 ghost use mathlib.Core.Path.{_≡_};
-ghost use mathlib.Core.Bool.{true};
-ghost use Prim.Native.Nat.{ℕ, _+_, _*_, _≤_, _<_};
+ghost use Prim.Native.Nat.{ℕ, _+_, _≤_, _<_};
 ghost use lib.IntN.{pos};
 ghost use lib.ListN.{length, getD};
 ghost use Rattle.whole.specs.Fold.{tab};
-ghost use Rattle.grid.specs.Grid.{sidesGood, cellsOf};
+ghost use Rattle.lattice.specs.Lattice.{d3q19};
+ghost use Rattle.grid.specs.Grid.{cellsOf};
 ghost use Rattle.mirror.specs.Mirror.{flip};
-ghost use Rattle.mirroring.specs.Between.{cellIn, dirIn, Directed};
+ghost use Rattle.mirroring.specs.Between.{cellIn, dirIn, Directed, Fetched};
 
 // x of n places, or n - 1 - x.
 fn flipped(turn: bool, n: usize, x: usize) -> usize
@@ -21,9 +21,9 @@ fn flipped(turn: bool, n: usize, x: usize) -> usize
     x
 }
 
-// The cell that takes cell c's place in an axis: 0 x, 1 y, 2 z.
+// The cell that takes cell c's place in an axis, 0 x, 1 y, 2 z, in a box of any sides; a flume is one of one layer in y.
 pub(crate) fn cell_in(c: usize, axis: usize, s: Sides) -> usize
-    requires { ⌜ (sidesGood s ≡ true) × (c < cellsOf s) ⌝ }
+    requires { ⌜ (cellsOf s ≤ 262144) × (c < cellsOf s) ⌝ }
     ensures { λ r. ⌜ (r ≡ cellIn s axis c) × (r < cellsOf s) ⌝ }
 {
     let row = c / s.nx;
@@ -33,10 +33,10 @@ pub(crate) fn cell_in(c: usize, axis: usize, s: Sides) -> usize
     x + s.nx * (y + s.ny * z)
 }
 
-// The reflected directions, 0 to 18.
+// The reflected directions of the box, 0 to 18.
 pub(crate) fn directions(axis: usize) -> [usize; 19]
     requires { ⌜ axis ≤ 2 ⌝ }
-    ensures { λ r. ⌜ r ≡ tab 19 (dirIn axis) ⌝ }
+    ensures { λ r. ⌜ r ≡ tab 19 (dirIn d3q19 axis) ⌝ }
 {
     if axis == 0 {
         return [
@@ -107,16 +107,21 @@ pub(crate) fn directions(axis: usize) -> [usize; 19]
     ]
 }
 
-// The parts of cell m, each in the place that its direction has when reflected.
-pub(crate) fn parts_in(parts: &[i32], m: usize, dirs: &[usize; 19]) -> [i32; 19]
-    requires { ⌜ (19 * m + 19 ≤ length (now parts)) × Directed (now dirs) ⌝ }
-    ensures { λ r. ⌜ r ≡ tab 19 (λ (k : ℕ). getD (now (parts .entry)) (19 * m + getD (now (dirs .entry)) k 0) (pos 0)) ⌝ }
+// So many parts from place `from` on, each in the place that its direction has when reflected, written from place `to` on.
+pub(crate) fn fetch(
+    parts: &[i32],
+    from: usize,
+    out: &mut [i32],
+    to: usize,
+    width: usize,
+    dirs: &[usize; 19],
+)
+    requires { ⌜ (from + width ≤ length (now parts)) × (to + width ≤ length (now out)) × (width ≤ 19) × Directed width (now dirs) ⌝ }
+    ensures { λ _. ⌜ Fetched width to (λ (k : ℕ). getD (now (parts .entry)) (from + getD (now (dirs .entry)) k 0) (pos 0)) (now (out .entry)) (now (out .exit)) ⌝ }
 {
-    let mut v = [0i32; 19];
     let mut k = 0;
-    while k < 19 {
-        v[k] = parts[19 * m + dirs[k]];
+    while k < width {
+        out[to + k] = parts[from + dirs[k]];
         k += 1;
     }
-    v
 }

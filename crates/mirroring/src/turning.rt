@@ -3,7 +3,6 @@ use crate::entry;
 use crate::reflection;
 use grid::Answer;
 use grid::Sides;
-use grid::cells;
 use grid::copying;
 use index::keeping;
 ghost use mathlib.Core.Path.{_≡_};
@@ -12,12 +11,14 @@ ghost use lib.ListN.{length};
 ghost use Rattle.grid.specs.State.{Lent, lent};
 ghost use Rattle.index.specs.Index.{index};
 ghost use Rattle.index.specs.Held.{held};
-ghost use Rattle.mirroring.specs.Turned.{turned};
+ghost use Rattle.grid.specs.Grid.{cellsOf};
+ghost use Rattle.mirroring.specs.Turned.{turnedSet};
 ghost use Rattle.mirroring.specs.Promise.{Mirrored};
-ghost use Rattle.mirroring.specs.Between.{Turnable};
+ghost use Rattle.mirroring.specs.Between.{Turnable, tableMirror};
 
-// Every cell of the second set from the cell of the first that is reflected to it; totals aside.
-fn turn(
+// Every cell of the second set from the cell of the first that is reflected to it; totals aside. Of the box and of the flume: a cell has q + 1 parts, and
+// the table has where each direction is reflected.
+pub fn turn(
     flags: &[u8],
     parts: &[i32],
     masses: &[i32],
@@ -26,21 +27,22 @@ fn turn(
     parts2: &mut [i32],
     masses2: &mut [i32],
     fills2: &mut [u32],
+    dirs: &[usize; 19],
+    q: usize,
     axis: usize,
     s: Sides,
 )
-    requires { ⌜ Turnable s axis (lent (now flags) (now parts) (now masses) (now fills) []) (lent (now flags2) (now parts2) (now masses2) (now fills2) []) ⌝ }
-    ensures { λ _. ⌜ _≡_ {A = Lent} (lent (now (flags2 .exit)) (now (parts2 .exit)) (now (masses2 .exit)) (now (fills2 .exit)) []) (turned s axis (lent (now (flags .entry)) (now (parts .entry)) (now (masses .entry)) (now (fills .entry)) [])) ⌝ }
+    requires { ⌜ Turnable s q (now dirs) (lent (now flags) (now parts) (now masses) (now fills) []) (lent (now flags2) (now parts2) (now masses2) (now fills2) []) ⌝ }
+    ensures { λ _. ⌜ _≡_ {A = Lent} (lent (now (flags2 .exit)) (now (parts2 .exit)) (now (masses2 .exit)) (now (fills2 .exit)) []) (turnedSet (tableMirror s axis (now (dirs .entry))) q (cellsOf s) (lent (now (flags .entry)) (now (parts .entry)) (now (masses .entry)) (now (fills .entry)) [])) ⌝ }
 {
-    let dirs = reflection::directions(axis);
+    let width = q + 1;
     let mut c = 0;
     while c < flags.len() {
         let m = reflection::cell_in(c, axis, s);
         flags2[c] = flags[m];
         masses2[c] = masses[m];
         fills2[c] = fills[m];
-        let v = reflection::parts_in(parts, m, &dirs);
-        cells::paste(parts2, 19 * c, v);
+        reflection::fetch(parts, width * m, parts2, width * c, width, dirs);
         c += 1;
     }
 }
@@ -83,6 +85,7 @@ pub fn mirrored(
     if let Answer::Refused(no, at) = a {
         return Answer::Refused(no, at);
     }
+    let dirs = reflection::directions(axis);
     turn(
         flags,
         parts,
@@ -92,6 +95,8 @@ pub fn mirrored(
         parts2,
         masses2,
         fills2,
+        &dirs,
+        18,
         axis,
         s,
     );

@@ -3,7 +3,7 @@
 // Why every `unsafe` below is sound: as in the box's `lent`. Each pointer is that of a Rust slice, with its length beside it, or of a number of
 // the calling function; a `&mut` overlaps no other borrow.
 
-use super::{raw, Point, Settings, Sides, Site};
+use super::{raw, Axis, Point, Settings, Sides, Site};
 use crate::lent::answered;
 use crate::{Refusal, State, StateMut, Stopped};
 
@@ -80,6 +80,43 @@ pub fn step(
             settings.p,
             settings.gx,
             settings.gz,
+            &mut place,
+        )
+    };
+    answered(number, place)
+}
+
+/// The first state reflected in an axis into the second: cell x goes to n − 1 − x, parts with their directions, and all else of a cell with it; the
+/// carry stays. Gravity is no part of a state: [`Settings::mirrored`] changes its sign.
+///
+/// Refusals 1, 2, 4, 5 and 6 write nothing; of the second state the lengths alone are tested.
+pub fn mirror(sides: Sides, first: State, second: StateMut, axis: Axis) -> Result<(), Refusal> {
+    let mut place = 0;
+    let number = unsafe {
+        raw::skw_flume_mirror(
+            first.flags.as_ptr(),
+            first.flags.len(),
+            first.parts.as_ptr(),
+            first.parts.len(),
+            first.masses.as_ptr(),
+            first.masses.len(),
+            first.fills.as_ptr(),
+            first.fills.len(),
+            first.carry.as_ptr(),
+            first.carry.len(),
+            second.flags.as_mut_ptr(),
+            second.flags.len(),
+            second.parts.as_mut_ptr(),
+            second.parts.len(),
+            second.masses.as_mut_ptr(),
+            second.masses.len(),
+            second.fills.as_mut_ptr(),
+            second.fills.len(),
+            second.carry.as_mut_ptr(),
+            second.carry.len(),
+            sides.nx,
+            sides.nz,
+            axis as usize,
             &mut place,
         )
     };

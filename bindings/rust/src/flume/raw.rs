@@ -48,6 +48,33 @@ extern "C" {
         place: *mut usize,
     ) -> u8;
 
+    pub fn skw_flume_mirror(
+        flags: *const u8,
+        flags_len: usize,
+        parts: *const i32,
+        parts_len: usize,
+        masses: *const i32,
+        masses_len: usize,
+        fills: *const u32,
+        fills_len: usize,
+        carry: *const i64,
+        carry_len: usize,
+        flags2: *mut u8,
+        flags2_len: usize,
+        parts2: *mut i32,
+        parts2_len: usize,
+        masses2: *mut i32,
+        masses2_len: usize,
+        fills2: *mut u32,
+        fills2_len: usize,
+        carry2: *mut i64,
+        carry2_len: usize,
+        nx: usize,
+        nz: usize,
+        axis: usize,
+        place: *mut usize,
+    ) -> u8;
+
     pub fn skw_flume_run(
         steps: usize,
         flags: *mut u8,

@@ -10,6 +10,24 @@ pub struct Settings {
     pub gz: i64,
 }
 
+/// An axis of the flume, by the library's number, which is the box's.
+#[derive(Clone, Copy, Debug, PartialEq, Eq, Hash)]
+pub enum Axis {
+    X = 0,
+    Z = 2,
+}
+
+impl Settings {
+    /// With the sign of gravity's component along this axis changed, as belongs to a flume that is mirrored in it.
+    pub fn mirrored(self, axis: Axis) -> Settings {
+        // The widest number of its type, which no call accepts, has no opposite and stays.
+        match axis {
+            Axis::X => Settings { gx: self.gx.saturating_neg(), ..self },
+            Axis::Z => Settings { gz: self.gz.saturating_neg(), ..self },
+        }
+    }
+}
+
 /// A survey point in whole millimetres, each coordinate within ±10,000,000,000.
 #[derive(Clone, Copy, Debug, Default, PartialEq, Eq, Hash)]
 pub struct Point {

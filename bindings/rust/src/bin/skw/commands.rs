@@ -61,6 +61,7 @@ pub const COMMANDS: &[Command] = &[
     flume::water::COMMAND,
     flume::step::COMMAND,
     flume::run::COMMAND,
+    flume::mirror::COMMAND,
     flume::draw::COMMAND,
 ];
 

@@ -62,16 +62,19 @@ returns c = let v = c .before .before .before .before .before .before .before .b
 enum-told : tie.Need-enum-told
 enum-told c = search needs
 
+directions-requires : tie.Need-directions-requires
+directions-requires c κs = ready c .axis-good
+
 turn-requires : tie.Need-turn-requires
-turn-requires c κs = ready (c .before .before .before .before) .turnable
+turn-requires c κs = ready (c .before .before .before .before .before .before) .turnable _ (c .before .before .before .before .before .directions .ensures)
 
 copy-i64-requires : tie.Need-copy-i64-requires
-copy-i64-requires c κs = let r = ready (c .before .before .before .before .before .before .before .before .before .before .before .before) in r .second-carry ∙ sym (r .first-carry)
+copy-i64-requires c κs = let r = ready (c .before .before .before .before .before .before .before .before .before .before .before .before .before .before) in r .second-carry ∙ sym (r .first-carry)
 
 make-requires : tie.Need-make-requires
 make-requires c κs =
-    let d = c .before .before .before .before .before .before .before .before .before .before .before .before .before .before .before .before .before in
-    subst (λ (m : ℕ). Room m (second (w d) .index)) (sym (c .before .before .before .before .before .before .before .before .before .before .before .flags2 .given ∙ ready d .turnable .second .flags)) (ready d .room)
+    let d = c .before .before .before .before .before .before .before .before .before .before .before .before .before .before .before .before .before .before .before in
+    subst (λ (m : ℕ). Room m (second (w d) .index)) (sym (c .before .before .before .before .before .before .before .before .before .before .before .flags2 .given ∙ ready d .second-flags)) (ready d .room)
 
 same-length-8 : tie.Need-same-length-8
 same-length-8 c = search needs
@@ -96,10 +99,10 @@ same-length-14 c = search needs
 
 returns-2 : tie.Need-returns-2
 returns-2 c =
-    let d = c .before .before .before .before .before .before .before .before .before .before .before .before .before .before .before .before .before .before .before .before .before .before in
+    let d = c .before .before .before .before .before .before .before .before .before .before .before .before .before .before .before .before .before .before .before .before .before .before .before .before in
     let v = w d in
-    done (v .args .s) (v .args .axis) (first v) (second v) (passed d) (c .before .before .before .before .before .before .before .before .before .before .before .before .before .before .before .before .before .turn .ensures) (c .before .before .before .before .before .before .before .before .before .copy-i64 .ensures)
-    (c .before .before .before .before .before .before .before .before .before .before .before .before .before .before .before .before .flags2 .given ∙ ready d .turnable .second .flags) (c .before .before .before .before .make .ensures)
+    done (v .args .s) (v .args .axis) (first v) (second v) (passed d) (c .before .before .before .before .before .before .before .before .before .before .before .before .before .before .before .before .before .before .before .before .before .before .before .directions .ensures) (c .before .before .before .before .before .before .before .before .before .before .before .before .before .before .before .before .before .turn .ensures) (c .before .before .before .before .before .before .before .before .before .copy-i64 .ensures)
+    (c .before .before .before .before .before .before .before .before .before .before .before .before .before .before .before .before .flags2 .given ∙ ready d .second-flags) (c .before .before .before .before .make .ensures)
 
 pub mirrored-spec : {M : Type 1} → statement M
 mirrored-spec =
@@ -116,6 +119,7 @@ mirrored-spec =
     same-length-7
     returns
     enum-told
+    directions-requires
     turn-requires
     copy-i64-requires
     make-requires

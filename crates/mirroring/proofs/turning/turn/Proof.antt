@@ -1,8 +1,10 @@
 -- `mirroring::turning::turn`: cell after cell; the cells passed are made, and in the end the second set is the reflected one, totals aside. Assumes nothing.
 use borrow.Author.Needs.{sfits-of, needs}
-use mathlib.Core.Path.{_≡_, refl, sym, ap, _∙_, subst}
+use mathlib.Core.Path.{_≡_, refl, sym, _∙_, subst}
 use mathlib.Core.List.{List, []}
-use Prim.Native.Nat.{ℕ, _+_, _*_, _-_, _≤_, _<_}
+use Prim.Native.Nat.{ℕ, suc, _+_, _*_, _-_, _≤_, _<_}
+use native.Mathlib.Nat.{mul-le-mul}
+use native.Mathlib.Numerals.{add-one}
 use native.Mathlib.Omega.{arith}
 use lib.IntN.{ℤ, pos}
 use lib.ListN.{length, getD}
@@ -10,24 +12,17 @@ use mir.Syntax.{w32}
 use mir.Facts.{toZ-ofZ}
 use Rattle.grid.specs.Grid.{cellsOf}
 use Rattle.grid.specs.State.{Lent, lent}
-use Rattle.index.proofs.Answers.{few-cells}
-use Rattle.mirroring.proofs.Reflected.{directed}
-use Rattle.mirroring.proofs.Made.{Made, made-none, parts-are, made-more, made-all}
+use Rattle.mirroring.specs.Between.{Celled, Directed}
+use Rattle.mirroring.proofs.Made.{Made, made-none, made-more, made-all, parts-inside}
 use Rattle.mirroring.proofs.turning.turn.Statement.{statement}
 use Rattle.mirroring.proofs.turning.turn.Tie as tie
-use Rattle.mirroring.proofs.turning.turn.Reads as reads
-use Rattle.mirroring.proofs.turning.turn.Lts as lts
-use Rattle.grid.proofs.cells.paste.Reads as paste-reads
-use Rattle.mirroring.proofs.reflection.cell_in.Reads as cell-in-reads
-use Rattle.mirroring.proofs.reflection.directions.Reads as directions-reads
-use Rattle.mirroring.proofs.reflection.parts_in.Reads as parts-in-reads
 
 abbrev Inv-loop : tie.InvT-loop
-Inv-loop flags parts masses fills flags2₀ parts2₀ masses2₀ fills2₀ axis s dirs c₀ flags2 parts2 masses2 fills2 c =
-    (c ≤ cellsOf s) × Made s axis (lent flags parts masses fills []) (cellsOf s) (lent flags2 parts2 masses2 fills2 []) c
+Inv-loop flags parts masses fills flags2₀ parts2₀ masses2₀ fills2₀ dirs q axis s width c₀ flags2 parts2 masses2 fills2 c =
+    (c ≤ cellsOf s) × Made s axis dirs q (lent flags parts masses fills []) (cellsOf s) (lent flags2 parts2 masses2 fills2 []) c
 
 abbrev μ-loop : tie.MeasureT-loop
-μ-loop flags parts masses fills flags2₀ parts2₀ masses2₀ fills2₀ axis s dirs c₀ flags2 parts2 masses2 fills2 c =
+μ-loop flags parts masses fills flags2₀ parts2₀ masses2₀ fills2₀ dirs q axis s width c₀ flags2 parts2 masses2 fills2 c =
     length flags - c
 
 abbrev first : tie.Start Inv-loop μ-loop → Lent
@@ -36,19 +31,26 @@ first w = lent (w .args .flags .now) (w .args .parts .now) (w .args .masses .now
 abbrev second : tie.At-loop Inv-loop μ-loop → Lent
 second l = lent (l .loop .flags2) (l .loop .parts2) (l .loop .masses2) (l .loop .fills2) []
 
+-- the parts of cell j have room among those of n cells, and where they begin is a small number
+room : (q n j : ℕ) (a : List ℤ) → length a ≡ suc q * n → j < n → (q + 1) * j + (q + 1) ≤ length a
+room q n j a e h = subst (λ (w : ℕ). w * j + w ≤ length a) (sym (add-one q)) (subst (λ (m : ℕ). suc q * j + suc q ≤ m) (sym e) (parts-inside (suc q) j n h))
+
+small : (q j : ℕ) → q ≤ 18 → j < 262144 → (q + 1) * j ≤ 19 * 262144
+small q j h k = let x : q + 1 ≤ 19 = omega arith in let y : j ≤ 262144 = omega arith in mul-le-mul x y
+
 -- in the loop
 module _ (l : tie.In-loop Inv-loop μ-loop) where
   abbrev w : tie.Start Inv-loop μ-loop
-  w = l .before .before .before .before .before .before .before
+  w = l .before .before .before .before .before .before
 
   abbrev n : ℕ
   n = cellsOf (w .args .s)
 
-  few : n ≤ 262144
-  few = few-cells (w .args .s) (w .pre .sides)
-
   here : l .before .loop .c < n
   here = omega (arith, w .pre .first .flags, l .loop-test .taken)
+
+  few-here : l .before .loop .c < 262144
+  few-here = omega (arith, here, w .pre .few)
 
 -- and the reflected cell is known
 module _ (l : tie.After-cell-in Inv-loop μ-loop) where
@@ -59,16 +61,16 @@ module _ (l : tie.After-cell-in Inv-loop μ-loop) where
   there = l .cell-in .ensures .1
 
   few-there : l .cell-in .result < 262144
-  few-there = omega (arith, there, few (l .before))
+  few-there = omega (arith, there, v .pre .few)
 
-directions-requires : tie.Need-directions-requires Inv-loop μ-loop
-directions-requires c κs = c .before .before .before .before .pre .axis-good
+add-width : tie.Need-add-width Inv-loop μ-loop
+add-width c = record { fits = omega (arith, c .before .before .before .before .pre .narrow) }
 
 loop-holds : tie.Need-loop-holds Inv-loop μ-loop
-loop-holds c = let v = c .before .before .before .before .before in (omega arith, made-none (v .args .s) (v .args .axis) (first v) _ (v .pre .second))
+loop-holds c = let v = c .before .before .before .before in (omega arith, made-none (v .args .s) (v .args .axis) (v .args .dirs .now) (v .args .q) (first v) _ (v .pre .second))
 
 cell-in-requires : tie.Need-cell-in-requires Inv-loop μ-loop
-cell-in-requires c κs = (w c .pre .sides, here c)
+cell-in-requires c κs = (w c .pre .few, here c)
 
 shared-slice-read-flags2 : tie.Need-shared-slice-read-flags2 Inv-loop μ-loop
 shared-slice-read-flags2 c = omega (arith, there (c .before), v (c .before) .pre .first .flags)
@@ -83,7 +85,7 @@ shared-slice-copy-out-masses2 : tie.Need-shared-slice-copy-out-masses2 Inv-loop 
 shared-slice-copy-out-masses2 c = omega (arith, there (c .before), v (c .before) .pre .first .masses)
 
 mul-t23 : tie.Need-mul-t23 Inv-loop μ-loop
-mul-t23 c = record { fits = omega (arith, here (c .before .before .before), few (c .before .before .before)) }
+mul-t23 c = record { fits = omega (arith, few-here (c .before .before .before)) }
 
 slice-set-from-masses2 : tie.Need-slice-set-from-masses2 Inv-loop μ-loop
 slice-set-from-masses2 c = omega (arith, here (c .before .before .before), c .before .before .before .before .loop .inv .1 .sized .masses)
@@ -95,56 +97,63 @@ shared-slice-read-fills2 : tie.Need-shared-slice-read-fills2 Inv-loop μ-loop
 shared-slice-read-fills2 c = omega (arith, there (c .before .before .before), v (c .before .before .before) .pre .first .fills)
 
 mul-fills2-2 : tie.Need-mul-fills2-2 Inv-loop μ-loop
-mul-fills2-2 c = record { fits = omega (arith, here (c .before .before .before .before), few (c .before .before .before .before)) }
+mul-fills2-2 c = record { fits = omega (arith, few-here (c .before .before .before .before)) }
 
 slice-write-fills2 : tie.Need-slice-write-fills2 Inv-loop μ-loop
 slice-write-fills2 c = omega (arith, here (c .before .before .before .before), c .before .before .before .before .before .loop .inv .1 .sized .fills)
 
-parts-in-requires : tie.Need-parts-in-requires Inv-loop μ-loop
-parts-in-requires c κs = let d = c .before .before .before .before in (omega (arith, there d, v d .pre .first .parts), directed (v d .args .s) (v d .args .axis) _ (d .before .before .before .directions .ensures))
+mul-fetch : tie.Need-mul-fetch Inv-loop μ-loop
+mul-fetch c = let d = c .before .before .before in record { fits = omega (arith, small (v d .args .q) (d .cell-in .result) (v d .pre .narrow) (few-there d)) }
 
-mul-paste : tie.Need-mul-paste Inv-loop μ-loop
-mul-paste c = record { fits = omega (arith, here (c .before .before .before .before .before .before .before), few (c .before .before .before .before .before .before .before)) }
+mul-fetch-2 : tie.Need-mul-fetch-2 Inv-loop μ-loop
+mul-fetch-2 c = let i = c .before .before .before .before .before in record { fits = omega (arith, small (w i .args .q) (i .before .loop .c) (w i .pre .narrow) (few-here i)) }
 
-paste-requires : tie.Need-paste-requires Inv-loop μ-loop
-paste-requires c κs = omega (arith, here (c .before .before .before .before .before .before .before), c .before .before .before .before .before .before .before .before .loop .inv .1 .sized .parts)
+fetch-requires : tie.Need-fetch-requires Inv-loop μ-loop
+fetch-requires c κs =
+    let d = c .before .before .before .before in
+    let i = d .before in
+    let t = v d in (
+      room (t .args .q) (n i) (d .cell-in .result) (t .args .parts .now) (t .pre .first .parts) (there d),
+      room (t .args .q) (n i) (i .before .loop .c) (i .before .loop .parts2) (i .before .loop .inv .1 .sized .parts) (here i),
+      omega (arith, t .pre .narrow),
+      subst (λ (k : ℕ). Directed k (t .args .dirs .now)) (sym (add-one (t .args .q))) (t .pre .directed),
+    )
 
 add-c : tie.Need-add-c Inv-loop μ-loop
 add-c c = search needs
 
 loop-less : tie.Need-loop-less Inv-loop μ-loop
-loop-less c = omega (arith, c .before .before .before .before .before .before .before .before .before .loop-test .taken)
+loop-less c = omega (arith, c .before .before .before .before .before .before .before .loop-test .taken)
 
 loop-again : tie.Need-loop-again Inv-loop μ-loop
 loop-again c =
-    let i = c .before .before .before .before .before .before .before .before .before in
+    let i = c .before .before .before .before .before .before .before in
     let l = i .before in
-    let d = c .before .before .before .before .before .before .before .before .cell-in in
+    let d = c .before .before .before .before .before .before .cell-in in
     let u = w i in
-    let parts = c .before .before .before .parts-in in
     let h = here i in (
       omega (arith, h),
-      made-more (u .args .s) (u .args .axis) (first u) (u .pre .first) (second l) (l .loop .c) (d .result) _ _ _ (parts .result) _ h (d .ensures .0) refl (toZ-ofZ (sfits-of {w = w32} (c .before .before .before .before .before .before .masses2 .given))) refl
-          (parts-are (u .args .s) (u .args .axis) (first u) _ (l .loop .c) (d .result) (l .before .directions .ensures) (d .ensures .0) (parts .ensures)) (c .before .paste .ensures) (l .loop .inv .1),
+      made-more (u .args .s) (u .args .axis) (u .args .dirs .now) (u .args .q) (first u) (u .pre .first) (second l) (u .args .q + 1) (l .loop .c) (d .result) _ _ _ _ (add-one (u .args .q)) h (d .ensures .0) refl
+          (toZ-ofZ (sfits-of {w = w32} (c .before .before .before .before .masses2 .given))) refl (c .before .fetch .ensures) (l .loop .inv .1),
     )
 
 same-length : tie.Need-same-length Inv-loop μ-loop
-same-length c = c .before .loop .inv .1 .sized .flags ∙ sym (c .before .before .before .before .before .before .before .pre .second .flags)
+same-length c = c .before .loop .inv .1 .sized .flags ∙ sym (c .before .before .before .before .before .before .pre .second .flags)
 
 same-length-2 : tie.Need-same-length-2 Inv-loop μ-loop
-same-length-2 c = c .before .loop .inv .1 .sized .parts ∙ sym (c .before .before .before .before .before .before .before .pre .second .parts)
+same-length-2 c = c .before .loop .inv .1 .sized .parts ∙ sym (c .before .before .before .before .before .before .pre .second .parts)
 
 same-length-3 : tie.Need-same-length-3 Inv-loop μ-loop
-same-length-3 c = c .before .loop .inv .1 .sized .masses ∙ sym (c .before .before .before .before .before .before .before .pre .second .masses)
+same-length-3 c = c .before .loop .inv .1 .sized .masses ∙ sym (c .before .before .before .before .before .before .pre .second .masses)
 
 same-length-4 : tie.Need-same-length-4 Inv-loop μ-loop
-same-length-4 c = c .before .loop .inv .1 .sized .fills ∙ sym (c .before .before .before .before .before .before .before .pre .second .fills)
+same-length-4 c = c .before .loop .inv .1 .sized .fills ∙ sym (c .before .before .before .before .before .before .pre .second .fills)
 
 returns : tie.Need-returns Inv-loop μ-loop
 returns c =
-    let v = c .before .before .before .before .before .before .before in
+    let v = c .before .before .before .before .before .before in
     let l = c .before .loop in
-    made-all (v .args .s) (v .args .axis) (first v) (second (c .before)) (l .c) (omega (arith, l .inv .0, v .pre .first .flags, c .loop-test .left)) (l .inv .1)
+    made-all (v .args .s) (v .args .axis) (v .args .dirs .now) (v .args .q) (first v) (second (c .before)) (l .c) (omega (arith, l .inv .0, v .pre .first .flags, c .loop-test .left)) (l .inv .1)
 
 pub turn-spec : {M : Type 1} → statement M
 turn-spec =
@@ -152,7 +161,7 @@ turn-spec =
     (tie.spec
     Inv-loop
     μ-loop
-    directions-requires
+    add-width
     loop-holds
     cell-in-requires
     shared-slice-read-flags2
@@ -165,9 +174,9 @@ turn-spec =
     shared-slice-read-fills2
     mul-fills2-2
     slice-write-fills2
-    parts-in-requires
-    mul-paste
-    paste-requires
+    mul-fetch
+    mul-fetch-2
+    fetch-requires
     add-c
     loop-less
     loop-again

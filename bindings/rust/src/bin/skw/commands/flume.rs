@@ -2,6 +2,7 @@
 
 pub mod check;
 pub mod draw;
+pub mod mirror;
 pub mod run;
 pub mod step;
 pub mod water;

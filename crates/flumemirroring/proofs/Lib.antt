@@ -1,0 +1,4 @@
+pub mod Reflected
+pub mod Answers
+pub mod Kept
+pub mod Unique

@@ -1,0 +1,4 @@
+pub mod Turned
+pub mod Outcome
+pub mod Promise
+pub mod Demands
