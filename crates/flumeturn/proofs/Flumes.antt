@@ -1,31 +1,25 @@
 -- The flume is a field: its nine directions among the nineteen places, its offsets, its stored parts at their places. A set that is ready is a sound one, and
 -- the field's scene is the flume's own, spread. So the laws of a field serve the flume. Assumes nothing.
 use mathlib.Core.Path.{_≡_, refl}
-use mathlib.Core.Bool.{Bool, true, false}
-use Prim.Native.Nat.{ℕ}
-use lib.IntN.{ℤ, pos}
+use lib.IntN.{pos}
 use lib.ListN.{getD}
 use Rattle.whole.specs.Fold.{tab}
-use Rattle.lattice.specs.Lattice.{V3, d2q9}
-use Rattle.lattice.specs.declared.Settings.{Settings}
 use Rattle.grid.specs.Grid.{flume}
-use Rattle.grid.specs.State.{Lent, State, stateOf}
-use Rattle.grid.specs.Mode.{ownAt, relaxIn, before, pullOf, sceneBy}
-use Rattle.grid.specs.Ground.{sceneOn}
+use Rattle.grid.specs.State.{Lent, stateOf}
 use Rattle.grid.specs.Between.{uncarried}
 use Rattle.flume.specs.declared.FlumeSides.{FlumeSides}
 use Rattle.flume.specs.declared.FlumeSettings.{FlumeSettings}
-use Rattle.flume.specs.Flume.{flumeCells, flumeGrid, flumeGround, levelSettings}
+use Rattle.flume.specs.Flume.{flumeCells, flumeGrid, levelSettings}
 use Rattle.flume.specs.Offsets.{flumeLow, flumeOffset}
 use Rattle.flume.specs.Outcome.{flumeScene}
-use Rattle.flume.specs.Spread.{spreadLattice, spreadGrid, spreadState, spreadScene}
+use Rattle.flume.specs.Spread.{spreadLattice, spreadGrid, spreadScene}
 use Rattle.nine.specs.Cells.{partOf9}
-use Rattle.nineturbulence.proofs.Same.{own-in-step}
 use Rattle.flumegrid.specs.Ready.{FlumeReady, FlumePoised}
 use Rattle.flumegrid.proofs.GoodSides.{few}
 use Rattle.flumegrid.proofs.Offsets.{near-self, place-is, near-low, reaching, inner-of, near-back}
 use Rattle.flumegrid.proofs.Poise.{poised, ready-carry, body, mass, fill, flagged, walled, closed}
 use Rattle.flumeflow.proofs.Nines.{light9}
+use Rattle.flumeflow.proofs.Spread.{scene-spread}
 use Rattle.turn.proofs.Field.{Field, sceneIn, Standing, Sound}
 
 abbrev pub flumeField : FlumeSides → FlumeSettings → Lent → Field
@@ -41,32 +35,6 @@ flumeField s g a = record {
   masses = a .masses;
   fills = a .fills;
   carry = getD (a .carry) 0 (pos 0);
-}
-
--- a cell's relaxation is the same on the flume's own lattice and among the nineteen places, in either mode
-module _ (s : FlumeSides) (a : Lent) (g : V3) (p : ℤ) where
-  abbrev own : State
-  own = stateOf 8 a
-
-  abbrev wide : State
-  wide = spreadState own
-
-  relax-spread : (mode : Bool) (c : ℕ)
-      → relaxIn mode (before spreadLattice (spreadGrid (flumeGrid s)) (wide .flag) (wide .part) (wide .fill) g) p c
-      ≡ relaxIn mode (before d2q9 (flumeGrid s) (own .flag) (own .part) (own .fill) g) p c
-  unfolding ownAt
-  relax-spread false c = refl
-  relax-spread true c = own-in-step (before d2q9 (flumeGrid s) (own .flag) (own .part) (own .fill) g) p c
-
--- the step's scene among the nineteen places is the flume's own, spread
-pub scene-spread : (s : FlumeSides) (g : Settings) (a : Lent)
-    → sceneBy spreadLattice (spreadGrid (flumeGrid s)) (spreadState (stateOf 8 a)) g ≡ spreadScene (sceneOn (flumeGround s) g a)
-scene-spread s g a i = record {
-  lat = spreadLattice;
-  grid = spreadGrid (flumeGrid s);
-  old = spreadState (stateOf 8 a);
-  g = pullOf g;
-  relax = λ c. relax-spread s a (pullOf g) (g .p) (g .turbulent) c i;
 }
 
 pub flume-scene : (s : FlumeSides) (g : FlumeSettings) (a : Lent) → sceneIn (flumeField s g a) ≡ spreadScene (flumeScene s g a)
