@@ -36,7 +36,19 @@ pub fn flowing(
     let mut still = true;
     let mut c = 0;
     while c < flags.len() {
-        let o = moving::put_parts(flags, parts, fill, parts2, marks[c], &off, &from, low, c, g, keep);
+        let o = moving::put_parts(
+            flags,
+            parts,
+            fill,
+            parts2,
+            marks[c],
+            &off,
+            &from,
+            low,
+            c,
+            g,
+            keep,
+        );
         if !o.ok {
             return Passed::Stopped(c);
         }

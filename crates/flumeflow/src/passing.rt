@@ -32,7 +32,19 @@ pub fn flowing9(
     let mut still = true;
     let mut c = 0;
     while c < flags.len() {
-        let o = moving::put_parts9(flags, parts, fill, parts2, marks[c], &off, &from, low, c, g, keep);
+        let o = moving::put_parts9(
+            flags,
+            parts,
+            fill,
+            parts2,
+            marks[c],
+            &off,
+            &from,
+            low,
+            c,
+            g,
+            keep,
+        );
         if !o.ok {
             return Passed::Stopped(c);
         }
