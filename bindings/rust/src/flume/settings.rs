@@ -1,6 +1,8 @@
 // Settings of a flume, and where it lies in the survey.
 
-/// What a step is made with.
+use crate::{InMode, Mode};
+
+/// What a step is made with, beside its mode.
 #[derive(Clone, Copy, Debug, PartialEq, Eq, Hash)]
 pub struct Settings {
     /// The relaxation in 1,024ths, 1 to 2037: the lower, the more viscous the water.
@@ -8,6 +10,13 @@ pub struct Settings {
     /// Gravity along x and up, in cells per step and step, in 1,048,576ths; gx² + gz² is at most 1,099,511.
     pub gx: i64,
     pub gz: i64,
+}
+
+impl Settings {
+    /// For a step or a run in this mode.
+    pub const fn in_mode(self, mode: Mode) -> InMode<Settings> {
+        InMode { settings: self, mode }
+    }
 }
 
 /// A survey point in whole millimetres, each coordinate within ±10,000,000,000.
