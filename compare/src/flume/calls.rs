@@ -66,6 +66,7 @@ pub fn step(case: &mut Case) -> Reply {
             case.p,
             gx,
             gz,
+            case.turbulent,
             &mut place,
         )
     };
@@ -108,6 +109,7 @@ pub fn run(case: &mut Case) -> Reply {
             case.p,
             gx,
             gz,
+            case.turbulent,
             &mut number,
             &mut place,
         )
