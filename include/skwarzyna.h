@@ -34,9 +34,9 @@
  *
  * THE MODE of a step or a run, turbulent: false is the plain mode, in which every cell is relaxed by p. true is the turbulent one, in which
  * each cell is relaxed by a p of its own, that its stress takes off the plain one: at most p, at least 1, and p itself where the parts are at
- * their equilibrium. Fast water that the plain mode cannot follow at a high p is damped where it is sheared, and there alone. Tests and
- * refusals are the same in both, 3 is about the plain p, and the water is kept to the unit in either, in any order. A run has one mode for
- * all its steps; records, and all other calls, have none.
+ * their equilibrium. The more stress, the less p, so that water is damped where it is sheared. Tests and refusals are the same in both, 3
+ * is about the plain p, and the water is kept to the unit in either, in any order. A run has one mode for all its steps; records, and all
+ * other calls, have none.
  *
  * WHAT EVERY CALL KEEPS. It accepts any numbers and slices of any length, and ends. It answers 0 if accepted, else the refusal's number
  * (SKW_BAD_.. below), and then the place through *place; 0 if accepted. All other numbers that it answers through pointers are written

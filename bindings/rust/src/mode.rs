@@ -6,7 +6,7 @@ pub enum Mode {
     /// Every cell by p.
     #[default]
     Plain,
-    /// Each cell by a p of its own, 1 to p, which its stress takes off p: fast water is damped where it is sheared.
+    /// Each cell by a p of its own, 1 to p, which its stress takes off p: water is damped where it is sheared.
     Turbulent,
 }
 
