@@ -1,4 +1,5 @@
 -- `flumerecord::given::good_site` is the box's test 3, with no y. Assumes nothing.
+use mathlib.Core.Bool.{Bool}
 use borrow.Author.Needs.{needs}
 use mathlib.Core.Path.{_≡_, _∙_}
 use lib.IntN.{ℤ, pos}
