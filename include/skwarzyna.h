@@ -32,6 +32,12 @@
  * their squares at most 1,099,511. edge, that of a cell, 1 to 1,000 mm. ox, oy, oz, the survey point of the grid's corner, and every
  * survey point in whole mm within +-10^10. Numbers are wider than their ranges, so that none has to be cut to be refused.
  *
+ * THE MODE of a step or a run, turbulent: false is the plain mode, in which every cell is relaxed by p. true is the turbulent one, in which
+ * each cell is relaxed by a p of its own, that its stress takes off the plain one: at most p, at least 1, and p itself where the parts are at
+ * their equilibrium. The more stress, the less p, so that water is damped where it is sheared. Tests and refusals are the same in both, 3
+ * is about the plain p, and the water is kept to the unit in either, in any order. A run has one mode for all its steps; records, and all
+ * other calls, have none.
+ *
  * WHAT EVERY CALL KEEPS. It accepts any numbers and slices of any length, and ends. It answers 0 if accepted, else the refusal's number
  * (SKW_BAD_.. below), and then the place through *place; 0 if accepted. All other numbers that it answers through pointers are written
  * too: 0 beside a refusal, but for the run's count. It allocates nothing and keeps nothing between calls, so that calls on buffers of
@@ -48,6 +54,9 @@
 
 #include <stddef.h>
 #include <stdint.h>
+#ifndef __cplusplus
+#include <stdbool.h>
+#endif
 
 #ifdef __cplusplus
 extern "C" {
@@ -250,7 +259,7 @@ uint8_t skw_surface_next(const uint64_t *words, size_t words_len,
  *     7, 8             copies of the first        all 0
  *     1 to 6, 14       as they were               as they were
  *
- * The first set and its index are never written.
+ * The first set and its index are never written. turbulent is the mode of this step.
  */
 uint8_t skw_step(const uint8_t *flags, size_t flags_len,
                  const int32_t *parts, size_t parts_len,
@@ -269,7 +278,7 @@ uint8_t skw_step(const uint8_t *flags, size_t flags_len,
                  uint8_t *marks, size_t marks_len,
                  size_t nx, size_t ny, size_t nz,
                  int64_t p, int64_t gx, int64_t gy, int64_t gz,
-                 size_t *place);
+                 bool turbulent, size_t *place);
 
 /*
  * RUN: so many steps, 0 to 1,000, from the state in the first set; it stops at the first step that is refused. It returns how many
@@ -282,6 +291,7 @@ uint8_t skw_step(const uint8_t *flags, size_t flags_len,
  *     1 to 6, 9, 14    0                            as they were                  as they were
  *
  * It is faster than so many single steps: it tests the state once, goes back and forth between the sets, and makes the index once.
+ * turbulent is the mode of all its steps.
  */
 size_t skw_run(size_t steps,
                uint8_t *flags, size_t flags_len,
@@ -301,7 +311,7 @@ size_t skw_run(size_t steps,
                uint8_t *marks, size_t marks_len,
                size_t nx, size_t ny, size_t nz,
                int64_t p, int64_t gx, int64_t gy, int64_t gz,
-               uint8_t *number, size_t *place);
+               bool turbulent, uint8_t *number, size_t *place);
 
 /*
  * READ: a grid record, rec_len bytes of it, into a set without flags: 19*N parts, N masses, N fills (worked out), the carry; and the
@@ -604,8 +614,8 @@ uint8_t skw_wall_remove(uint8_t *map, size_t map_len,
  * floor(65,536*m/rho), held to 0..65,536; the carry is within +-10^12. The water of a set is the sum of its masses and its carry.
  *
  * SETTINGS: p of 1 to 2037; gx, gz, the sum of their squares at most 1,099,511; edge of 1 to 1,000 mm; ox, oz in whole mm within
- * +-10^10. Units are the box's, and so are the refusals, their order, and what every call keeps and a caller owes. There is no index,
- * no pour and no take.
+ * +-10^10. Units are the box's, and so are the modes, the refusals, their order, and what every call keeps and a caller owes. There is no
+ * index, no pour and no take.
  */
 #define SKW_FLUME_PARTS 9
 #define SKW_FLUME_SIDE_MOST 512
@@ -637,7 +647,7 @@ uint8_t skw_flume_check(const uint8_t *flags, size_t flags_len,
  *     7, 8             a copy of the first      all 0
  *     1 to 6           as it was                as they were
  *
- * The first set is never written, and an accepted step does not change the water by one unit.
+ * The first set is never written, and an accepted step does not change the water by one unit. turbulent is the mode of this step.
  */
 uint8_t skw_flume_step(const uint8_t *flags, size_t flags_len,
                        const int32_t *parts, size_t parts_len,
@@ -652,7 +662,7 @@ uint8_t skw_flume_step(const uint8_t *flags, size_t flags_len,
                        uint8_t *marks, size_t marks_len,
                        size_t nx, size_t nz,
                        int64_t p, int64_t gx, int64_t gz,
-                       size_t *place);
+                       bool turbulent, size_t *place);
 
 /*
  * FLUME RUN: so many steps, 0 to 1,000, from the state in the first set; it stops at the first step that is refused. It returns how
@@ -663,6 +673,8 @@ uint8_t skw_flume_step(const uint8_t *flags, size_t flags_len,
  *     0                the steps asked              the state reached      all 0
  *     7, 8             the steps before that one    the state reached      all 0
  *     1 to 6, 9        0                            as they were           as they were
+ *
+ * turbulent is the mode of all its steps.
  */
 size_t skw_flume_run(size_t steps,
                      uint8_t *flags, size_t flags_len,
@@ -678,7 +690,7 @@ size_t skw_flume_run(size_t steps,
                      uint8_t *marks, size_t marks_len,
                      size_t nx, size_t nz,
                      int64_t p, int64_t gx, int64_t gz,
-                     uint8_t *number, size_t *place);
+                     bool turbulent, uint8_t *number, size_t *place);
 
 /*
  * FLUME MIRROR: the first set reflected in an axis into the second. On the axis cell x goes to n - 1 - x, with its flag, mass, fill and parts, part k to

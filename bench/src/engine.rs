@@ -7,6 +7,8 @@ use oracle::{Held, HeldMut, SetMut};
 pub struct Settings {
     pub p: i64,
     pub gravity: [i64; 3],
+    /// The mode. What is written by hand has the plain one alone, and is not asked for the other.
+    pub turbulent: bool,
 }
 
 /// Number and place of a refusal, 0 0 where there is none.
@@ -40,6 +42,8 @@ pub struct Engine {
     pub name: &'static str,
     pub step: Step,
     pub run: Run,
+    /// Whether it has the turbulent mode too.
+    pub turbulent: bool,
 }
 
 /// Lends a set once more, for a call that takes it by value.

@@ -4,7 +4,7 @@ use std::ops::Range;
 
 use oracle::random::Random;
 use oracle::scenes::good;
-use oracle::{Held, HeldMut, IndexStore, Refusal, Store};
+use oracle::{Held, HeldMut, IndexStore, Refusal, Relaxation, Store};
 
 use crate::engine::{Answer, Engine, Ran, Settings, ACCEPTED};
 use crate::lattice::Grid;
@@ -46,6 +46,11 @@ fn numbered(refusal: Option<Refusal>) -> Answer {
     refusal.map_or(ACCEPTED, |refusal| Answer::refused(refusal.number as u8, refusal.place as usize))
 }
 
+/// p and the mode as the oracle takes them.
+fn relaxation(settings: Settings) -> Relaxation {
+    Relaxation { p: settings.p as i32, turbulent: settings.turbulent }
+}
+
 /// The oracle's step, for settings that fit the record's types, as all those here do.
 fn oracle_step(
     sides: [usize; 3],
@@ -55,8 +60,8 @@ fn oracle_step(
     marks: &mut [u8],
 ) -> Answer {
     let gravity = settings.gravity.map(|g| g as i32);
-    let answer =
-        oracle::step(sides.map(|side| side as u32), settings.p as i32, gravity, first, second, marks);
+    let sides = sides.map(|side| side as u32);
+    let answer = oracle::step(sides, relaxation(settings), gravity, first, second, marks);
     numbered(answer.err())
 }
 
@@ -70,7 +75,7 @@ fn oracle_run(
 ) -> Ran {
     let gravity = settings.gravity.map(|g| g as i32);
     let sides = sides.map(|side| side as u32);
-    let ran = oracle::run(sides, settings.p as i32, gravity, steps as u32, first, second, marks);
+    let ran = oracle::run(sides, relaxation(settings), gravity, steps as u32, first, second, marks);
     Ran { count: ran.count as usize, answer: numbered(ran.refusal) }
 }
 
@@ -80,6 +85,7 @@ pub const ORACLE: Engine = Engine {
     run: |sides, settings, steps, first, second, marks| {
         oracle_run(sides, settings, steps, first.set, second.set, marks)
     },
+    turbulent: true,
 };
 
 impl Case {
@@ -165,15 +171,17 @@ pub fn same_run(a: Engine, b: Engine, case: &Case, steps: usize) -> Result<(Ran,
     }
 }
 
-/// Holds an engine to the oracle on the states of these seeds: up to `steps` steps in a row from each and the run of as
-/// many; and, where any input is allowed, a damaged copy. The message names the seed.
+/// Holds an engine to the oracle on the states of these seeds, every other one in the turbulent mode if it has that: up to
+/// `steps` steps in a row from each and the run of as many; and, where any input is allowed, a damaged copy. The message
+/// names the seed.
 pub fn hunt(engine: Engine, seeds: Range<u64>, steps: usize, inputs: Inputs) -> Result<Tally, String> {
     let mut tally = Tally::default();
     for seed in seeds {
         let with_seed = |error: String| format!("seed {seed}: {error}");
         let scene = good(seed);
-        let settings =
-            Settings { p: scene.settings.p.into(), gravity: scene.settings.gravity.map(i64::from) };
+        let oracle::Settings { p, gravity, .. } = scene.settings;
+        let turbulent = engine.turbulent && seed % 2 == 1;
+        let settings = Settings { p: p.into(), gravity: gravity.map(i64::from), turbulent };
         let start = Case::of(scene.sides.map(|side| side as usize), settings, &Store::of(&scene.state));
 
         let mut case = start.clone();

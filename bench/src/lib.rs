@@ -8,6 +8,7 @@ pub mod heights;
 pub mod identical;
 pub mod lattice;
 pub mod measure;
+pub mod modes;
 pub mod native;
 pub mod plain;
 pub mod pools;

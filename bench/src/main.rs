@@ -2,27 +2,27 @@
 
 use std::process::ExitCode;
 
-use oracle::Store;
-
-use bench::engine::{Engine, ACCEPTED};
+use bench::engine::{Engine, Settings, ACCEPTED};
 use bench::float::{self, FloatStore};
 use bench::flume;
 use bench::growth;
 use bench::heights;
 use bench::identical::{hunt, same_run, same_step, Case, Inputs, ORACLE};
 use bench::measure::{measure, Effort, WARM_UP};
+use bench::modes;
 use bench::native;
 use bench::plain::PLAIN;
 use bench::pools;
 use bench::report::{self, Totals};
-use bench::scenes::{self, Scene};
+use bench::scenes::{self, water, Scene};
 use bench::sweep;
 
-const USAGE: &str = "bench [--quick] [--pools] [--heights] [--flume] [--sides A,B,..]
+const USAGE: &str = "bench [--quick] [--pools] [--heights] [--flume] [--modes] [--sides A,B,..]
   --quick   little of everything, to see that it works: its times say nothing
   --pools   the pools alone, at the largest side
   --heights the height grids alone
   --flume   the flume alone
+  --modes   the two modes alone: what a turbulent step costs, and how far dam breaks come in each
   --sides   of the cubes, 8 to 64; 32,48,64 if not said";
 
 struct Wish {
@@ -38,6 +38,7 @@ struct Wish {
     pools_alone: bool,
     heights_alone: bool,
     flume_alone: bool,
+    modes_alone: bool,
 }
 
 fn wish(mut words: impl Iterator<Item = String>) -> Result<Wish, String> {
@@ -51,6 +52,7 @@ fn wish(mut words: impl Iterator<Item = String>) -> Result<Wish, String> {
         pools_alone: false,
         heights_alone: false,
         flume_alone: false,
+        modes_alone: false,
     };
     while let Some(word) = words.next() {
         match word.as_str() {
@@ -63,6 +65,7 @@ fn wish(mut words: impl Iterator<Item = String>) -> Result<Wish, String> {
             "--pools" => wish.pools_alone = true,
             "--heights" => wish.heights_alone = true,
             "--flume" => wish.flume_alone = true,
+            "--modes" => wish.modes_alone = true,
             "--sides" => {
                 let given = words.next().unwrap_or_default();
                 let side = |text: &str| text.parse().ok().filter(|side| (8..=64).contains(side));
@@ -80,11 +83,12 @@ fn compare_random(engines: &[Engine], seeds: u64) -> Result<(), String> {
     for &engine in engines {
         let tally = hunt(engine, 0..seeds, 6, Inputs::Any)?;
         println!(
-            "identical   {} and the oracle: {} random steps accepted, {} refused, {} runs",
+            "identical   {} and the oracle: {} random steps accepted, {} refused, {} runs{}",
             engine.name,
             tally.steps[0],
             tally.refused(),
-            tally.runs
+            tally.runs,
+            report::in_both_modes(engine.turbulent)
         );
     }
     Ok(())
@@ -101,13 +105,13 @@ fn compare_scene(engines: &[Engine], scene: &Scene) -> Result<(), String> {
     for &engine in engines {
         for case in [&start, &Case::of(scene.sides, scene.settings, &warm.first)] {
             same_step(engine, ORACLE, case)?;
+            if engine.turbulent {
+                let settings = Settings { turbulent: true, ..scene.settings };
+                same_step(engine, ORACLE, &Case { settings, ..case.clone() })?;
+            }
         }
     }
     Ok(())
-}
-
-fn total(store: &Store) -> i128 {
-    store.masses.iter().map(|&mass| i128::from(mass)).sum::<i128>() + i128::from(store.carry[0])
 }
 
 /// Runs a scene in whole numbers, the engines held to each other, and in f32: what water is left.
@@ -124,9 +128,9 @@ fn count_water(engines: &[Engine], scene: &Scene, steps: usize) -> Result<Totals
     Ok(Totals {
         scene: scene.name,
         side: scene.sides[0],
-        start: total(&scene.store),
+        start: water(&scene.store),
         steps: ran.count,
-        lost: total(&scene.store) - total(&after.first),
+        lost: water(&scene.store) - water(&after.first),
         float_steps: float_ran.count,
         float_start,
         float_lost: float_start - float.total(),
@@ -149,10 +153,15 @@ fn measure_heights(wish: &Wish) {
     }
 }
 
+/// What a turbulent step costs, where the library is linked.
+fn measure_modes(wish: &Wish) {
+    modes::costs(&wish.sides, wish.effort);
+}
+
 fn bench(wish: &Wish) -> Result<(), String> {
     let proved = native::proved();
     report::machine(proved);
-    if wish.pools_alone || wish.heights_alone || wish.flume_alone {
+    if wish.pools_alone || wish.heights_alone || wish.flume_alone || wish.modes_alone {
         if wish.pools_alone {
             measure_pools(wish);
         }
@@ -161,6 +170,10 @@ fn bench(wish: &Wish) -> Result<(), String> {
         }
         if wish.flume_alone {
             flume::report::flume(wish.effort, wish.seeds, wish.steps)?;
+        }
+        if wish.modes_alone {
+            measure_modes(wish);
+            modes::dam_breaks(wish.steps)?;
         }
         return Ok(());
     }
@@ -195,6 +208,7 @@ fn bench(wish: &Wish) -> Result<(), String> {
     measure_pools(wish);
     measure_heights(wish);
     flume::report::flume(wish.effort, wish.seeds, wish.steps)?;
+    measure_modes(wish);
 
     match totals.iter().find(|row| row.lost != 0) {
         Some(row) => Err(format!("{}, side {}: {} units lost", row.scene, row.side, row.lost)),

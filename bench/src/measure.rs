@@ -106,6 +106,16 @@ impl Bench {
         bench.first
     }
 
+    /// Steps from now on in this mode.
+    pub fn set_mode(&mut self, turbulent: bool) {
+        self.settings.turbulent = turbulent;
+    }
+
+    /// Liquid cells of the state that is timed.
+    pub fn liquid(&self) -> usize {
+        liquid_cells(&self.start.set.flags)
+    }
+
     /// Seconds per step of so many steps from the start.
     pub fn time(&mut self, engine: Engine, way: Way, steps: usize) -> f64 {
         copy(&self.start, &mut self.first);
@@ -172,7 +182,7 @@ pub fn steps_in(seconds: f64, bench: &mut Bench) -> usize {
 }
 
 /// Steps of a run that is timed, at least: a run tests its state once and evens its sets once, which a host that asks for few steps pays more often.
-const RUN_STEPS: usize = 100;
+pub(crate) const RUN_STEPS: usize = 100;
 
 /// All contenders on one scene, in turns: the engines on the same buffers, then f32 on its own.
 pub fn measure(scene: &Scene, engines: &[Engine], effort: Effort) -> Vec<Measured> {
@@ -190,7 +200,7 @@ pub fn measure(scene: &Scene, engines: &[Engine], effort: Effort) -> Vec<Measure
         }
     }
     let names = engines.iter().map(|engine| engine.name).chain(["f32"]);
-    let liquid = liquid_cells(&bench.start.set.flags);
+    let liquid = bench.liquid();
     names
         .zip(rounds)
         .map(|(name, [step, run])| Measured {

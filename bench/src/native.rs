@@ -39,7 +39,7 @@ pub fn heights() -> Option<Heights> {
 /// The proved step and run, if bench/run linked the library.
 #[cfg(feature = "library")]
 pub fn proved() -> Option<Engine> {
-    Some(Engine { name: "proved", step: linked::step, run: linked::run })
+    Some(Engine { name: "proved", step: linked::step, run: linked::run, turbulent: true })
 }
 
 #[cfg(not(feature = "library"))]
@@ -61,9 +61,9 @@ pub fn sweep() -> Option<Sweep> {
 }
 
 #[cfg(feature = "library")]
-mod linked {
+pub(crate) mod linked {
     use oracle::{Held, HeldMut, Set};
-    use skwarzyna::{lent, Index, IndexMut, Point, Refusal, Site, State, StateMut};
+    use skwarzyna::{lent, InMode, Index, IndexMut, Mode, Point, Refusal, Site, State, StateMut};
 
     use crate::engine::{Answer, Ran, Settings, ACCEPTED};
 
@@ -71,8 +71,17 @@ mod linked {
         skwarzyna::Sides { nx, ny, nz }
     }
 
-    fn settings(Settings { p, gravity: [gx, gy, gz] }: Settings) -> skwarzyna::Settings {
-        skwarzyna::Settings { p, gx, gy, gz }
+    fn settings(wish: Settings) -> InMode<skwarzyna::Settings> {
+        let Settings { p, gravity: [gx, gy, gz], turbulent } = wish;
+        skwarzyna::Settings { p, gx, gy, gz }.in_mode(mode(turbulent))
+    }
+
+    pub fn mode(turbulent: bool) -> Mode {
+        if turbulent {
+            Mode::Turbulent
+        } else {
+            Mode::Plain
+        }
     }
 
     fn state(set: Set) -> State {

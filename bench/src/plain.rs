@@ -13,6 +13,7 @@ pub const PLAIN: Engine = Engine {
     run: |sides, settings, steps, first, second, marks| {
         run(sides, settings, steps, first.set, second.set, marks)
     },
+    turbulent: false,
 };
 
 const FULL: i64 = 65_536;

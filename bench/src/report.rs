@@ -25,6 +25,15 @@ pub struct Totals {
     pub float_lost: f64,
 }
 
+/// What is said behind a comparison that went through both modes.
+pub fn in_both_modes(both: bool) -> &'static str {
+    if both {
+        ", in both modes"
+    } else {
+        ""
+    }
+}
+
 /// Prints rows under a heading as a table that Markdown reads too.
 pub(crate) fn table(heading: &[&str], rows: &[Vec<String>]) {
     let length = |text: &str| text.chars().count();

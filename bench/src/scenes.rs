@@ -23,34 +23,45 @@ impl Scene {
     }
 }
 
+/// All the water of a set, with the carry.
+pub fn water(store: &Store) -> i128 {
+    store.masses.iter().map(|&mass| i128::from(mass)).sum::<i128>() + i128::from(store.carry[0])
+}
+
 pub fn liquid_cells(flags: &[u8]) -> usize {
     flags.iter().filter(|&&flag| flag == FLUID || flag == INTERFACE).count()
 }
 
+/// The settings of every scene but for its gravity.
+fn flowing(gravity: [i64; 3]) -> Settings {
+    Settings { p: 1600, gravity, turbulent: false }
+}
+
 /// The four scenes of one side.
 pub fn all(side: usize) -> [Scene; 4] {
-    [tank_at_rest(side, (side - 2) / 2), dam_break(side), thin_film(side), mostly_dry(side)]
+    let dam_break = dam_break(side, flowing([0, 0, DOWN]));
+    [tank_at_rest(side, (side - 2) / 2), dam_break, thin_film(side), mostly_dry(side)]
 }
 
 /// Water of this depth in cells, its densities those that gravity asks, so that nothing moves.
 pub fn tank_at_rest(side: usize, depth: usize) -> Scene {
-    laid("tank at rest", side, [0, 0, DOWN], |[_, _, z]| z <= depth)
+    laid("tank at rest", side, flowing([0, 0, DOWN]), |[_, _, z]| z <= depth)
 }
 
 /// A third of the floor under water to three quarters of the height, let loose.
-fn dam_break(side: usize) -> Scene {
-    laid("dam break", side, [0, 0, DOWN], |[x, _, z]| x <= side / 3 && z <= 3 * side / 4)
+pub fn dam_break(side: usize, settings: Settings) -> Scene {
+    laid("dam break", side, settings, |[x, _, z]| x <= side / 3 && z <= 3 * side / 4)
 }
 
 /// One layer of fluid under one of interface, on a floor that falls by one in ten.
 fn thin_film(side: usize) -> Scene {
-    laid("thin film", side, [-DOWN / 10, 0, DOWN], |[_, _, z]| z <= 2)
+    laid("thin film", side, flowing([-DOWN / 10, 0, DOWN]), |[_, _, z]| z <= 2)
 }
 
 /// A drop of a third of the side across, falling from above the floor.
 fn mostly_dry(side: usize) -> Scene {
     let (middle, radius) = (side as i64 / 2, side as i64 / 6);
-    laid("mostly dry", side, [0, 0, DOWN], |cell| {
+    laid("mostly dry", side, flowing([0, 0, DOWN]), |cell| {
         let [x, y, z] = cell.map(|coordinate| coordinate as i64 - middle);
         x * x + y * y + z * z <= radius * radius
     })
@@ -58,7 +69,7 @@ fn mostly_dry(side: usize) -> Scene {
 
 /// Lays water where it is asked for, makes its outermost cells interface, half full, and gives each cell the density
 /// that the water above it presses out.
-fn laid(name: &'static str, side: usize, gravity: [i64; 3], water: impl Fn([usize; 3]) -> bool) -> Scene {
+fn laid(name: &'static str, side: usize, settings: Settings, water: impl Fn([usize; 3]) -> bool) -> Scene {
     let sides = [side; 3];
     let grid = Grid::new(sides).expect("a side in range");
     let mut store = Store::blank(grid.n);
@@ -86,11 +97,11 @@ fn laid(name: &'static str, side: usize, gravity: [i64; 3], water: impl Fn([usiz
             depth[c] = depth[c + layer] + 1;
         }
         if store.flags[c] == FLUID || store.flags[c] == INTERFACE {
-            let rho = ONE - 3 * ONE * gravity[2] * depth[c] / 1_048_576;
+            let rho = ONE - 3 * ONE * settings.gravity[2] * depth[c] / 1_048_576;
             fill_cell(&mut store, c, rho);
         }
     }
-    Scene { name, sides, settings: Settings { p: 1600, gravity }, store }
+    Scene { name, sides, settings, store }
 }
 
 /// Parts at rest with this density, a fluid cell full and an interface cell half full.

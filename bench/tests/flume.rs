@@ -104,8 +104,11 @@ fn plain_is_the_oracle_on_random_states() {
     let mut met = [0; 9];
     for seed in 0..2500 {
         let scene = good(seed);
-        let settings =
-            Settings { p: scene.settings.p.into(), gravity: scene.settings.gravity.map(i64::from) };
+        let settings = Settings {
+            p: scene.settings.p.into(),
+            gravity: scene.settings.gravity.map(i64::from),
+            turbulent: false,
+        };
         let sides = scene.sides.map(|side| side as usize);
         let start = Case::of(sides, settings, &store(&scene.state));
         let mut case = start.clone();

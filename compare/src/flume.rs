@@ -16,7 +16,7 @@ use oracle::flume::state::State;
 use oracle::random::Random;
 
 use crate::library;
-use crate::library::Reply;
+use crate::library::{in_mode, Reply};
 use crate::report::{Met, Outcome, Total, Wanted, Wish};
 use cases::Case;
 use small::{Small, Source, SMALL};
@@ -48,13 +48,16 @@ const ALL: [Pair; 5] = [CHECK, STEP, RUN, READ, WRITE];
 const ANSWERS: &Wanted = &[
     ("check", &["0", "1", "2", "4", "5", "6"]),
     ("step", &["0", "1", "2", "3", "4", "5", "6", "7", "8"]),
+    ("turbulent step", &["0", "1", "2", "3", "4", "5", "6", "7", "8"]),
     ("run", &["0", "1", "2", "3", "4", "5", "6", "7", "8", "9"]),
+    ("turbulent run", &["0", "1", "2", "3", "4", "5", "6", "7", "8", "9"]),
     ("read", &["0", "1", "2", "3", "4", "5", "6", "10", "11"]),
     ("write", &["0", "1", "2", "3", "4", "5", "6", "12"]),
 ];
 
 /// One function on one case; what the independent program answers and leaves.
 fn called((call, library, reference): Pair, case: &Case, name: &str) -> (Outcome, Reply, Case) {
+    let call = in_mode(call, case.turbulent);
     let (mut given_case, mut wanted_case) = (case.clone(), case.clone());
     let (given, wanted) = (library(&mut given_case), reference(&mut wanted_case));
     let differs = if given == wanted {
@@ -66,13 +69,15 @@ fn called((call, library, reference): Pair, case: &Case, name: &str) -> (Outcome
     (Outcome { met: Met::new(call, wanted.number), differs }, wanted, wanted_case)
 }
 
-/// A record through the reader, with slices for n cells, and where it is accepted what was read through check, step and writer.
+/// A record through the reader, with slices for n cells, and where it is accepted what was read through check, step in both modes and writer.
 fn followed(source: Source, n: usize) -> Vec<Outcome> {
     let name = source.to_string();
     let (read, reply, after) = called(READ, &Case::of_record(source.bytes(), n), &name);
     let mut outcomes = vec![read];
     if let Some(case) = after.read(&reply) {
-        outcomes.extend([CHECK, STEP].map(|pair| called(pair, &case, &name).0));
+        let turbulent = Case { turbulent: true, ..case.clone() };
+        let calls = [(CHECK, &case), (STEP, &case), (STEP, &turbulent)];
+        outcomes.extend(calls.map(|(pair, case)| called(pair, case, &name).0));
         let (written, reply, after) = called(WRITE, &case, &name);
         outcomes.push(written);
         // What was accepted is written back as the same bytes.
@@ -84,7 +89,7 @@ fn followed(source: Source, n: usize) -> Vec<Outcome> {
     outcomes
 }
 
-/// A good state through steps and runs in random order, with other settings now and then: after each the two agree in every answer and slice, the
+/// A good state through steps and runs of both modes in random order, with other settings now and then: after each the two agree in every answer and slice, the
 /// check accepts, and the water is what it was.
 fn lived(seed: u64) -> Vec<Outcome> {
     let random = &mut Random::new(seed ^ 0xf10e_0000);
@@ -97,7 +102,7 @@ fn lived(seed: u64) -> Vec<Outcome> {
             let chosen = settings(random);
             (case.p, case.gravity) = (chosen.p.into(), chosen.gravity.map(i64::from));
         }
-        case.steps = random.pick(&[0, 1, 2, 7, 30]);
+        (case.steps, case.turbulent) = (random.pick(&[0, 1, 2, 7, 30]), random.percent(50));
         let pair = random.pick(&[STEP, RUN]);
         let (outcome, reply, after) = called(pair, &case, &name);
         outcomes.push(outcome);
@@ -154,7 +159,8 @@ fn exchanged(source: Source) -> Vec<Outcome> {
 }
 
 pub fn compare(wish: &Wish, total: &mut Total) {
-    let title = format!("the flume's functions on raw slices, {SEEDS} cases, seeds from {}", wish.from);
+    let title =
+        format!("the flume's functions on raw slices, {SEEDS} cases, a mode each, seeds from {}", wish.from);
     total.compare(&title, wish, SEEDS as usize, ANSWERS, |number| {
         let seed = wish.from + number as u64;
         let case = Case::of(seed);
@@ -163,12 +169,14 @@ pub fn compare(wish: &Wish, total: &mut Total) {
     });
 
     let title = format!(
-        "the flume's steps, runs and checks in random order, {LIVES} states, seeds from {}, whole outcomes and the water",
+        "the flume's steps and runs in both modes and checks in random order, {LIVES} states, seeds from {}, whole outcomes and the water",
         wish.from
     );
     let wanted: &Wanted = &[
         ("step", &["0", "7", "8"]),
+        ("turbulent step", &["0", "7", "8"]),
         ("run", &["0", "7", "8"]),
+        ("turbulent run", &["0", "7", "8"]),
         ("check", &["0"]),
         ("write", &["0"]),
         ("read", &["0"]),
@@ -176,13 +184,14 @@ pub fn compare(wish: &Wish, total: &mut Total) {
     total.compare(&title, wish, LIVES as usize, wanted, |number| lived(wish.from + number as u64));
 
     let title = format!(
-        "the flume's reader on {RECORDS} good and {RECORDS} damaged records, seeds from {}, then check, step and writer on what was read",
+        "the flume's reader on {RECORDS} good and {RECORDS} damaged records, seeds from {}, then check, step in both modes and writer on what was read",
         wish.from
     );
     let wanted: &Wanted = &[
         ("read", &["0", "1", "3", "4", "5", "6", "10", "11"]),
         ("check", &["0"]),
         ("step", &["0", "7", "8"]),
+        ("turbulent step", &["0", "7", "8"]),
         ("write", &["0"]),
     ];
     total.compare(&title, wish, 2 * RECORDS as usize, wanted, |number| {
@@ -200,12 +209,13 @@ pub fn compare(wish: &Wish, total: &mut Total) {
             sources.extend(others.map(|other| (Source::Changed(small, at, other), small)));
         }
     }
-    let title = "the flume's reader, then check, step and writer, on every prefix of three small records and on each with every single byte \
+    let title = "the flume's reader, then check, step in both modes and writer, on every prefix of three small records and on each with every single byte \
                  changed to all 255 others";
     let wanted: &Wanted = &[
         ("read", &["0", "1", "2", "3", "4", "6", "10", "11"]),
         ("check", &["0"]),
         ("step", &["0", "7"]),
+        ("turbulent step", &["0", "7"]),
         ("write", &["0"]),
     ];
     total.compare(title, wish, sources.len(), wanted, |number| {

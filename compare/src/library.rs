@@ -67,13 +67,24 @@ const ANSWERS: &Wanted = &[
     ("count", &["0", "1", "2"]),
     ("next", &["found", "none", "1", "2", "13"]),
     ("step", &["0", "1", "2", "3", "4", "5", "6", "7", "8", "14"]),
+    ("turbulent step", &["0", "1", "2", "3", "4", "5", "6", "7", "8", "14"]),
     ("run", &["0", "1", "2", "3", "4", "5", "6", "7", "8", "9", "14"]),
+    ("turbulent run", &["0", "1", "2", "3", "4", "5", "6", "7", "8", "9", "14"]),
     ("read", &["0", "1", "2", "3", "4", "5", "6", "10", "11"]),
     ("write", &["0", "1", "2", "3", "4", "5", "6", "12"]),
     ("place", &["0", "1", "3", "13"]),
     ("point", &["0", "1", "2", "6", "13"]),
     ("depth", &["solid", "dry", "deep", "1", "2", "4", "6", "13"]),
 ];
+
+/// The name under which a call is told: step and run by their mode.
+pub fn in_mode(call: &'static str, turbulent: bool) -> &'static str {
+    match (call, turbulent) {
+        ("step", true) => "turbulent step",
+        ("run", true) => "turbulent run",
+        _ => call,
+    }
+}
 
 fn met(call: &'static str, reply: &Reply) -> Met {
     match (call, reply.number, reply.values.first()) {
@@ -88,6 +99,7 @@ fn met(call: &'static str, reply: &Reply) -> Met {
 
 /// One function on one case; what the independent program answers and leaves.
 fn called((call, library, reference): Pair, case: &Case, name: &str) -> (Outcome, Reply, Case) {
+    let call = in_mode(call, case.turbulent);
     let (mut given_case, mut wanted_case) = (case.clone(), case.clone());
     let (given, wanted) = (library(&mut given_case), reference(&mut wanted_case));
     let differs = if given == wanted {
@@ -99,18 +111,20 @@ fn called((call, library, reference): Pair, case: &Case, name: &str) -> (Outcome
     (Outcome { met: met(call, &wanted), differs }, wanted, wanted_case)
 }
 
-/// A record through the reader and, where it is accepted, the set that was read through loading, the step and the writer.
+/// A record through the reader and, where it is accepted, the set that was read through loading, the step in both modes and the writer.
 fn followed(source: Source, small: Small) -> Vec<Outcome> {
     let case = Case::of_record(source.bytes(), small.scene().state.cells.len());
     let (read, reply, after) = called(READ, &case, &source.to_string());
     let mut outcomes = vec![read];
     if let Some(case) = after.read(&reply) {
-        outcomes.extend([LOAD, STEP, WRITE].map(|pair| called(pair, &case, &source.to_string()).0));
+        let turbulent = Case { turbulent: true, ..case.clone() };
+        let calls = [(LOAD, &case), (STEP, &case), (STEP, &turbulent), (WRITE, &case)];
+        outcomes.extend(calls.map(|(pair, case)| called(pair, case, &source.to_string()).0));
     }
     outcomes
 }
 
-/// A good state through acts and steps in random order: after each the two agree in every answer and slice, and the balance is what it was. A record now and
+/// A good state through acts and steps of both modes in random order: after each the two agree in every answer and slice, and the balance is what it was. A record now and
 /// then goes through writer and reader.
 fn lived(seed: u64) -> Vec<Outcome> {
     let random = &mut Random::new(seed ^ 0x0acc_0000);
@@ -120,6 +134,7 @@ fn lived(seed: u64) -> Vec<Outcome> {
     for turn in 0..10 {
         let name = format!("lived seed {seed}, turn {turn}");
         (case.cell, case.amount) = (cases::cell(random, &case.first.flags), cases::amount(random));
+        case.turbulent = random.percent(50);
         let pair = random.pick(&[POUR, TAKE, STEP]);
         let (outcome, reply, after) = called(pair, &case, &name);
         outcomes.push(outcome);
@@ -147,8 +162,10 @@ fn lived(seed: u64) -> Vec<Outcome> {
 }
 
 pub fn compare(wish: &Wish, total: &mut Total) {
-    let title =
-        format!("the library's thirteen functions on raw slices, {SEEDS} cases, seeds from {}", wish.from);
+    let title = format!(
+        "the library's thirteen functions on raw slices, {SEEDS} cases, a mode each, seeds from {}",
+        wish.from
+    );
     total.compare(&title, wish, SEEDS as usize, ANSWERS, |number| {
         let seed = wish.from + number as u64;
         let case = Case::of(seed);
@@ -157,13 +174,14 @@ pub fn compare(wish: &Wish, total: &mut Total) {
     });
 
     let title = format!(
-        "acts, steps, checks and records in random order, {LIVES} states, seeds from {}, whole outcomes and the balance",
+        "acts, steps in both modes, checks and records in random order, {LIVES} states, seeds from {}, whole outcomes and the balance",
         wish.from
     );
     let wanted: &Wanted = &[
         ("pour", &["0", "13", "15", "16"]),
         ("take", &["0", "13", "15", "16"]),
         ("step", &["0", "7", "8"]),
+        ("turbulent step", &["0", "7", "8"]),
         ("check", &["0"]),
         ("write", &["0"]),
         ("read", &["0"]),
@@ -179,12 +197,13 @@ pub fn compare(wish: &Wish, total: &mut Total) {
             sources.extend(others.map(|other| (Source::Changed(small, at, other), small)));
         }
     }
-    let title = "the library's reader, then loading, step and writer, on every prefix of four small records and on each with every \
+    let title = "the library's reader, then loading, step in both modes and writer, on every prefix of four small records and on each with every \
                  single byte changed to all 255 others";
     let wanted: &Wanted = &[
         ("read", &["0", "1", "2", "3", "4", "6", "10", "11"]),
         ("load", &["0"]),
         ("step", &["0", "7"]),
+        ("turbulent step", &["0", "7"]),
         ("write", &["0"]),
     ];
     total.compare(title, wish, sources.len(), wanted, |number| {

@@ -6,10 +6,10 @@ use oracle::random::Random;
 use oracle::scenes::good;
 use oracle::state::State;
 use oracle::step::{draft, Fate};
-use oracle::{HeldMut, HeldStore, Settings, Store};
+use oracle::{HeldMut, HeldStore, Relaxation, Settings, Store};
 
-use crate::library::calls;
 use crate::library::cases::Case;
+use crate::library::{calls, in_mode};
 use crate::raw;
 use crate::report::{Met, Outcome, Total, Wanted, Wish};
 
@@ -100,7 +100,7 @@ fn mirrored(case: &Case, axis: usize) -> HeldStore {
     HeldStore { set: case.second, index: case.second_index }
 }
 
-/// A grid by seed and its reflection, stepped by the library side by side. A step that converts no cell leaves the reflected set; one that does leaves
+/// A grid by seed and its reflection, stepped by the library side by side, in either mode. A step that converts no cell leaves the reflected set; one that does leaves
 /// flags, parts and totals reflected, and the reflection is made anew.
 fn side_by_side(seed: u64) -> Vec<Outcome> {
     let random = &mut Random::new(seed ^ 0x0a11_ce00);
@@ -114,15 +114,18 @@ fn side_by_side(seed: u64) -> Vec<Outcome> {
     let mut beside = Case::of_grid(sides, &turned, mirrored(&case, axis));
     let mut outcomes = Vec::new();
     for step in 0..STEPS {
-        let name = format!("in {}, good seed {seed}, step {step}", NAMES[axis]);
+        let turbulent = random.percent(50);
+        (case.turbulent, beside.turbulent) = (turbulent, turbulent);
+        let call = in_mode("step", turbulent);
+        let name = format!("in {}, good seed {seed}, {call} {step}", NAMES[axis]);
         let old = State::of(case.first.lend());
-        let converts = match draft(&grid, &old, p, gravity) {
+        let converts = match draft(&grid, &old, Relaxation { p, turbulent }, gravity) {
             Ok(draft) => draft.fates.iter().any(|&fate| fate != Fate::Stays),
             Err(_) => false,
         };
         // Nothing is said of a refused step.
         if calls::step(&mut case).number != 0 {
-            outcomes.push(Outcome { met: Met::new("step", "refused"), differs: None });
+            outcomes.push(Outcome { met: Met::new(call, "refused"), differs: None });
             break;
         }
         let reply = calls::step(&mut beside);
@@ -140,7 +143,7 @@ fn side_by_side(seed: u64) -> Vec<Outcome> {
         };
         let met = if converts { "converting" } else { "calm" };
         outcomes.push(Outcome {
-            met: Met::new("step", met),
+            met: Met::new(call, met),
             differs: differs.map(|text| format!("{name}: {text}")),
         });
         (case.first, case.first_index) = (case.second.clone(), case.second_index.clone());
@@ -167,9 +170,10 @@ pub fn compare(wish: &Wish, total: &mut Total) {
     });
 
     let title = format!(
-        "grids and their reflections stepped side by side, {PAIRS} of them, up to {STEPS} steps, seeds from {}",
+        "grids and their reflections stepped side by side, {PAIRS} of them, up to {STEPS} steps of both modes, seeds from {}",
         wish.from
     );
-    let wanted: &Wanted = &[("step", &["calm", "converting", "refused"])];
+    let answers: &[&str] = &["calm", "converting", "refused"];
+    let wanted: &Wanted = &[("step", answers), ("turbulent step", answers)];
     total.compare(&title, wish, PAIRS as usize, wanted, |number| side_by_side(wish.from + number as u64));
 }

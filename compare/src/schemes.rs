@@ -10,6 +10,7 @@ use oracle::random::Random;
 use oracle::schemes::{self, Change};
 use oracle::Refusal;
 
+use crate::library::in_mode;
 use crate::report::{Met, Outcome, Total, Wanted, Wish};
 use cases::{Case, LARGE};
 use library::Library;
@@ -110,8 +111,8 @@ fn called((call, library, reference): Pair, case: &Case, name: &str) -> Outcome 
 /// What a designer asked, and the number that was told.
 fn asked_met(asked: Asked, told: &Told) -> Met {
     let call = match asked {
-        Asked::Own(Deed::Step) => "step",
-        Asked::Own(Deed::Run(_)) => "run",
+        Asked::Own(Deed::Step { turbulent }) => in_mode("step", turbulent),
+        Asked::Own(Deed::Run { turbulent, .. }) => in_mode("run", turbulent),
         Asked::Own(Deed::Act(..)) => "act",
         Asked::Wall(Change::Add, _) => "add",
         Asked::Wall(Change::Remove, _) => "remove",
@@ -188,12 +189,14 @@ pub fn compare(wish: &Wish, total: &mut Total) {
     });
 
     let title = format!(
-        "two schemes by turns, steps, runs, acts and wall changes, {HISTORIES} histories, seeds from {}, whole outcomes",
+        "two schemes by turns, steps and runs of both modes, acts and wall changes, {HISTORIES} histories, seeds from {}, whole outcomes",
         wish.from
     );
     let wanted: &Wanted = &[
         ("step", &["0", "7", "8"]),
+        ("turbulent step", &["0", "7", "8"]),
         ("run", &["0", "7", "8"]),
+        ("turbulent run", &["0", "7", "8"]),
         ("act", &["0", "13", "15", "16"]),
         ("add", &["0", "13", "17", "18"]),
         ("remove", &["0", "13", "17", "18"]),

@@ -9,12 +9,13 @@ use crate::schemes::{self, Change, SOLID};
 use crate::sets::{Set, Store};
 use crate::settings::Settings;
 use crate::state::{State, EMPTY, FLUID, INTERFACE, WALL};
+use crate::turbulence::Relaxation;
 
 /// What a designer does to one scheme, through its grid.
 #[derive(Clone, Copy, Debug, PartialEq, Eq)]
 pub enum Deed {
-    Step,
-    Run(u32),
+    Step { turbulent: bool },
+    Run { steps: u32, turbulent: bool },
     Act(Act, u64, i64),
 }
 
@@ -66,19 +67,21 @@ pub trait Calls {
     /// A step, a run or an act on a grid and its index.
     fn deed(deed: Deed, sides: [u32; 3], settings: &Settings, grid: &mut HeldStore) -> Told {
         let Settings { p, gravity, .. } = *settings;
+        let relaxed = |turbulent: bool| Relaxation { p, turbulent };
         let n = grid.set.flags.len();
         let (mut second, mut marks) = (HeldStore::of(Store::blank(n)), vec![7; n]);
         match deed {
-            Deed::Step => {
-                let told = index::step(sides, p, gravity, grid.lend(), second.lend_mut(), &mut marks);
+            Deed::Step { turbulent } => {
+                let (first, second_mut) = (grid.lend(), second.lend_mut());
+                let told = index::step(sides, relaxed(turbulent), gravity, first, second_mut, &mut marks);
                 if matches!(told, Ok(()) | Err(Refusal { number: 7 | 8, .. })) {
                     *grid = second;
                 }
                 Told::of(told.map(|()| 1))
             }
-            Deed::Run(steps) => {
+            Deed::Run { steps, turbulent } => {
                 let (first, second) = (grid.lend_mut(), second.lend_mut());
-                let ran = index::run(sides, p, gravity, steps, first, second, &mut marks);
+                let ran = index::run(sides, relaxed(turbulent), gravity, steps, first, second, &mut marks);
                 Told { refusal: ran.refusal, value: ran.count.into() }
             }
             Deed::Act(act, cell, amount) => {
@@ -170,8 +173,11 @@ impl Tunnel {
         let own = &self.schemes[who].set.flags;
         let n = own.len();
         match random.below(10) {
-            0 | 1 => Asked::Own(Deed::Step),
-            2 => Asked::Own(Deed::Run(random.pick(&[0, 1, 2, 5]))),
+            0 | 1 => Asked::Own(Deed::Step { turbulent: random.percent(50) }),
+            2 => {
+                let steps = random.pick(&[0, 1, 2, 5]);
+                Asked::Own(Deed::Run { steps, turbulent: random.percent(50) })
+            }
             3 | 4 => {
                 let surface: Vec<usize> = (0..n).filter(|&c| own[c] == INTERFACE).collect();
                 let anywhere = surface.is_empty() || random.percent(10);

@@ -29,10 +29,13 @@ pub struct Tally {
 }
 
 /// All that a hunt of many seeds must meet.
-pub const EVENTS: [&str; 12] = [
+pub const EVENTS: [&str; 15] = [
     "steps accepted",
     "steps refused",
     "runs",
+    "turbulent steps accepted",
+    "turbulent steps refused",
+    "turbulent runs",
     "acts accepted",
     "acts refused",
     "walls added",
@@ -116,9 +119,12 @@ fn judged<C: Calls>(before: &Tunnel, turn: &Turn, tally: &mut Tally) -> Finding 
     let Turn { who, asked, told, .. } = turn;
     let accepted = told.accepted();
     tally.add(match *asked {
-        Asked::Own(Deed::Step) if accepted => "steps accepted",
-        Asked::Own(Deed::Step) => "steps refused",
-        Asked::Own(Deed::Run(_)) => "runs",
+        Asked::Own(Deed::Step { turbulent: false }) if accepted => "steps accepted",
+        Asked::Own(Deed::Step { turbulent: false }) => "steps refused",
+        Asked::Own(Deed::Run { turbulent: false, .. }) => "runs",
+        Asked::Own(Deed::Step { turbulent: true }) if accepted => "turbulent steps accepted",
+        Asked::Own(Deed::Step { turbulent: true }) => "turbulent steps refused",
+        Asked::Own(Deed::Run { turbulent: true, .. }) => "turbulent runs",
         Asked::Own(Deed::Act(..)) if accepted => "acts accepted",
         Asked::Own(Deed::Act(..)) => "acts refused",
         Asked::Wall(change, cell) => {

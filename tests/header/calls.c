@@ -48,6 +48,9 @@ static const struct sides FLAT = {3, 3, 2};
 static const struct settings FALLING = {1024, 0, 0, -1024};
 static const struct site CORNER = {50, 0, 0, 0};
 
+/* The mode of every step and run: what is expected of one is expected of both, unless said. */
+static bool turbulent = false;
+
 static struct lengths lengths_of(size_t cells)
 {
     struct lengths l;
@@ -123,7 +126,8 @@ static long step(const struct set *a, struct lengths la, struct set *b, struct l
     const uint8_t number = skw_step(a->flags, la.flags, a->parts, la.parts, a->masses, la.masses, a->fills, la.fills, a->carry, la.carry,
                                     a->words, la.words, a->count, la.count,
                                     b->flags, lb.flags, b->parts, lb.parts, b->masses, lb.masses, b->fills, lb.fills, b->carry, lb.carry,
-                                    b->words, lb.words, b->count, lb.count, marks, lb.marks, s.nx, s.ny, s.nz, g.p, g.gx, g.gy, g.gz, &place);
+                                    b->words, lb.words, b->count, lb.count, marks, lb.marks, s.nx, s.ny, s.nz, g.p, g.gx, g.gy, g.gz, turbulent,
+                                    &place);
     return REFUSED(number, place);
 }
 
@@ -134,7 +138,8 @@ static long run(size_t steps, struct set *a, struct lengths la, struct set *b, s
     size_t place = unset();
     *count = skw_run(steps, a->flags, la.flags, a->parts, la.parts, a->masses, la.masses, a->fills, la.fills, a->carry, la.carry,
                      a->words, la.words, a->count, la.count, b->flags, lb.flags, b->parts, lb.parts, b->masses, lb.masses, b->fills, lb.fills,
-                     b->carry, lb.carry, b->words, lb.words, b->count, lb.count, marks, lb.marks, s.nx, s.ny, s.nz, g.p, g.gx, g.gy, g.gz, &number, &place);
+                     b->carry, lb.carry, b->words, lb.words, b->count, lb.count, marks, lb.marks, s.nx, s.ny, s.nz, g.p, g.gx, g.gy, g.gz, turbulent,
+                     &number, &place);
     return REFUSED(number, place);
 }
 
@@ -561,6 +566,58 @@ static void test_run(void)
     EXPECT(count == (size_t)made);
     EXPECT(same_state(&a, &single, CELLS) && same_state(&b, &single, CELLS) && all(marks, CELLS, 0));
     EXPECT(run(SKW_STEPS_MOST, &a, l, &b, l, marks, THREE, FALLING, &count) == ACCEPTED && count == SKW_STEPS_MOST);
+}
+
+/* Case U: parts along x above rest and along z below, so that stress takes 16 off p 2037 in the turbulent mode. Walls give back what
+   they are given, and so a step is its collision. */
+static void case_u(struct set *a)
+{
+    int32_t *const parts = a->parts + SKW_PARTS * MIDDLE;
+    case_t(a);
+    parts[1] = parts[2] = 33768, parts[5] = parts[6] = 31768;
+}
+
+static void test_modes(void)
+{
+    static const struct settings still = {2037, 0, 0, 0};
+    const struct lengths l = lengths_of(CELLS);
+    struct set a, b, other, kept;
+    uint8_t marks[ROOM];
+    size_t count;
+    int mode, k;
+    memset(marks, 7, sizeof marks);
+    for (mode = 0; mode < 2; mode += 1) {
+        turbulent = mode == 1;
+        case_u(&a), kept = a, soil(&b);
+        EXPECT(step(&a, l, &b, l, marks, THREE, still) == ACCEPTED && same(&a, &kept));
+        for (k = 0; k < SKW_PARTS; k += 1) {
+            const int along = k == 1 || k == 2, up = k == 5 || k == 6;
+            EXPECT(b.parts[SKW_PARTS * MIDDLE + k] ==
+                   (along ? (turbulent ? 31795 : 31779) : up ? (turbulent ? 33741 : 33757) : a.parts[SKW_PARTS * MIDDLE + k]));
+        }
+        EXPECT(b.masses[MIDDLE] == SKW_ONE / 2 && b.fills[MIDDLE] == SKW_FULL / 2 && b.carry[0] == 0);
+        /* A run is its steps in its own mode. */
+        kept = b;
+        EXPECT(run(1, &a, l, &b, l, marks, THREE, still, &count) == ACCEPTED && count == 1 && same_state(&a, &kept, CELLS));
+        EXPECT(step(&a, l, &b, l, marks, THREE, still) == ACCEPTED);
+        kept = b, case_u(&a);
+        EXPECT(run(2, &a, l, &b, l, marks, THREE, still, &count) == ACCEPTED && count == 2 && same_state(&a, &kept, CELLS));
+        EXPECT(mode == 0 || !same_state(&a, &other, CELLS));
+        other = a;
+    }
+    /* One mode after the other; at p 1 both are one. */
+    case_u(&a);
+    EXPECT(step(&a, l, &b, l, marks, THREE, still) == ACCEPTED);
+    turbulent = false;
+    EXPECT(step(&b, l, &a, l, marks, THREE, still) == ACCEPTED && a.parts[SKW_PARTS * MIDDLE + 1] == 33730);
+    {
+        const struct settings slow = {1, 0, 0, 0};
+        case_u(&a), soil(&b), soil(&other);
+        EXPECT(step(&a, l, &b, l, marks, THREE, slow) == ACCEPTED);
+        turbulent = true;
+        EXPECT(step(&a, l, &other, l, marks, THREE, slow) == ACCEPTED && same_state(&b, &other, CELLS));
+    }
+    turbulent = false;
 }
 
 static int refused_head(const struct head *h)
@@ -1609,6 +1666,7 @@ int main(int count, char **words)
     uint8_t record[RECORD];
     char text[300];
     size_t length;
+    int mode;
     if (count != 3) {
         fprintf(stderr, "usage: calls RECORD TEXT: case T's record, and what gridstep prints for it\n");
         return 2;
@@ -1621,8 +1679,12 @@ int main(int count, char **words)
     test_check();
     test_load();
     test_surface();
-    test_step(text);
-    test_run();
+    for (mode = 0; mode < 2; mode += 1) {
+        turbulent = mode == 1;
+        test_step(text);
+        test_run();
+    }
+    test_modes();
     test_read(record);
     test_write(record);
     test_acts();

@@ -1,5 +1,5 @@
 /*
- * Every call of the flume in skwarzyna.h on good and on bad input, held to the figures of document 01 as amended (P3, P13). The same text is
+ * Every call of the flume in skwarzyna.h on good and on bad input, held to the figures of document 01 as amended (P3, P10, P13). The same text is
  * compiled as C and as C++.
  */
 #include "expect.h"
@@ -56,6 +56,9 @@ static const struct sides WIDE = {5, 4};
 static const struct settings FALLING = {1024, 0, -1024};
 static const struct site CORNER = {50, 0, 0};
 
+/* The mode of every step and run: what is expected of one is expected of both, unless said. */
+static bool turbulent = false;
+
 static struct lengths lengths_of(size_t cells)
 {
     struct lengths l;
@@ -91,7 +94,7 @@ static long step(const struct set *a, struct lengths la, struct set *b, struct l
     size_t place = (size_t)-1;
     const uint8_t number = skw_flume_step(a->flags, la.flags, a->parts, la.parts, a->masses, la.masses, a->fills, la.fills, a->carry, la.carry,
                                           b->flags, lb.flags, b->parts, lb.parts, b->masses, lb.masses, b->fills, lb.fills, b->carry, lb.carry,
-                                          marks, lb.marks, s.nx, s.nz, g.p, g.gx, g.gz, &place);
+                                          marks, lb.marks, s.nx, s.nz, g.p, g.gx, g.gz, turbulent, &place);
     return REFUSED(number, place);
 }
 
@@ -102,7 +105,7 @@ static long run(size_t steps, struct set *a, struct lengths la, struct set *b, s
     uint8_t number = 77;
     *count = skw_flume_run(steps, a->flags, la.flags, a->parts, la.parts, a->masses, la.masses, a->fills, la.fills, a->carry, la.carry, b->flags,
                            lb.flags, b->parts, lb.parts, b->masses, lb.masses, b->fills, lb.fills, b->carry, lb.carry, marks, lb.marks, s.nx, s.nz,
-                           g.p, g.gx, g.gz, &number, &place);
+                           g.p, g.gx, g.gz, turbulent, &number, &place);
     return REFUSED(number, place);
 }
 
@@ -380,6 +383,47 @@ static void test_run(void)
     EXPECT(same_state(&a, &kept, CELLS) && same_state(&b, &kept, CELLS) && all(marks, CELLS, 0));
 }
 
+/* Case U of the flume: parts along x above rest and up below, so that stress takes 16 off p 2037 in the turbulent mode. */
+static void case_u(struct set *a)
+{
+    int32_t *const parts = a->parts + SKW_FLUME_PARTS * CENTRE;
+    case_f(a);
+    parts[1] = parts[2] = 66536, parts[3] = parts[4] = 64536;
+}
+
+static void test_modes(void)
+{
+    static const struct settings still = {2037, 0, 0};
+    const struct lengths l = lengths_of(CELLS);
+    struct set a, b, kept;
+    uint8_t marks[ROOM];
+    size_t count;
+    int mode, k;
+    memset(marks, 7, sizeof marks);
+    for (mode = 0; mode < 2; mode += 1) {
+        turbulent = mode == 1;
+        case_u(&a), kept = a, soil(&b);
+        EXPECT(step(&a, l, &b, l, marks, THREE, still) == ACCEPTED && same(&a, &kept));
+        for (k = 0; k < SKW_FLUME_PARTS; k += 1) {
+            const int along = k == 1 || k == 2, up = k == 3 || k == 4;
+            EXPECT(b.parts[SKW_FLUME_PARTS * CENTRE + k] ==
+                   (along ? (turbulent ? 64563 : 64547) : up ? (turbulent ? 66509 : 66525) : a.parts[SKW_FLUME_PARTS * CENTRE + k]));
+        }
+        EXPECT(b.masses[CENTRE] == SKW_ONE / 2 && b.fills[CENTRE] == SKW_FULL / 2 && b.carry[0] == 0);
+        /* A run is its steps in its own mode. */
+        kept = b;
+        EXPECT(run(1, &a, l, &b, l, marks, THREE, still, &count) == ACCEPTED && count == 1 && same_state(&a, &kept, CELLS));
+        EXPECT(step(&a, l, &b, l, marks, THREE, still) == ACCEPTED);
+        kept = b, case_u(&a);
+        EXPECT(run(2, &a, l, &b, l, marks, THREE, still, &count) == ACCEPTED && count == 2 && same_state(&a, &kept, CELLS));
+    }
+    /* A plain step after a turbulent one. */
+    case_u(&a);
+    EXPECT(step(&a, l, &b, l, marks, THREE, still) == ACCEPTED);
+    turbulent = false;
+    EXPECT(step(&b, l, &a, l, marks, THREE, still) == ACCEPTED && a.parts[SKW_FLUME_PARTS * CENTRE + 1] == 66498);
+}
+
 static int refused_head(const struct head *h)
 {
     return h->s.nx == 0 && h->s.nz == 0 && h->g.p == 0 && h->g.gx == 0 && h->g.gz == 0 && h->t.edge == 0 && h->t.ox == 0 && h->t.oz == 0 &&
@@ -556,9 +600,14 @@ static void test_read(const uint8_t *record)
 int main(void)
 {
     uint8_t record[RECORD];
+    int mode;
     test_check();
-    test_step();
-    test_run();
+    for (mode = 0; mode < 2; mode += 1) {
+        turbulent = mode == 1;
+        test_step();
+        test_run();
+    }
+    test_modes();
     test_mirror();
     test_write(record);
     test_read(record);

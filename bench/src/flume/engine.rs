@@ -14,6 +14,8 @@ pub struct Engine {
     pub name: &'static str,
     pub step: Step,
     pub run: Run,
+    /// Whether it has the turbulent mode too.
+    pub turbulent: bool,
 }
 
 fn plain_run(
@@ -29,12 +31,13 @@ fn plain_run(
     plain::run(sides, settings, steps, first, second, marks)
 }
 
-pub const PLAIN: Engine = Engine { name: crate::plain::PLAIN.name, step: plain::step, run: plain_run };
+pub const PLAIN: Engine =
+    Engine { name: crate::plain::PLAIN.name, step: plain::step, run: plain_run, turbulent: false };
 
 /// The proved step and run, if bench/run linked the library.
 #[cfg(feature = "library")]
 pub fn proved() -> Option<Engine> {
-    Some(Engine { name: "proved", step: linked::step, run: linked::run })
+    Some(Engine { name: "proved", step: linked::step, run: linked::run, turbulent: true })
 }
 
 #[cfg(not(feature = "library"))]
@@ -46,17 +49,19 @@ pub fn proved() -> Option<Engine> {
 mod linked {
     use oracle::{Set, SetMut};
     use skwarzyna::flume::{lent, Settings, Sides};
-    use skwarzyna::{Refusal, State, StateMut};
+    use skwarzyna::{InMode, Refusal, State, StateMut};
 
     use crate::engine::{Answer, Ran, ACCEPTED};
     use crate::flume;
+    use crate::native::linked::mode;
 
     fn sides([nx, nz]: [usize; 2]) -> Sides {
         Sides { nx, nz }
     }
 
-    fn settings(flume::Settings { p, gravity: [gx, gz] }: flume::Settings) -> Settings {
-        Settings { p, gx, gz }
+    fn settings(wish: flume::Settings) -> InMode<Settings> {
+        let flume::Settings { p, gravity: [gx, gz], turbulent } = wish;
+        Settings { p, gx, gz }.in_mode(mode(turbulent))
     }
 
     fn state(set: Set) -> State {

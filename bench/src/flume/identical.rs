@@ -2,7 +2,7 @@
 
 use oracle::flume::scenes::good;
 use oracle::flume::sets::store;
-use oracle::{flume, Refusal, Store};
+use oracle::{flume, Refusal, Relaxation, Store};
 
 use super::engine::Engine;
 use super::scenes::Scene;
@@ -53,7 +53,8 @@ impl Case {
     fn wanted(&mut self) -> Answer {
         let (sides, gravity) = (self.sides.map(|side| side as u32), self.settings.gravity.map(|g| g as i32));
         let (first, second) = (self.first.lend(), self.second.lend_mut());
-        answer(flume::step(sides, self.settings.p as i32, gravity, first, second, &mut self.marks).err())
+        let relaxation = Relaxation { p: self.settings.p as i32, turbulent: self.settings.turbulent };
+        answer(flume::step(sides, relaxation, gravity, first, second, &mut self.marks).err())
     }
 }
 
@@ -80,13 +81,14 @@ pub fn same_run(one: Engine, other: Engine, case: &Case, steps: usize) -> Result
     Ok((given, ours))
 }
 
-/// Steps accepted and refused on random states, each stepped on while it can be.
+/// Steps accepted and refused on random states, each stepped on while it can be, every other one in the turbulent mode if the engine has that.
 pub fn hunt(engine: Engine, seeds: u64, steps: usize) -> Result<[usize; 2], String> {
     let mut met = [0; 2];
     for seed in 0..seeds {
         let scene = good(seed);
-        let settings =
-            Settings { p: scene.settings.p.into(), gravity: scene.settings.gravity.map(i64::from) };
+        let flume::Settings { p, gravity, .. } = scene.settings;
+        let turbulent = engine.turbulent && seed % 2 == 1;
+        let settings = Settings { p: p.into(), gravity: gravity.map(i64::from), turbulent };
         let sides = scene.sides.map(|side| side as usize);
         let mut case = Case::of(sides, settings, &store(&scene.state));
         for step in 0..steps {

@@ -10,7 +10,7 @@ use super::identical::Case;
 use super::scenes::Scene;
 use crate::engine::{Answer, ACCEPTED};
 use crate::float::FloatStore;
-use crate::measure::{Effort, Time, Way, WARM_UP};
+use crate::measure::{Effort, Time, Way, RUN_STEPS, WARM_UP};
 use crate::scenes::liquid_cells;
 
 /// One contender's times on one scene.
@@ -24,9 +24,6 @@ pub struct Measured {
     /// A step of a run, which tests its state once.
     pub run: Time,
 }
-
-/// Steps of a run that is timed, at least.
-const RUN_STEPS: usize = 100;
 
 /// A refused step is over early: its time would say nothing.
 fn expect_accepted(name: &str, answer: Answer) {
@@ -42,7 +39,7 @@ fn copy(from: &Store, to: &mut Store) {
 }
 
 /// Seconds per step of so many steps from a state.
-fn time(engine: Engine, way: Way, steps: usize, start: &Case, case: &mut Case) -> f64 {
+pub fn time(engine: Engine, way: Way, steps: usize, start: &Case, case: &mut Case) -> f64 {
     copy(&start.first, &mut case.first);
     let begin = Instant::now();
     if way == Way::Run {
@@ -74,16 +71,26 @@ fn time_float(scene: &Scene, way: Way, steps: usize, start: &FloatStore, sets: &
     begin.elapsed().as_secs_f64() / steps as f64
 }
 
-/// All contenders on one scene, from the state after its first steps.
-pub fn measure(scene: &Scene, engines: &[Engine], effort: Effort) -> Vec<Measured> {
+/// A scene after its first steps.
+pub fn warm(scene: &Scene) -> Case {
     let mut case = Case::of_scene(scene);
     expect_accepted(PLAIN.name, case.run(PLAIN, WARM_UP).answer);
-    let start = case.clone();
+    case
+}
+
+/// Steps of the plain engine in these seconds; even, so that both sets are written equally often.
+pub fn steps_in(seconds: f64, start: &Case) -> usize {
+    let one = time(PLAIN, Way::Step, 2, start, &mut start.clone());
+    2 * ((seconds / one / 2.0) as usize).clamp(1, 200)
+}
+
+/// All contenders on one scene, from the state after its first steps.
+pub fn measure(scene: &Scene, engines: &[Engine], effort: Effort) -> Vec<Measured> {
+    let start = warm(scene);
+    let mut case = start.clone();
     let float_start = FloatStore::of(&start.first);
     let mut floats = [float_start.clone(), float_start.clone()];
-    let one = time(PLAIN, Way::Step, 2, &start, &mut case);
-    // Even, so that both sets are written equally often.
-    let steps = 2 * ((effort.seconds / one / 2.0) as usize).clamp(1, 200);
+    let steps = steps_in(effort.seconds, &start);
     let mut rounds = vec![[Vec::new(), Vec::new()]; engines.len() + 1];
     for _ in 0..effort.rounds {
         let ways = [(Way::Step, steps), (Way::Run, steps.max(RUN_STEPS))];

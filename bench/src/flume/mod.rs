@@ -13,4 +13,6 @@ pub mod scenes;
 pub struct Settings {
     pub p: i64,
     pub gravity: [i64; 2],
+    /// The mode. What is written by hand has the plain one alone, and is not asked for the other.
+    pub turbulent: bool,
 }

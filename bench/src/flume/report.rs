@@ -1,25 +1,21 @@
 // The flume's part of the benchmark: held to be identical, its water counted, its steps timed, and what is printed of it.
 
-use oracle::Store;
-
 use super::engine::{proved, Engine, PLAIN};
 use super::float;
 use super::identical::{hunt, same_run, same_step, Case};
 use super::measure::{measure, Measured};
 use super::scenes::{self, Scene};
+use super::Settings;
 use crate::engine::ACCEPTED;
 use crate::float::FloatStore;
 use crate::measure::{Effort, Time, WARM_UP};
-use crate::report::{load, percent, rate, table};
+use crate::report::{in_both_modes, load, percent, rate, table};
+use crate::scenes::water;
 
 /// Sections that are timed.
-const SECTIONS: [[usize; 2]; 2] = [[256, 64], [512, 512]];
+pub const SECTIONS: [[usize; 2]; 2] = [[256, 64], [512, 512]];
 /// Steps of each random state.
 const RANDOM_STEPS: usize = 6;
-
-fn total(store: &Store) -> i128 {
-    store.masses.iter().map(|&mass| i128::from(mass)).sum::<i128>() + i128::from(store.carry[0])
-}
 
 fn named(scene: &Scene) -> String {
     format!("{}, {} x {}", scene.name, scene.sides[0], scene.sides[1])
@@ -36,6 +32,10 @@ fn compare_scene(engines: &[Engine], scene: &Scene) -> Result<(), String> {
     for &engine in engines {
         for case in [&start, &Case::of(scene.sides, scene.settings, &warm.first)] {
             same_step(engine, case)?;
+            if engine.turbulent {
+                let settings = Settings { turbulent: true, ..scene.settings };
+                same_step(engine, &Case { settings, ..case.clone() })?;
+            }
         }
     }
     Ok(())
@@ -45,7 +45,7 @@ fn compare_scene(engines: &[Engine], scene: &Scene) -> Result<(), String> {
 fn count_water(engines: &[Engine], scene: &Scene, steps: usize) -> Result<Vec<String>, String> {
     let (first, last) = (engines[0], engines[engines.len() - 1]);
     let (ran, after) = same_run(first, last, &Case::of_scene(scene), steps)?;
-    let (start, lost) = (total(&scene.store), total(&scene.store) - total(&after.first));
+    let (start, lost) = (water(&scene.store), water(&scene.store) - water(&after.first));
     if lost != 0 {
         return Err(format!("{lost} units lost"));
     }
@@ -118,8 +118,9 @@ pub fn flume(effort: Effort, seeds: u64, steps: usize) -> Result<(), String> {
     for &engine in &engines {
         let [accepted, refused] = hunt(engine, seeds, RANDOM_STEPS)?;
         println!(
-            "identical   the flume, {} and the oracle: {accepted} random steps accepted, {refused} refused",
-            engine.name
+            "identical   the flume, {} and the oracle: {accepted} random steps accepted, {refused} refused{}",
+            engine.name,
+            in_both_modes(engine.turbulent)
         );
     }
     let all: Vec<Scene> = SECTIONS.into_iter().flat_map(scenes::all).collect();

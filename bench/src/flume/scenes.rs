@@ -25,19 +25,30 @@ impl Scene {
 }
 
 /// The two scenes of a section.
-pub fn all([nx, nz]: [usize; 2]) -> [Scene; 2] {
-    [
-        laid("flume at rest", [nx, nz], |_, z| z <= nz / 2),
-        laid("flume dam break", [nx, nz], |x, z| x <= nx / 3 && z <= 3 * nz / 4),
-    ]
+pub fn all(sides: [usize; 2]) -> [Scene; 2] {
+    let nz = sides[1];
+    let down = -(DEEPEST_FALL / nz as i64).max(1);
+    let settings = Settings { p: 1600, gravity: [0, down], turbulent: false };
+    [laid("flume at rest", sides, settings, |_, z| z <= nz / 2), dam_break(sides, settings)]
+}
+
+/// A third of the floor under water to three quarters of the height, let loose.
+pub fn dam_break(sides: [usize; 2], settings: Settings) -> Scene {
+    let [nx, nz] = sides;
+    laid("flume dam break", sides, settings, |x, z| x <= nx / 3 && z <= 3 * nz / 4)
 }
 
 /// Lays water where it is asked for, makes its outermost cells interface, half full, and gives each cell the density that the water above it
 /// presses out.
-fn laid(name: &'static str, sides: [usize; 2], water: impl Fn(usize, usize) -> bool) -> Scene {
+fn laid(
+    name: &'static str,
+    sides: [usize; 2],
+    settings: Settings,
+    water: impl Fn(usize, usize) -> bool,
+) -> Scene {
     let [nx, nz] = sides;
     let grid = Grid::flume(sides).expect("sides in range");
-    let down = -(DEEPEST_FALL / nz as i64).max(1);
+    let down = settings.gravity[1];
     let mut store = blank(grid.n);
     let inner = |c: usize| c % nx > 0 && c % nx < nx - 1 && c / nx > 0 && c / nx < nz - 1;
     for c in 0..grid.n {
@@ -61,7 +72,7 @@ fn laid(name: &'static str, sides: [usize; 2], water: impl Fn(usize, usize) -> b
             fill_cell(&mut store, c, ONE - 3 * ONE * down * depth[c] / 1_048_576);
         }
     }
-    Scene { name, sides, settings: Settings { p: 1600, gravity: [0, down] }, store }
+    Scene { name, sides, settings, store }
 }
 
 /// Parts at rest with this density, a fluid cell full and an interface cell half full.

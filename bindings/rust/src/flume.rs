@@ -2,7 +2,7 @@
 //!
 //! ```
 //! use skwarzyna::flume::{Point, Settings, Sides, Site};
-//! use skwarzyna::{Flume, ONE};
+//! use skwarzyna::{Flume, Mode, ONE};
 //!
 //! # fn main() -> Result<(), Box<dyn std::error::Error>> {
 //! // A closed section, and in it a block of water.
@@ -12,11 +12,14 @@
 //! for cell in [sides.cell(1, 1)?, sides.cell(2, 1)?] {
 //!     flume.set_fluid(cell, ONE)?;
 //! }
-//! // A hundred steps.
+//! // A hundred steps, and a hundred in the turbulent mode.
+//! flume.run(100)?;
+//! flume.mode = Mode::Turbulent;
 //! flume.run(100)?;
 //! assert_eq!(flume.total(), 2 * i64::from(ONE));
 //!
-//! // Its record, and the flume that this holds.
+//! // Its record, and the flume that this holds; no record tells a mode.
+//! flume.mode = Mode::Plain;
 //! assert_eq!(Flume::from_record(&flume.to_record()?)?, flume);
 //! # Ok(())
 //! # }
@@ -35,7 +38,7 @@ mod sides;
 use std::fmt::{Debug, Formatter, Result as Written};
 use std::mem::swap;
 
-use crate::{Counts, Refusal, State, StateMut, Stopped, Water, EMPTY, WALL};
+use crate::{Counts, InMode, Mode, Refusal, State, StateMut, Stopped, Water, EMPTY, WALL};
 
 pub use settings::{Axis, Point, Settings, Site};
 pub use sides::Sides;
@@ -43,12 +46,14 @@ pub use sides::Sides;
 /// Parts of a cell.
 pub const PARTS: usize = 9;
 
-/// A flume with its water, its settings and where it lies.
+/// A flume with its water, its settings, where it lies, and the mode of its steps.
 ///
 /// It owns two sets of buffers and the work space of a step, so that nothing is allocated while it runs.
 #[derive(Clone)]
 pub struct Flume {
     pub settings: Settings,
+    /// Plain until one says otherwise: a record does not tell it.
+    pub mode: Mode,
     pub site: Site,
     sides: Sides,
     /// The state.
@@ -138,10 +143,11 @@ impl Flume {
 
     fn holding(sides: Sides, settings: Settings, site: Site, first: Buffers) -> Flume {
         let cells = first.flags.len();
-        Flume { settings, site, sides, first, second: Buffers::new(cells), marks: vec![0; cells] }
+        let (mode, second) = (Mode::Plain, Buffers::new(cells));
+        Flume { settings, mode, site, sides, first, second, marks: vec![0; cells] }
     }
 
-    /// The flume's record, which [`from_record`](Flume::from_record) reads back as the same flume. Refusals 3 to 6.
+    /// The flume's record, which [`from_record`](Flume::from_record) reads back as the same flume in the plain mode. Refusals 3 to 6.
     pub fn to_record(&self) -> Result<Vec<u8>, Refusal> {
         let counts = self.counts();
         let mut record = vec![0; 76 + self.first.flags.len() + 4 * counts.interface + 36 * counts.liquid()];
@@ -190,18 +196,24 @@ impl Flume {
         lent::check(self.sides, self.state())
     }
 
-    /// Makes one step with the flume's settings. Refused, with 3 to 8, it leaves the state as it was.
+    /// The flume's settings in its mode.
+    fn in_mode(&self) -> InMode<Settings> {
+        self.settings.in_mode(self.mode)
+    }
+
+    /// Makes one step with the flume's settings and mode. Refused, with 3 to 8, it leaves the state as it was.
     pub fn step(&mut self) -> Result<(), Refusal> {
-        lent::step(self.sides, self.settings, self.first.lend(), self.second.lend_mut(), &mut self.marks)?;
+        lent::step(self.sides, self.in_mode(), self.first.lend(), self.second.lend_mut(), &mut self.marks)?;
         swap(&mut self.first, &mut self.second);
         Ok(())
     }
 
-    /// Makes so many steps with the flume's settings, at most 1,000, faster than one by one. Where a step is refused, the state is the one
-    /// reached before it.
+    /// Makes so many steps with the flume's settings and mode, at most 1,000, faster than one by one. Where a step is refused, the state is
+    /// the one reached before it.
     pub fn run(&mut self, steps: usize) -> Result<(), Stopped> {
+        let settings = self.in_mode();
         let (first, second) = (self.first.lend_mut(), self.second.lend_mut());
-        lent::run(self.sides, self.settings, steps, first, second, &mut self.marks)
+        lent::run(self.sides, settings, steps, first, second, &mut self.marks)
     }
 
     /// The flume mirrored in an axis, gravity with it; mirrored once more it is this flume again. Refusals 4, 5 and 6. As long as no cell is
@@ -228,10 +240,10 @@ impl Flume {
     }
 }
 
-/// Flumes with the same sides, settings, site and state.
+/// Flumes with the same sides, settings, mode, site and state.
 impl PartialEq for Flume {
     fn eq(&self, other: &Flume) -> bool {
-        (self.sides, self.settings, self.site) == (other.sides, other.settings, other.site)
+        (self.sides, self.in_mode(), self.site) == (other.sides, other.in_mode(), other.site)
             && self.state() == other.state()
     }
 }
@@ -242,7 +254,8 @@ impl Eq for Flume {}
 impl Debug for Flume {
     fn fmt(&self, text: &mut Formatter) -> Written {
         let mut flume = text.debug_struct("Flume");
-        flume.field("sides", &self.sides).field("settings", &self.settings).field("site", &self.site);
+        flume.field("sides", &self.sides).field("settings", &self.settings).field("mode", &self.mode);
+        flume.field("site", &self.site);
         flume.field("counts", &self.counts()).field("water", &self.water()).finish_non_exhaustive()
     }
 }

@@ -7,8 +7,8 @@ use std::mem::swap;
 use crate::lent;
 use crate::state::Buffers;
 use crate::{
-    Axis, CellPoint, Counts, Depth, Index, IndexMut, Line, Point, Profile, Refusal, Settings, Sides, Site,
-    State, StateMut, Station, Stopped, Surface, Water, WALL,
+    Axis, CellPoint, Counts, Depth, InMode, Index, IndexMut, Line, Point, Profile, Refusal, Settings, Sides,
+    Site, State, StateMut, Station, Stopped, Surface, Water, WALL,
 };
 
 /// A grid of cells with its water.
@@ -163,16 +163,18 @@ impl Grid {
         self.first.carry[2]
     }
 
-    /// Makes one step. Refused, with 3 to 8, it leaves the state as it was.
-    pub fn step(&mut self, settings: Settings) -> Result<(), Refusal> {
+    /// Makes one step: plain with [`Settings`] alone, else in the mode of [`Settings::in_mode`]. Refused, with 3 to 8, it leaves the state
+    /// as it was.
+    pub fn step(&mut self, settings: impl Into<InMode<Settings>>) -> Result<(), Refusal> {
         self.indexed();
         lent::step(self.sides, settings, self.first.hold(), self.second.hold_mut(), &mut self.marks)?;
         swap(&mut self.first, &mut self.second);
         Ok(())
     }
 
-    /// Makes so many steps, at most 1,000, faster than one by one. Where a step is refused, the state is the one reached before it.
-    pub fn run(&mut self, steps: usize, settings: Settings) -> Result<(), Stopped> {
+    /// Makes so many steps, at most 1,000, faster than one by one, all in one mode as [`step`](Grid::step) takes it. Where a step is
+    /// refused, the state is the one reached before it.
+    pub fn run(&mut self, steps: usize, settings: impl Into<InMode<Settings>>) -> Result<(), Stopped> {
         self.indexed();
         let (first, second) = (self.first.hold_mut(), self.second.hold_mut());
         lent::run(self.sides, settings, steps, first, second, &mut self.marks)

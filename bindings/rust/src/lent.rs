@@ -9,8 +9,8 @@
 
 use crate::raw;
 use crate::{
-    Axis, CellPoint, Depth, Held, HeldMut, IndexMut, Next, Point, Refusal, Settings, Sides, Site, State,
-    StateMut, Stopped,
+    Axis, CellPoint, Depth, Held, HeldMut, InMode, IndexMut, Next, Point, Refusal, Settings, Sides, Site,
+    State, StateMut, Stopped,
 };
 
 /// What the reader answers beside the slices that it fills.
@@ -180,15 +180,17 @@ pub fn surface_next(sides: Sides, words: &[u64], start: usize) -> Result<Next, R
 }
 
 /// The state one step after the first, and its index, into the second; marks is a byte per cell of work space, all 0 afterwards.
+/// Settings alone make a plain step, [`Settings::in_mode`] one in either mode.
 ///
 /// Refusals 1 to 6 and 14 write nothing. After 7 or 8 the second is a copy of the first, and the marks are 0.
 pub fn step(
     sides: Sides,
-    settings: Settings,
+    settings: impl Into<InMode<Settings>>,
     first: Held,
     second: HeldMut,
     marks: &mut [u8],
 ) -> Result<(), Refusal> {
+    let InMode { settings, mode } = settings.into();
     let (Held { state: first, index }, HeldMut { state: second, index: index2 }) = (first, second);
     let mut place = 0;
     let number = unsafe {
@@ -230,6 +232,7 @@ pub fn step(
             settings.gx,
             settings.gy,
             settings.gz,
+            mode.is_turbulent(),
             &mut place,
         )
     };
@@ -279,17 +282,18 @@ pub fn mirror(sides: Sides, first: State, second: HeldMut, axis: Axis) -> Result
     answered(number, place)
 }
 
-/// So many steps, 0 to 1,000, from the state in the first set, until one is refused.
+/// So many steps, 0 to 1,000, from the state in the first set, until one is refused, all in one mode as [`step`] takes it.
 ///
 /// Refusals 9, 1 to 6 and 14 write nothing. Else both hold the state reached and its index, after 7 or 8 too, and the marks are 0.
 pub fn run(
     sides: Sides,
-    settings: Settings,
+    settings: impl Into<InMode<Settings>>,
     steps: usize,
     first: HeldMut,
     second: HeldMut,
     marks: &mut [u8],
 ) -> Result<(), Stopped> {
+    let InMode { settings, mode } = settings.into();
     let (HeldMut { state: first, index }, HeldMut { state: second, index: index2 }) = (first, second);
     let (mut number, mut place) = (0, 0);
     let count = unsafe {
@@ -332,6 +336,7 @@ pub fn run(
             settings.gx,
             settings.gy,
             settings.gz,
+            mode.is_turbulent(),
             &mut number,
             &mut place,
         )

@@ -5,7 +5,7 @@
 //! [`Result`]s; it has no arithmetic of the method in it.
 //!
 //! ```
-//! use skwarzyna::{Depth, Grid, Settings, Sides, ONE};
+//! use skwarzyna::{Depth, Grid, Mode, Settings, Sides, ONE};
 //!
 //! # fn main() -> Result<(), Box<dyn std::error::Error>> {
 //! // A closed box, and in it a block of water.
@@ -16,7 +16,10 @@
 //! let before = grid.total();
 //!
 //! // A hundred steps: p 1600/1024, gravity of a ten-thousandth of a cell per step and step, downwards.
-//! grid.run(100, Settings { p: 1600, gx: 0, gy: 0, gz: -105 })?;
+//! let settings = Settings { p: 1600, gx: 0, gy: 0, gz: -105 };
+//! grid.run(100, settings)?;
+//! // A hundred more, each cell relaxed by a p of its own.
+//! grid.run(100, settings.in_mode(Mode::Turbulent))?;
 //! assert_eq!(grid.total(), before);
 //! if let Depth::Deep(cells) = grid.depth(1, 1)? {
 //!     println!("{cells} cells deep");
@@ -35,6 +38,7 @@ mod heights;
 mod index;
 mod laying;
 pub mod lent;
+mod mode;
 pub mod picture;
 mod pools;
 #[doc(hidden)]
@@ -50,6 +54,7 @@ mod state;
 pub use flume::Flume;
 pub use grid::{Grid, Record};
 pub use index::{words_of, Held, HeldMut, Index, IndexMut, Next, Surface};
+pub use mode::{InMode, Mode};
 pub use pools::{Pool, Pools};
 pub use readings::{CellPoint, Depth, Line, Profile, Station};
 pub use refusal::{Place, Refusal, Stopped};

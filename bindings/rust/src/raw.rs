@@ -140,6 +140,7 @@ extern "C" {
         gx: i64,
         gy: i64,
         gz: i64,
+        turbulent: bool,
         place: *mut usize,
     ) -> u8;
 
@@ -214,6 +215,7 @@ extern "C" {
         gx: i64,
         gy: i64,
         gz: i64,
+        turbulent: bool,
         number: *mut u8,
         place: *mut usize,
     ) -> usize;

@@ -3,7 +3,7 @@
 use std::fmt::{Debug, Formatter, Result as Written};
 
 use crate::state::Buffers;
-use crate::{lent, Grid, Refusal, Settings, Sides, State, Stopped, EMPTY, WALL};
+use crate::{lent, Grid, InMode, Refusal, Settings, Sides, State, Stopped, EMPTY, WALL};
 
 /// Which of the two.
 #[derive(Clone, Copy, Debug, PartialEq, Eq, Hash)]
@@ -128,12 +128,12 @@ impl Scheme<'_> {
     }
 
     /// Makes one step, as [`Grid::step`] does.
-    pub fn step(&mut self, settings: Settings) -> Result<(), Refusal> {
+    pub fn step(&mut self, settings: impl Into<InMode<Settings>>) -> Result<(), Refusal> {
         self.own.step(settings)
     }
 
     /// Makes so many steps, as [`Grid::run`] does.
-    pub fn run(&mut self, steps: usize, settings: Settings) -> Result<(), Stopped> {
+    pub fn run(&mut self, steps: usize, settings: impl Into<InMode<Settings>>) -> Result<(), Stopped> {
         self.own.run(steps, settings)
     }
 

@@ -4,9 +4,9 @@
 use oracle::flume::scenes::{case_f, good, settings};
 use oracle::flume::sets::{blank, store};
 use oracle::random::Random;
-use oracle::{flume as reference, Store};
+use oracle::{flume as reference, Relaxation, Store};
 use skwarzyna::flume::{lent, Point, Settings, Sides, Site, PARTS};
-use skwarzyna::{Flume, Refusal, State, StateMut, Stopped, FLUID, ONE};
+use skwarzyna::{Flume, Mode, Refusal, State, StateMut, Stopped, FLUID, ONE};
 
 const SEEDS: u64 = 250;
 const STEPS: usize = 10;
@@ -15,6 +15,7 @@ const FALLING: Settings = Settings { p: 1024, gx: 0, gz: -1024 };
 const LEVEL: Settings = Settings { p: 1024, gx: 0, gz: 0 };
 const THREE: Sides = Sides::new(3, 3);
 const CENTRE: usize = 4;
+const MODES: [Mode; 2] = [Mode::Plain, Mode::Turbulent];
 
 fn refusal(number: u8, place: usize) -> Refusal {
     Refusal { number, place }
@@ -37,17 +38,43 @@ fn rest(flume: &mut Flume, cell: usize, density: i32, mass: i32) {
 }
 
 #[test]
-fn case_f_falls_by_one_step() {
-    let mut flume = case();
-    assert_eq!(flume.step(), Ok(()));
-    assert_eq!(
-        flume.state().parts[PARTS * CENTRE..][..PARTS],
-        [262_141, 65_536, 65_536, 65_345, 65_728, 16_337, 16_432, 16_432, 16_337]
-    );
-    assert_eq!((flume.state().masses[CENTRE], flume.fills()[CENTRE]), (294_912, 32_768));
-    let mut run = case();
-    assert_eq!(run.run(1), Ok(()));
-    assert_eq!(run, flume);
+fn case_f_falls_by_one_step_in_either_mode() {
+    for mode in MODES {
+        let mut flume = case();
+        assert_eq!(flume.mode, Mode::Plain);
+        flume.mode = mode;
+        assert_eq!(flume.step(), Ok(()));
+        assert_eq!(
+            flume.state().parts[PARTS * CENTRE..][..PARTS],
+            [262_141, 65_536, 65_536, 65_345, 65_728, 16_337, 16_432, 16_432, 16_337]
+        );
+        assert_eq!((flume.state().masses[CENTRE], flume.fills()[CENTRE]), (294_912, 32_768));
+        let mut run = case();
+        run.mode = mode;
+        assert_eq!(run.run(1), Ok(()));
+        assert_eq!(run, flume);
+    }
+}
+
+#[test]
+fn case_u_has_a_p_of_its_own_in_the_turbulent_mode() {
+    let mut sheared = case();
+    sheared.settings = Settings { p: 2037, gx: 0, gz: 0 };
+    let parts = &mut sheared.state_mut().parts[PARTS * CENTRE..][..PARTS];
+    parts[1..5].copy_from_slice(&[66_536, 66_536, 64_536, 64_536]);
+    for (mode, along, up) in [(Mode::Plain, 64_547, 66_525), (Mode::Turbulent, 64_563, 66_509)] {
+        let mut flume = sheared.clone();
+        flume.mode = mode;
+        assert_eq!(flume.step(), Ok(()));
+        assert_eq!(flume.state().parts[PARTS * CENTRE + 1..][..4], [along, along, up, up]);
+        assert_eq!(flume.total(), sheared.total());
+        // A record does not tell the mode.
+        let read = Flume::from_record(&flume.to_record().unwrap()).unwrap();
+        assert_eq!((read.mode, read == flume), (Mode::Plain, mode == Mode::Plain));
+        // Test 3 is of the plain p, whatever a cell's own would be.
+        flume.settings.p = 2038;
+        assert_eq!(flume.step(), Err(refusal(3, 0)));
+    }
 }
 
 #[test]
@@ -177,50 +204,56 @@ fn flow(theirs: reference::Settings) -> Settings {
     Settings { p: theirs.p.into(), gx, gz }
 }
 
+fn relaxation(p: i32, mode: Mode) -> Relaxation {
+    Relaxation { p, turbulent: mode == Mode::Turbulent }
+}
+
 fn ours(theirs: oracle::Refusal) -> Refusal {
     refusal(theirs.number as u8, theirs.place as usize)
 }
 
 #[test]
 fn steps_are_the_independent_programs() {
-    let (mut accepted, mut refused) = (0, 0);
+    let (mut accepted, mut refused) = ([0, 0], [0, 0]);
     for seed in 0..SEEDS {
         let (scene, random) = (good(seed), &mut Random::new(seed));
         let mut flume = Flume::from_record(&scene.record()).unwrap();
         let (mut theirs, total) = (store(&scene.state), flume.total());
         for _ in 0..STEPS {
             let chosen = settings(random);
-            flume.settings = flow(chosen);
+            (flume.settings, flume.mode) = (flow(chosen), random.pick(&MODES));
             let n = theirs.flags.len();
             let (mut next, mut marks) = (blank(n), vec![0; n]);
             let wanted = reference::step(
                 scene.sides,
-                chosen.p,
+                relaxation(chosen.p, flume.mode),
                 chosen.gravity,
                 theirs.lend(),
                 next.lend_mut(),
                 &mut marks,
             );
             assert_eq!(flume.step(), wanted.map_err(ours), "seed {seed}");
-            *if wanted.is_ok() { &mut accepted } else { &mut refused } += 1;
+            let counts = if wanted.is_ok() { &mut accepted } else { &mut refused };
+            counts[flume.mode as usize] += 1;
             theirs = next;
             assert!(flume.state() == to_read(&theirs), "seed {seed}");
             assert_eq!(flume.total(), total);
         }
     }
-    assert!(accepted > 300 && refused > 300, "{accepted} {refused}");
+    assert!([accepted, refused].iter().flatten().all(|&count| count > 150), "{accepted:?} {refused:?}");
 }
 
 #[test]
 fn runs_are_the_independent_programs() {
-    for seed in 0..SEEDS {
+    for (seed, mode) in (0..SEEDS).flat_map(|seed| MODES.map(|mode| (seed, mode))) {
         let scene = good(seed);
         let mut flume = Flume::from_record(&scene.record()).unwrap();
+        flume.mode = mode;
         let (mut first, n) = (store(&scene.state), scene.state.cells.len());
         let (mut second, mut marks) = (blank(n), vec![0; n]);
         let wanted = reference::run(
             scene.sides,
-            scene.settings.p,
+            relaxation(scene.settings.p, mode),
             scene.settings.gravity,
             40,
             first.lend_mut(),
@@ -229,7 +262,7 @@ fn runs_are_the_independent_programs() {
         );
         let stopped =
             wanted.refusal.map(|refusal| Stopped { count: wanted.count as usize, refusal: ours(refusal) });
-        assert_eq!(flume.run(40).err(), stopped, "seed {seed}");
+        assert_eq!(flume.run(40).err(), stopped, "seed {seed}, {mode:?}");
         assert!(flume.state() == to_read(&first), "seed {seed}");
         assert_eq!(flume.check(), Ok(()));
     }

@@ -2,8 +2,8 @@
 
 use oracle::record::written_back;
 use skwarzyna::{
-    words_of, CellPoint, Counts, Depth, Grid, Point, Refusal, Settings, Sides, Site, Stopped, Water, EMPTY,
-    FLUID, FULL, INTERFACE, ONE, PARTS, WALL,
+    words_of, CellPoint, Counts, Depth, Grid, Mode, Point, Refusal, Settings, Sides, Site, Stopped, Water,
+    EMPTY, FLUID, FULL, INTERFACE, ONE, PARTS, WALL,
 };
 
 /// Case T of document 01: its record, and what the record holds.
@@ -95,6 +95,33 @@ fn case_t_steps_as_document_01_says() {
         format!("{fluid} {interface} {empty} {wall} {} {}", grid.total(), grid.water().carry)
     };
     assert_eq!(format!("before {}\nstep 0 0\nafter {}\n", line(&before), line(&grid)), PRINTED);
+}
+
+#[test]
+fn case_u_has_a_p_of_its_own_in_the_turbulent_mode() {
+    let still = Settings { p: 2037, gx: 0, gy: 0, gz: 0 };
+    let mut sheared = case_t();
+    let parts = &mut sheared.state_mut().parts[PARTS * MIDDLE..][..PARTS];
+    (parts[1], parts[2], parts[5], parts[6]) = (33_768, 33_768, 31_768, 31_768);
+    for (mode, along, up) in [(Mode::Plain, 31_779, 33_757), (Mode::Turbulent, 31_795, 33_741)] {
+        let (mut grid, mut run) = (sheared.clone(), sheared.clone());
+        assert_eq!(grid.step(still.in_mode(mode)), Ok(()));
+        let parts = &grid.state().parts[PARTS * MIDDLE..][..PARTS];
+        assert_eq!((&parts[1..3], &parts[5..7]), (&[along; 2][..], &[up; 2][..]));
+        assert_eq!(run.run(1, still.in_mode(mode)), Ok(()));
+        assert_eq!(run, grid);
+        assert_eq!(grid.total(), sheared.total());
+        // Test 3 is of the plain p, whatever a cell's own would be.
+        let above = Settings { p: 2038, ..still };
+        assert_eq!(grid.step(above.in_mode(mode)), Err(refusal(3, 0)));
+    }
+    // Settings alone are the plain mode, and case T has p for its own p.
+    let mut plain = sheared.clone();
+    assert_eq!((plain.step(still), sheared.step(still.in_mode(Mode::Plain))), (Ok(()), Ok(())));
+    assert_eq!(plain, sheared);
+    let (mut plain, mut turbulent) = (case_t(), case_t());
+    assert_eq!((plain.step(FALLING), turbulent.step(FALLING.in_mode(Mode::Turbulent))), (Ok(()), Ok(())));
+    assert_eq!(plain, turbulent);
 }
 
 #[test]

@@ -7,8 +7,8 @@ use std::process::{Command, Output, Stdio};
 use oracle::mirror::turned_state;
 use oracle::scenes::good;
 use oracle::state::State as Wanted;
-use oracle::Store;
-use skwarzyna::{lent, Axis, Grid, HeldMut, IndexMut, Refusal, Settings, Sides, StateMut, INTERFACE};
+use oracle::{Relaxation, Store};
+use skwarzyna::{lent, Axis, Grid, HeldMut, IndexMut, Mode, Refusal, Settings, Sides, StateMut, INTERFACE};
 
 const CASE_T: &[u8] = include_bytes!("../../../crates/gridstep/stdin");
 const AXES: [Axis; 3] = [Axis::X, Axis::Y, Axis::Z];
@@ -48,7 +48,8 @@ fn there_and_back_beside_the_independent_program() {
 
 #[test]
 fn mirrored_water_beside_water() {
-    for seed in 0..300 {
+    let modes = [Mode::Plain, Mode::Turbulent];
+    for (seed, mode) in (0..300).flat_map(|seed| modes.map(|mode| (seed, mode))) {
         let scene = good(seed);
         let record = Grid::read(&scene.record()).unwrap();
         let axis = AXES[seed as usize % 3];
@@ -57,12 +58,12 @@ fn mirrored_water_beside_water() {
         let converted = oracle::step::draft(
             &scene.grid(),
             &Wanted::of(Store::of(&scene.state).lend()),
-            scene.settings.p,
+            Relaxation { p: scene.settings.p, turbulent: mode == Mode::Turbulent },
             scene.settings.gravity,
         )
         .map(|draft| draft.fates.iter().any(|&fate| fate != oracle::step::Fate::Stays));
-        if grid.step(record.settings).is_ok() && converted == Ok(false) {
-            assert_eq!(beside.step(record.settings.mirrored(axis)), Ok(()));
+        if grid.step(record.settings.in_mode(mode)).is_ok() && converted == Ok(false) {
+            assert_eq!(beside.step(record.settings.mirrored(axis).in_mode(mode)), Ok(()));
             assert_eq!(beside, grid.mirrored(axis).unwrap());
         }
     }

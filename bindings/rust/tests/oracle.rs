@@ -2,11 +2,12 @@
 
 use oracle::record::written_back;
 use oracle::scenes::{good, settings};
-use oracle::{damage, random, text, Store};
-use skwarzyna::{Depth, Grid, Point, Refusal, Settings, Sides, Site, Stopped};
+use oracle::{damage, random, text, Relaxation, Store};
+use skwarzyna::{Depth, Grid, Mode, Point, Refusal, Settings, Sides, Site, Stopped};
 
 const SEEDS: u64 = 150;
 const STEPS: usize = 12;
+const MODES: [Mode; 2] = [Mode::Plain, Mode::Turbulent];
 
 fn refusal(theirs: oracle::Refusal) -> Refusal {
     Refusal { number: theirs.number as u8, place: theirs.place as usize }
@@ -21,6 +22,10 @@ fn flow(theirs: oracle::Settings) -> Settings {
     Settings { p: theirs.p.into(), gx, gy, gz }
 }
 
+fn relaxation(p: i32, mode: Mode) -> Relaxation {
+    Relaxation { p, turbulent: mode == Mode::Turbulent }
+}
+
 fn same(grid: &Grid, store: &Store) {
     let (ours, theirs) = (grid.state(), store.lend());
     assert_eq!(
@@ -29,11 +34,11 @@ fn same(grid: &Grid, store: &Store) {
     );
 }
 
-/// Number of steps accepted and refused, so that the test is seen to have looked at both.
+/// Number of steps accepted and refused in each mode, so that the test is seen to have looked at all.
 #[derive(Default)]
 struct Tally {
-    accepted: usize,
-    refused: usize,
+    accepted: [usize; 2],
+    refused: [usize; 2],
 }
 
 fn stepped(seed: u64, tally: &mut Tally) {
@@ -45,15 +50,15 @@ fn stepped(seed: u64, tally: &mut Tally) {
     let total = grid.total();
     assert_eq!(i128::from(total), scene.state.total());
     for _ in 0..STEPS {
-        let chosen = settings(random);
+        let (chosen, mode) = (settings(random), random.pick(&MODES));
         let n = store.flags.len();
         let (mut next, mut marks) = (Store::blank(n), vec![0; n]);
-        let theirs =
-            oracle::step(scene.sides, chosen.p, chosen.gravity, store.lend(), next.lend_mut(), &mut marks);
-        assert_eq!(grid.step(flow(chosen)), theirs.map_err(refusal), "seed {seed}");
+        let p = relaxation(chosen.p, mode);
+        let theirs = oracle::step(scene.sides, p, chosen.gravity, store.lend(), next.lend_mut(), &mut marks);
+        assert_eq!(grid.step(flow(chosen).in_mode(mode)), theirs.map_err(refusal), "seed {seed}");
         match theirs {
-            Ok(()) => tally.accepted += 1,
-            Err(_) => tally.refused += 1,
+            Ok(()) => tally.accepted[mode as usize] += 1,
+            Err(_) => tally.refused[mode as usize] += 1,
         }
         store = next;
         same(&grid, &store);
@@ -67,19 +72,20 @@ fn steps_are_the_same() {
     for seed in 0..SEEDS {
         stepped(seed, &mut tally);
     }
-    assert!(tally.accepted > 300 && tally.refused > 300, "{} {}", tally.accepted, tally.refused);
+    let Tally { accepted, refused } = tally;
+    assert!([accepted, refused].iter().flatten().all(|&count| count > 150), "{accepted:?} {refused:?}");
 }
 
 #[test]
 fn runs_are_the_same() {
-    for seed in 0..SEEDS {
+    for (seed, mode) in (0..SEEDS).flat_map(|seed| MODES.map(|mode| (seed, mode))) {
         let scene = good(seed);
         let mut grid = Grid::read(&scene.record()).unwrap().grid;
         let (mut first, n) = (Store::of(&scene.state), scene.state.cells.len());
         let (mut second, mut marks) = (Store::blank(n), vec![0; n]);
         let theirs = oracle::run(
             scene.sides,
-            scene.settings.p,
+            relaxation(scene.settings.p, mode),
             scene.settings.gravity,
             STEPS as u32,
             first.lend_mut(),
@@ -92,7 +98,7 @@ fn runs_are_the_same() {
             }
             None => Ok(()),
         };
-        assert_eq!(grid.run(STEPS, flow(scene.settings)), wanted, "seed {seed}");
+        assert_eq!(grid.run(STEPS, flow(scene.settings).in_mode(mode)), wanted, "seed {seed}, {mode:?}");
         same(&grid, &first);
     }
 }

@@ -7,7 +7,7 @@ use oracle::random::Random;
 use oracle::schemes::Change;
 use oracle::HeldStore;
 use skwarzyna::{
-    lent, Designer, Grid, Refusal, Scan, Scheme, Settings, Sides, State, FLUID, INTERFACE, ONE, WALL,
+    lent, Designer, Grid, Mode, Refusal, Scan, Scheme, Settings, Sides, State, FLUID, INTERFACE, ONE, WALL,
 };
 
 const SIDES: Sides = Sides::new(5, 3, 3);
@@ -177,19 +177,29 @@ fn state(scheme: &HeldStore) -> State<'_> {
     State { flags: set.flags, parts: set.parts, masses: set.masses, fills: set.fills, carry: set.carry }
 }
 
+fn mode(turbulent: bool) -> Mode {
+    if turbulent {
+        Mode::Turbulent
+    } else {
+        Mode::Plain
+    }
+}
+
 /// The same to a designer of the scan.
 fn asked(scheme: &mut Scheme, settings: oracle::Settings, asked: Asked) -> Told {
     let [gx, gy, gz] = settings.gravity.map(i64::from);
     let settings = Settings { p: settings.p.into(), gx, gy, gz };
     let (refusal, value) = match asked {
-        Asked::Own(Deed::Step) => {
-            let told = scheme.step(settings);
+        Asked::Own(Deed::Step { turbulent }) => {
+            let told = scheme.step(settings.in_mode(mode(turbulent)));
             (told.err(), i64::from(told.is_ok()))
         }
-        Asked::Own(Deed::Run(steps)) => match scheme.run(steps as usize, settings) {
-            Ok(()) => (None, steps.into()),
-            Err(stopped) => (Some(stopped.refusal), stopped.count as i64),
-        },
+        Asked::Own(Deed::Run { steps, turbulent }) => {
+            match scheme.run(steps as usize, settings.in_mode(mode(turbulent))) {
+                Ok(()) => (None, steps.into()),
+                Err(stopped) => (Some(stopped.refusal), stopped.count as i64),
+            }
+        }
         Asked::Own(Deed::Act(act, cell, amount)) => {
             let told = match act {
                 Act::Pour => scheme.pour(cell as usize, amount),

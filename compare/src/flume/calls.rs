@@ -66,6 +66,7 @@ pub fn step(case: &mut Case) -> Reply {
             case.p,
             gx,
             gz,
+            case.turbulent,
             &mut place,
         )
     };
@@ -143,6 +144,7 @@ pub fn run(case: &mut Case) -> Reply {
             case.p,
             gx,
             gz,
+            case.turbulent,
             &mut number,
             &mut place,
         )

@@ -8,10 +8,11 @@ use oracle::flume::state::State;
 use oracle::flume::step::draft;
 use oracle::random::Random;
 use oracle::step::Fate;
-use oracle::Store;
+use oracle::{Relaxation, Store};
 
 use super::cases::Case;
 use super::{calls, reference};
+use crate::library::in_mode;
 use crate::report::{Met, Outcome, Total, Wanted, Wish};
 
 /// Cases by seed.
@@ -58,7 +59,7 @@ fn written(case: &Case) -> Vec<u8> {
     case.room[..reply.values[0] as usize].to_vec()
 }
 
-/// A flume by seed and its reflection, stepped by the library side by side. A step that converts no cell leaves the reflected set; one that does leaves
+/// A flume by seed and its reflection, stepped by the library side by side, in either mode. A step that converts no cell leaves the reflected set; one that does leaves
 /// flags, parts and carry reflected, and the reflection is made anew.
 fn side_by_side(seed: u64) -> Vec<Outcome> {
     let random = &mut Random::new(seed ^ 0x0a11_cef1);
@@ -78,15 +79,19 @@ fn side_by_side(seed: u64) -> Vec<Outcome> {
     let mut outcomes = vec![Outcome { met: Met::new("back", NAMES[number]), differs }];
 
     for step in 0..STEPS {
-        let name = format!("in {}, good seed {seed}, step {step}", NAMES[number]);
+        let turbulent = random.percent(50);
+        (case.turbulent, beside.turbulent) = (turbulent, turbulent);
+        let call = in_mode("step", turbulent);
+        let name = format!("in {}, good seed {seed}, {call} {step}", NAMES[number]);
         let old = State::of(case.first.lend());
-        let converts = match draft(&grid, &old, scene.settings.p, scene.settings.gravity) {
-            Ok(draft) => draft.fates.iter().any(|&fate| fate != Fate::Stays),
-            Err(_) => false,
-        };
+        let converts =
+            match draft(&grid, &old, Relaxation { p: scene.settings.p, turbulent }, scene.settings.gravity) {
+                Ok(draft) => draft.fates.iter().any(|&fate| fate != Fate::Stays),
+                Err(_) => false,
+            };
         // Nothing is said of a refused step.
         if calls::step(&mut case).number != 0 {
-            outcomes.push(Outcome { met: Met::new("step", "refused"), differs: None });
+            outcomes.push(Outcome { met: Met::new(call, "refused"), differs: None });
             break;
         }
         let reply = calls::step(&mut beside);
@@ -104,7 +109,7 @@ fn side_by_side(seed: u64) -> Vec<Outcome> {
         };
         let met = if converts { "converting" } else { "calm" };
         outcomes.push(Outcome {
-            met: Met::new("step", met),
+            met: Met::new(call, met),
             differs: differs.map(|text| format!("{name}: {text}")),
         });
         case.first = case.second.clone();
@@ -126,9 +131,10 @@ pub fn compare(wish: &Wish, total: &mut Total) {
     });
 
     let title = format!(
-        "flumes and their reflections stepped side by side, {PAIRS} of them, up to {STEPS} steps, seeds from {}",
+        "flumes and their reflections stepped side by side, {PAIRS} of them, up to {STEPS} steps of both modes, seeds from {}",
         wish.from
     );
-    let wanted: &Wanted = &[("step", &["calm", "converting", "refused"]), ("back", &["x", "z"])];
+    let answers: &[&str] = &["calm", "converting", "refused"];
+    let wanted: &Wanted = &[("step", answers), ("turbulent step", answers), ("back", &["x", "z"])];
     total.compare(&title, wish, PAIRS as usize, wanted, |number| side_by_side(wish.from + number as u64));
 }

@@ -1,6 +1,7 @@
 // The independent program's functions of the flume, each on what a case lends. Values beside a refusal are 0, but for the run's count.
 
 use oracle::flume::{self, Settings};
+use oracle::Relaxation;
 
 use super::cases::Case;
 use crate::library::reference::{refused, reply, setting};
@@ -15,14 +16,18 @@ fn settings(case: &Case) -> Settings {
     Settings { p: setting(case.p), gravity: case.gravity.map(setting), edge: setting(case.edge) }
 }
 
+fn relaxation(case: &Case) -> Relaxation {
+    Relaxation { p: setting(case.p), turbulent: case.turbulent }
+}
+
 pub fn check(case: &mut Case) -> Reply {
     reply(flume::check(sides(case), case.first.lend()).map(|()| []))
 }
 
 pub fn step(case: &mut Case) -> Reply {
-    let (sides, settings) = (sides(case), settings(case));
+    let (sides, p, gravity) = (sides(case), relaxation(case), case.gravity.map(setting));
     let (first, second) = (case.first.lend(), case.second.lend_mut());
-    let outcome = flume::step(sides, settings.p, settings.gravity, first, second, &mut case.marks);
+    let outcome = flume::step(sides, p, gravity, first, second, &mut case.marks);
     reply(outcome.map(|()| []))
 }
 
@@ -33,10 +38,10 @@ pub fn mirror(case: &mut Case, axis: usize) -> Reply {
 }
 
 pub fn run(case: &mut Case) -> Reply {
-    let (sides, settings) = (sides(case), settings(case));
+    let (sides, p, gravity) = (sides(case), relaxation(case), case.gravity.map(setting));
     let steps = u32::try_from(case.steps).unwrap_or(u32::MAX);
     let (first, second) = (case.first.lend_mut(), case.second.lend_mut());
-    let ran = flume::run(sides, settings.p, settings.gravity, steps, first, second, &mut case.marks);
+    let ran = flume::run(sides, p, gravity, steps, first, second, &mut case.marks);
     let count = vec![ran.count.into()];
     match ran.refusal {
         None => Reply { number: 0, place: 0, values: count },

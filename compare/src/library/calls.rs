@@ -198,6 +198,7 @@ pub fn step(case: &mut Case) -> Reply {
             gx,
             gy,
             gz,
+            case.turbulent,
             &mut place,
         )
     };
@@ -251,6 +252,7 @@ pub fn run(case: &mut Case) -> Reply {
             gx,
             gy,
             gz,
+            case.turbulent,
             &mut number,
             &mut place,
         )

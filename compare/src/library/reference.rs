@@ -2,7 +2,7 @@
 
 use oracle::index;
 use oracle::readings::Depth;
-use oracle::{Held, HeldMut, Refusal, Settings};
+use oracle::{Held, HeldMut, Refusal, Relaxation, Settings};
 
 use super::cases::Case;
 use super::Reply;
@@ -18,6 +18,10 @@ pub fn setting(number: i64) -> i32 {
 
 fn settings(case: &Case) -> Settings {
     Settings { p: setting(case.p), gravity: case.gravity.map(setting), edge: setting(case.edge) }
+}
+
+fn relaxation(case: &Case) -> Relaxation {
+    Relaxation { p: setting(case.p), turbulent: case.turbulent }
 }
 
 /// The reply of a call that has so many values, all 0 beside a refusal.
@@ -64,19 +68,19 @@ pub fn surface_next(case: &mut Case) -> Reply {
 }
 
 pub fn step(case: &mut Case) -> Reply {
-    let (sides, settings) = (sides(case), settings(case));
+    let (sides, p, gravity) = (sides(case), relaxation(case), case.gravity.map(setting));
     let first = Held { set: case.first.lend(), index: case.first_index.lend() };
     let second = HeldMut { set: case.second.lend_mut(), index: case.second_index.lend_mut() };
-    let outcome = index::step(sides, settings.p, settings.gravity, first, second, &mut case.marks);
+    let outcome = index::step(sides, p, gravity, first, second, &mut case.marks);
     reply(outcome.map(|()| []))
 }
 
 pub fn run(case: &mut Case) -> Reply {
-    let (sides, settings) = (sides(case), settings(case));
+    let (sides, p, gravity) = (sides(case), relaxation(case), case.gravity.map(setting));
     let steps = u32::try_from(case.steps).unwrap_or(u32::MAX);
     let first = HeldMut { set: case.first.lend_mut(), index: case.first_index.lend_mut() };
     let second = HeldMut { set: case.second.lend_mut(), index: case.second_index.lend_mut() };
-    let ran = index::run(sides, settings.p, settings.gravity, steps, first, second, &mut case.marks);
+    let ran = index::run(sides, p, gravity, steps, first, second, &mut case.marks);
     let count = vec![ran.count.into()];
     match ran.refusal {
         None => Reply { number: 0, place: 0, values: count },

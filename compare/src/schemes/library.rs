@@ -138,7 +138,8 @@ impl Calls for Library {
     fn deed(deed: Deed, sides: [u32; 3], settings: &Settings, grid: &mut HeldStore) -> Told {
         let mut case = Case::of_grid(wide(sides), settings, grid.clone());
         match deed {
-            Deed::Step => {
+            Deed::Step { turbulent } => {
+                case.turbulent = turbulent;
                 let reply = calls::step(&mut case);
                 if [0, 7, 8].contains(&reply.number) {
                     // Poured and taken stay as they were, whether a step is lent them or not.
@@ -148,8 +149,8 @@ impl Calls for Library {
                 }
                 told(&reply, i64::from(reply.number == 0))
             }
-            Deed::Run(steps) => {
-                case.steps = steps as usize;
+            Deed::Run { steps, turbulent } => {
+                (case.steps, case.turbulent) = (steps as usize, turbulent);
                 let reply = calls::run(&mut case);
                 *grid = HeldStore { set: case.first, index: case.first_index };
                 told(&reply, reply.values[0] as i64)

@@ -23,12 +23,16 @@ use Rattle.profile.specs.Outcome.{open-answer}
 use Rattle.figures.specs.Designers.{designerFigures}
 use Rattle.figures.specs.Lakes.{poolFigures}
 use Rattle.figures.specs.Table.{figures, hold}
+use Rattle.figures.specs.Turbulent.{turbulentFigures}
 use Rattle.figures.proofs.Designers.{designers-hold}
 use Rattle.figures.proofs.Lakes.{lakes-hold, hold-both}
+use Rattle.figures.proofs.Turbulent.{turbulent-hold}
 
 computed : T (hold figures)
 unfolding open-fold open-lattice open-cell open-body open-grid open-state open-step open-good open-outcome grid.open-demands open-three open-acts open-demands open-index index.open-outcome open-place open-depth open-profile open-answer
 computed = tt
 
-pub stars : T (hold (figures ++ (poolFigures ++ designerFigures)))
-stars = hold-both figures (poolFigures ++ designerFigures) computed (hold-both poolFigures designerFigures lakes-hold designers-hold)
+pub stars : T (hold (figures ++ (turbulentFigures ++ (poolFigures ++ designerFigures))))
+stars =
+    hold-both figures (turbulentFigures ++ (poolFigures ++ designerFigures)) computed
+    (hold-both turbulentFigures (poolFigures ++ designerFigures) turbulent-hold (hold-both poolFigures designerFigures lakes-hold designers-hold))

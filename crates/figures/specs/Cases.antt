@@ -1,6 +1,7 @@
 -- The grids of the worked figures as lent sets: case T of document 01, a 3×3×3 grid, all wall but the centre, which is interface; and the two of P6.
 -- Assumes nothing.
 use Prim.Native.Nat.{ℕ}
+use mathlib.Core.Bool.{false}
 use mathlib.Core.List.{List, [], _∷_, _++_}
 use lib.IntN.{ℤ, pos, negsuc}
 use lib.ListN.{replicate, set}
@@ -17,7 +18,7 @@ sides = record { nx = 3; ny = 3; nz = 3 }
 
 -- p 1024, and gravity straight down
 abbrev pub settings : ℤ → Settings
-settings gz = record { p = pos 1024; gx = pos 0; gy = pos 0; gz = gz }
+settings gz = record { p = pos 1024; gx = pos 0; gy = pos 0; gz = gz; turbulent = false }
 
 abbrev pub falling : Settings
 falling = settings (negsuc 1023)

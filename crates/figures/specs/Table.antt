@@ -50,7 +50,7 @@ weights k = getD (pos 0 ∷ pos 1 ∷ pos 1 ∷ pos 2 ∷ []) k (pos 0)
 
 -- what a step of case T answers under gravity (gx, 0, −1048)
 abbrev pulledBy : ℤ → Answer
-pulledBy gx = stepAnswer sides (record { p = pos 1024; gx = gx; gy = pos 0; gz = negsuc 1047 }) caseT caseT marks
+pulledBy gx = stepAnswer sides (record { p = pos 1024; gx = gx; gy = pos 0; gz = negsuc 1047; turbulent = false }) caseT caseT marks
 
 -- placing in a grid of 10×3×3 cells at the height and side of its origin, where the cell's number is its place on the axis of 10
 abbrev placed : ℤ → Placed

@@ -21,9 +21,12 @@ use Rattle.lattice.specs.declared.Settings.{Settings}
 use Rattle.lattice.proofs.Momentum.{x-in, y-in, z-in, density-in}
 use Rattle.lattice.proofs.Ranges.{weak-x, weak-y, weak-z}
 use Rattle.lattice.proofs.Tame.{pull-in}
+use Rattle.lattice.proofs.Paired.{paired19}
 use Rattle.collision.specs.Post.{Pulled}
+use Rattle.turbulence.proofs.Laws.{own-cong}
 use Rattle.grid.specs.State.{Scene, byFlag, liquid}
 use Rattle.grid.specs.Step.{seen, normal, oldDensity, oldMomentum, leansTo, rebuilt, rebuild, arrives, streamed, newDensity, newMomentum, tooFast, collidedDir, collided}
+use Rattle.grid.specs.Mode.{ownAt, relaxIn, before}
 use Rattle.grid.specs.Between.{movedPart}
 use Rattle.grid.specs.Outcome.{settingsGood}
 use Rattle.grid.specs.Sight.{weighing, noSettings, sight}
@@ -32,6 +35,8 @@ use Rattle.grid.proofs.Blocks.{length-pasted}
 use Rattle.grid.proofs.Same.{density-same, momentum-same, body-same}
 use Rattle.flow.specs.declared.moving.Put.{Put}
 use Rattle.flow.specs.PutAt.{Told, PutAt}
+use Rattle.flow.specs.Relaxed.{relaxedBy}
+use Rattle.flow.proofs.Plain.{axial19, streamed-same, new-density-same, new-momentum-same}
 
 by-liquid {ℓ} : {A : Type ℓ} (f : ℕ) (d x : A) → liquid f ≡ true → byFlag f d x x d ≡ x
 by-liquid zero d x h = absurd (false≢true h)
@@ -92,12 +97,32 @@ module _ (weights : ℕ → ℕ) (flags : List ℕ) (part : ℕ → ℕ → ℤ)
         ap₂ (λ (x : ℤ) (m : V3). dense x && slow x (dot m m)) rho-is vec-is
         ∙ passed (liquid (getD flags c 3)) _ l
 
-    along : (i : ℕ) → i ≤ 18 → relaxedDir (weighing weights) (w .rho) (vec w) (g .p) (partsOf f) i ≡ collidedDir S c i
+    -- the cell's relaxation as the code has it
+    abbrev pace : ℤ
+    pace = relaxedBy (g .turbulent) (weighing weights) (w .rho) (vec w) (g .p) (partsOf f)
+
+    abbrev calm : Scene
+    calm = before (weighing weights) (S .grid) (S .old .flag) (S .old .part) (S .old .fill) (S .g)
+
+    pace-in : (mode : Bool) → relaxedBy mode (weighing weights) (w .rho) (vec w) (g .p) (partsOf f) ≡ relaxIn mode calm (g .p) c
+    unfolding relaxedBy ownAt sight d3q19
+    pace-in false = refl
+    pace-in true =
+        own-cong (weighing weights) (w .rho) (newDensity calm c) (vec w) (newMomentum calm c) (g .p) (partsOf f) (streamed calm c)
+        (rho-is ∙ new-density-same (weighing weights) (paired19 .dir) axial19 (S .grid) (S .grid) (S .old .flag) part (S .old .fill) c (λ i h. refl) (S .old .mass) (calm .old .mass) (S .old .carry) (calm .old .carry) (S .g) (S .g) (S .relax) (calm .relax))
+        (vec-is ∙ new-momentum-same (weighing weights) (paired19 .dir) axial19 (S .grid) (S .grid) (S .old .flag) part (S .old .fill) c (λ i h. refl) (S .old .mass) (calm .old .mass) (S .old .carry) (calm .old .carry) (S .g) (S .relax) (calm .relax))
+        (λ i h. part-is i h ∙ streamed-same (weighing weights) (paired19 .dir) axial19 (S .grid) (S .grid) (S .old .flag) part (S .old .fill) c (λ i h. refl) (S .old .mass) (calm .old .mass) (S .old .carry) (calm .old .carry) (S .g) (S .g) (S .relax) (calm .relax) i h)
+
+    pace-is : pace ≡ S .relax c
+    unfolding sight
+    pace-is = pace-in (g .turbulent)
+
+    along : (i : ℕ) → i ≤ 18 → relaxedDir (weighing weights) (w .rho) (vec w) pace (partsOf f) i ≡ collidedDir S c i
     unfolding relaxedDir collidedDir sight
-    along i h t = relaxed (g .p) (weights i) (quad (rho-is t) (dot (d3q19 .e i) (vec-is t)) (dot (vec-is t) (vec-is t))) (rho-is t) (part-is i h t)
+    along i h t = relaxed (pace-is t) (weights i) (quad (rho-is t) (dot (d3q19 .e i) (vec-is t)) (dot (vec-is t) (vec-is t))) (rho-is t) (part-is i h t)
 
     -- stage 4
-    pub collided-is : (k : ℕ) → k ≤ 18 → collidedPart (weighing weights) (w .rho) (vec w) (g .p) (partsOf f) k ≡ collided S c k
+    pub collided-is : (k : ℕ) → k ≤ 18 → collidedPart (weighing weights) (w .rho) (vec w) pace (partsOf f) k ≡ collided S c k
     unfolding collidedPart collided sight d3q19
     collided-is zero h = ap₂ _-ℤ_ rho-is (sum-cong 18 _ _ (λ a k. along (suc a) (omega arith)))
     collided-is (suc a) h = along (suc a) h
@@ -117,7 +142,7 @@ module _ (weights : ℕ → ℕ) (flags : List ℕ) (part : ℕ → ℕ → ℤ)
       pub put-refused : (out : List ℤ) (b : Put) → b .ok ≡ false → steadyFlow w ≡ false → PutAt S c out out b
       put-refused out b n e = record { kept = refl; told = told-refused b n e; parts = λ h. absurd (false≢true (sym n ∙ h)) }
 
-      module _ (x : List ℤ) (made : x ≡ tab 19 (collidedPart (weighing weights) (w .rho) (vec w) (g .p) (partsOf f))) where
+      module _ (x : List ℤ) (made : x ≡ tab 19 (collidedPart (weighing weights) (w .rho) (vec w) pace (partsOf f))) where
         new-part : (k : ℕ) → k ≤ 18 → partsOf x k ≡ collided S c k
         new-part k h = ap (λ (y : List ℤ). getD y k (pos 0)) made ∙ getD-tab 19 _ (pos 0) k (omega arith) ∙ collided-is k h
 

@@ -5,9 +5,11 @@ pub mod Spans
 pub mod Leans
 pub mod Arrivals
 pub mod Mirrored
+pub mod Paces
+pub mod Plain
 pub mod Collisions
 pub mod Marking
-pub mod Plain
 pub mod Poise
+pub mod Modes
 pub mod Onward
 pub mod Walked

@@ -15,8 +15,9 @@ use Rattle.grid.specs.Grid.{Grid}
 use Rattle.grid.specs.State.{Scene, byFlag, liquid}
 use Rattle.grid.specs.Step.{newDensity, tradedMass, tooFast, collided}
 use Rattle.grid.specs.Between.{movedPart, movedMass, firstMark}
+use Rattle.grid.specs.Mode.{sceneBy}
 use Rattle.grid.specs.Sight.{weighing, noSettings, sight}
-use Rattle.flow.proofs.Plain.{axial19, new-density-same, too-fast-same, collided-same, traded-mass-same}
+use Rattle.flow.proofs.Plain.{axial19, new-density-same, too-fast-same, relax-same, collided-same, traded-mass-same}
 
 -- ---- by cases on the flag alone
 dry-part : (f : ℕ) (x y : ℤ) → (liquid f ≡ true → x ≡ y) → byFlag f (pos 0) x x (pos 0) ≡ byFlag f (pos 0) y y (pos 0)
@@ -40,13 +41,8 @@ mark-cases (suc (suc (suc k))) m n r q h = refl
 
 -- a step's scene: a grid, and a set's lists, with parts as a function
 abbrev pub stepOn : (ℕ → ℕ) → Grid → Settings → List ℕ → (ℕ → ℕ → ℤ) → List ℤ → List ℕ → ℤ → Scene
-stepOn weights G g flags part masses fills carry = record {
-  lat = weighing weights;
-  grid = G;
-  old = record { flag = λ c. getD flags c 3; part = part; mass = λ c. getD masses c (pos 0); fill = λ c. getD fills c 0; carry = carry };
-  g = record { x = g .gx; y = g .gy; z = g .gz };
-  relax = λ c. g .p;
-}
+stepOn weights G g flags part masses fills carry =
+    sceneBy (weighing weights) G (record { flag = λ c. getD flags c 3; part = part; mass = λ c. getD masses c (pos 0); fill = λ c. getD fills c 0; carry = carry }) g
 
 module _ (weights : ℕ → ℕ) (G : Grid) (g : Settings) (flags : List ℕ) (part : ℕ → ℕ → ℤ) (masses : List ℤ) (fills : List ℕ) (carry : ℤ) (off : List ℕ) (low c : ℕ)
     (placed : liquid (getD flags c 3) ≡ true → (i : ℕ) → i < 19 → c - low + getD off i 0 ≡ G .near c i) where
@@ -76,13 +72,19 @@ module _ (weights : ℕ → ℕ) (G : Grid) (g : Settings) (flags : List ℕ) (p
     unfolding sight
     wet-fast =
         too-fast-same (weighing weights) (paired19 .dir) axial19 (seen .grid) (step .grid) (step .old .flag) (step .old .part) (step .old .fill) c (near l)
-        (seen .old .mass) (step .old .mass) (seen .old .carry) (step .old .carry) (step .g) (step .relax)
+        (seen .old .mass) (step .old .mass) (seen .old .carry) (step .old .carry) (step .g) (seen .relax) (step .relax)
+
+    relax-seen : seen .relax c ≡ step .relax c
+    unfolding sight
+    relax-seen =
+        relax-same (weighing weights) (paired19 .dir) axial19 (seen .grid) (step .grid) (step .old .flag) (step .old .part) (step .old .fill) c (near l)
+        (g .turbulent) (step .g) (g .p)
 
     pub collided-seen : (k : ℕ) → k ≤ 18 → collided seen c k ≡ collided step c k
     unfolding sight d3q19
     collided-seen =
         collided-same (weighing weights) (paired19 .dir) axial19 (seen .grid) (step .grid) (step .old .flag) (step .old .part) (step .old .fill) c (near l)
-        (seen .old .mass) (step .old .mass) (seen .old .carry) (step .old .carry) (step .g) (step .relax)
+        (seen .old .mass) (step .old .mass) (seen .old .carry) (step .old .carry) (step .g) (seen .relax) (step .relax) relax-seen
 
     traded-seen : tradedMass trader c ≡ tradedMass step c
     unfolding sight

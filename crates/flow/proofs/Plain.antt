@@ -11,9 +11,11 @@ use Rattle.whole.specs.Search.{Dir, as-dir}
 use Rattle.whole.specs.Sums.{sum-cong}
 use Rattle.lattice.specs.Lattice.{V3, dot, Lattice, d3q19, density, momentum}
 use Rattle.lattice.specs.Cell.{dense, slow, gas, exchange, isPositive, pull, quad, relaxed, over, under}
+use Rattle.turbulence.proofs.Laws.{own-cong}
 use Rattle.grid.specs.Grid.{Grid}
 use Rattle.grid.specs.State.{State, Scene, byFlag, liquid}
 use Rattle.grid.specs.Step.{seen, normal, oldDensity, oldMomentum, leansTo, rebuilt, rebuild, arrives, streamed, difference, traded, tradedMass, newDensity, newMomentum, tooFast, collidedDir, collided}
+use Rattle.grid.specs.Mode.{ownAt, relaxIn, before}
 use Rattle.grid.specs.Between.{movedPart, movedMass, firstMark}
 use Rattle.grid.specs.Sight.{weighing}
 use Rattle.grid.proofs.Same.{density-same, momentum-same}
@@ -75,19 +77,19 @@ module _ (L : Lattice) (turned : (i : ℕ) → Dir (L .q) i → Dir (L .q) (L .o
     unfolding newDensity
     new-density-same = density-same L (streamed S c) (streamed S′ c) streamed-same
 
-  -- stages 3 and 4 turn on gravity and relaxation too
-  module _ (mass mass′ : ℕ → ℤ) (carry carry′ : ℤ) (g : V3) (p : ℕ → ℤ) where
+  -- stages 3 and 4 turn on gravity and the cell's relaxation too
+  module _ (mass mass′ : ℕ → ℤ) (carry carry′ : ℤ) (g : V3) (p p′ : ℕ → ℤ) where
     abbrev M : Scene
     M = with-flow L G flag part mass fill carry g p
 
     abbrev M′ : Scene
-    M′ = with-flow L H flag part mass′ fill carry′ g p
+    M′ = with-flow L H flag part mass′ fill carry′ g p′
 
     density-is : newDensity M c ≡ newDensity M′ c
-    density-is = new-density-same mass mass′ carry carry′ g g p p
+    density-is = new-density-same mass mass′ carry carry′ g g p p′
 
     streamed-is : (k : ℕ) → k ≤ L .q → streamed M c k ≡ streamed M′ c k
-    streamed-is = streamed-same mass mass′ carry carry′ g g p p
+    streamed-is = streamed-same mass mass′ carry carry′ g g p p′
 
     pub new-momentum-same : newMomentum M c ≡ newMomentum M′ c
     unfolding newMomentum
@@ -103,20 +105,31 @@ module _ (L : Lattice) (turned : (i : ℕ) → Dir (L .q) i → Dir (L .q) (L .o
     unfolding tooFast
     too-fast-same = ap₂ (λ (ρ : ℤ) (j : V3). liquid (flag c) && not (dense ρ && slow ρ (dot j j))) density-is new-momentum-same
 
-    collided-dir-same : (i : ℕ) → i ≤ L .q → collidedDir M c i ≡ collidedDir M′ c i
-    unfolding collidedDir
-    collided-dir-same i h t =
-        relaxed (p c) (L .weight i) (quad (density-is t) (dot (L .e i) (new-momentum-same t)) (dot (new-momentum-same t) (new-momentum-same t))) (density-is t) (streamed-is i h t)
+    pub own-same : (q : ℤ) → ownAt M q c ≡ ownAt M′ q c
+    unfolding ownAt
+    own-same q =
+        own-cong L (newDensity M c) (newDensity M′ c) (newMomentum M c) (newMomentum M′ c) q (streamed M c) (streamed M′ c) density-is new-momentum-same streamed-is
 
-    pub collided-same : (k : ℕ) → k ≤ L .q → collided M c k ≡ collided M′ c k
-    unfolding collided
-    collided-same zero h =
-        ap₂ (λ (x y : ℤ). x -ℤ y) density-is (sum-cong (L .q) (λ a. collidedDir M c (suc a)) (λ a. collidedDir M′ c (suc a)) (λ a k. collided-dir-same (suc a) k))
-    collided-same (suc a) h = collided-dir-same (suc a) h
+    module _ (alike : p c ≡ p′ c) where
+      collided-dir-same : (i : ℕ) → i ≤ L .q → collidedDir M c i ≡ collidedDir M′ c i
+      unfolding collidedDir
+      collided-dir-same i h t =
+          relaxed (alike t) (L .weight i) (quad (density-is t) (dot (L .e i) (new-momentum-same t)) (dot (new-momentum-same t) (new-momentum-same t))) (density-is t) (streamed-is i h t)
 
-    pub moved-part-same : (k : ℕ) → k ≤ L .q → movedPart M c k ≡ movedPart M′ c k
-    unfolding movedPart
-    moved-part-same k h = ap (λ (x : ℤ). byFlag (flag c) (pos 0) x x (pos 0)) (collided-same k h)
+      pub collided-same : (k : ℕ) → k ≤ L .q → collided M c k ≡ collided M′ c k
+      unfolding collided
+      collided-same zero h =
+          ap₂ (λ (x y : ℤ). x -ℤ y) density-is (sum-cong (L .q) (λ a. collidedDir M c (suc a)) (λ a. collidedDir M′ c (suc a)) (λ a k. collided-dir-same (suc a) k))
+      collided-same (suc a) h = collided-dir-same (suc a) h
+
+      pub moved-part-same : (k : ℕ) → k ≤ L .q → movedPart M c k ≡ movedPart M′ c k
+      unfolding movedPart
+      moved-part-same k h = ap (λ (x : ℤ). byFlag (flag c) (pos 0) x x (pos 0)) (collided-same k h)
+
+  -- in either mode the cell's relaxation turns on no mass, no carry and no other relaxation
+  pub relax-same : (mode : Bool) (g : V3) (q : ℤ) → relaxIn mode (before L G flag part fill g) q c ≡ relaxIn mode (before L H flag part fill g) q c
+  relax-same false g q = refl
+  relax-same true g q = own-same (λ d. pos 0) (λ d. pos 0) (pos 0) (pos 0) g (λ d. pos 0) (λ d. pos 0) q
 
   -- stage 2 turns on masses and fills
   module _ (mass : ℕ → ℤ) (carry carry′ : ℤ) (g g′ : V3) (p p′ : ℕ → ℤ) where

@@ -2,3 +2,4 @@ pub mod Trade
 pub mod Sources
 pub mod PutAt
 pub mod Flowed
+pub mod Relaxed

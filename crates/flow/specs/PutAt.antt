@@ -3,11 +3,12 @@ use mathlib.Core.Path.{_≡_}
 use mathlib.Core.Bool.{true, not}
 use mathlib.Core.List.{List}
 use Prim.Native.Nat.{ℕ, _*_, _<_}
-use lib.IntN.{ℤ, pos}
+use lib.IntN.{ℤ, pos, natAbs}
 use lib.ListN.{length, getD}
 use Rattle.whole.specs.Fold.{tab}
 use Rattle.lattice.specs.Lattice.{d3q19}
 use Rattle.lattice.specs.declared.Settings.{Settings}
+use Rattle.turbulence.specs.Post.{Keeps}
 use Rattle.grid.specs.State.{Scene, byFlag, liquid}
 use Rattle.grid.specs.Step.{flagAt, newDensity, tooFast, collided}
 use Rattle.lattice.specs.Body.{bodyGood}
@@ -32,7 +33,7 @@ pub record PutAt (S : Scene) (c : ℕ) (before after : List ℤ) (r : Put) : Typ
   pub parts : r .ok ≡ true → after ≡ pasted before (19 * c) (tab 19 (movedPart S c))
 
 -- what the code asks at cell c: a liquid cell has its neighbours around it, and is fluid with liquid all around where pass 0 marked it
-pub record Putting (flags : List ℕ) (parts : List ℤ) (fills : List ℕ) (room : List ℤ) (mark : ℕ) (off from : List ℕ) (low c : ℕ) (g : Settings) : Type 0 where
+pub record Putting (flags : List ℕ) (parts : List ℤ) (fills : List ℕ) (room : List ℤ) (mark : ℕ) (off from : List ℕ) (low c : ℕ) (g : Settings) (keep : ℕ) : Type 0 where
   pub bodied : Bodied flags parts
   pub filled : Fills flags fills
   pub is-cell : c < length flags
@@ -41,4 +42,5 @@ pub record Putting (flags : List ℕ) (parts : List ℤ) (fills : List ℕ) (roo
   pub sources : from ≡ tab 19 (sourceOf off)
   pub marked : liquid (getD flags c 3) ≡ true → mark ≡ 1 → Immersed flags off low c
   pub settings : settingsGood g ≡ true
+  pub keeps : Keeps (natAbs (g .p)) keep
   pub size : length room ≡ length parts

@@ -2,5 +2,6 @@
 pub mod marks;
 pub mod moving;
 pub mod passing;
+pub mod relaxing;
 pub mod streaming;
 pub mod trading;

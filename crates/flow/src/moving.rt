@@ -1,4 +1,5 @@
 // Stages 1 to 4 of one cell, written where they belong.
+use crate::relaxing::relaxation;
 use crate::streaming::chosen;
 use collision::collide::collided;
 use collision::gravity::pulled;
@@ -13,11 +14,12 @@ ghost use mathlib.Core.Path.{_≡_};
 ghost use mathlib.Core.Bool.{true};
 ghost use mathlib.Core.List.{List, []};
 ghost use Prim.Native.Nat.{ℕ, _+_, _*_, _≤_};
-ghost use lib.IntN.{ℤ, pos};
+ghost use lib.IntN.{ℤ, pos, natAbs};
 ghost use lib.ListN.{length, getD, replicate};
 ghost use Rattle.whole.specs.Fold.{tab};
 ghost use Rattle.lattice.specs.Lattice.{d3q19};
 ghost use Rattle.lattice.specs.Body.{partsOf, Bounded, bodyGood};
+ghost use Rattle.turbulence.specs.Post.{Keeps};
 ghost use Rattle.grid.specs.State.{liquid};
 ghost use Rattle.grid.specs.Step.{streamed};
 ghost use Rattle.grid.specs.Outcome.{settingsGood};
@@ -48,8 +50,15 @@ fn fair(f: [i32; 19]) -> bool
 }
 
 // Stages 3 and 4 of a liquid cell c into which f streamed.
-fn put_moved(f: [i32; 19], parts2: &mut [i32], c: usize, g: Settings) -> Put
-    requires { ⌜ Bounded f 1572864 1572864 × (settingsGood g ≡ true) × (19 * c + 19 ≤ length (now parts2)) ⌝ }
+fn put_moved(
+    f: [i32; 19],
+    parts2: &mut [i32],
+    c: usize,
+    g: Settings,
+    keep: u64,
+    surface: bool,
+) -> Put
+    requires { ⌜ Bounded f 1572864 1572864 × (settingsGood g ≡ true) × (19 * c + 19 ≤ length (now parts2)) × Keeps (natAbs (g .p)) keep ⌝ }
     ensures { λ r. ⌜ ((flags : List ℕ) (parts : List ℤ) (fills off : List ℕ) (low : ℕ) → liquid (getD flags c 3) ≡ true → f ≡ tab 19 (streamed (boxSight flags parts [] fills off low noSettings) c) → PutAt (boxSight flags parts [] fills off low g) c (now (parts2 .entry)) (now (parts2 .exit)) r) ⌝ }
 {
     let v = pulled(flow_of(f), g);
@@ -60,7 +69,7 @@ fn put_moved(f: [i32; 19], parts2: &mut [i32], c: usize, g: Settings) -> Put
             rho: 0,
         };
     }
-    let r = collided(f, v, g.p);
+    let r = collided(f, v, relaxation(f, v, g, keep, surface));
     paste(parts2, 19 * c, r);
     Put {
         ok: true,
@@ -92,8 +101,9 @@ pub(crate) fn put_parts(
     low: usize,
     c: usize,
     g: Settings,
+    keep: u64,
 ) -> Put
-    requires { ⌜ Putting (now flags) (now parts) (now fill) (now parts2) mark (now off) (now from) low c g ⌝ }
+    requires { ⌜ Putting (now flags) (now parts) (now fill) (now parts2) mark (now off) (now from) low c g keep ⌝ }
     ensures { λ r. ⌜ PutAt (boxSight (now (flags .entry)) (now (parts .entry)) [] (now (fill .entry)) (now (off .entry)) low g) c (now (parts2 .entry)) (now (parts2 .exit)) r ⌝ }
 {
     if wet(flags[c]) {
@@ -102,6 +112,8 @@ pub(crate) fn put_parts(
             parts2,
             c,
             g,
+            keep,
+            flags[c] == 1,
         );
     }
     dry_out(parts2, c);

@@ -1,5 +1,6 @@
 // Pass 1: stages 1 to 4 of every cell, and the marks that stage 5 makes of it.
 use crate::moving;
+use crate::relaxing;
 use crate::streaming;
 use crate::trading;
 use grid::Sides;
@@ -30,11 +31,24 @@ pub fn flowing(
     let off = neighbours::offsets(s);
     let low = neighbours::low_of(s);
     let from = streaming::sources(off, low);
+    let keep = relaxing::keeping(g);
     let mut fair = true;
     let mut still = true;
     let mut c = 0;
     while c < flags.len() {
-        let o = moving::put_parts(flags, parts, fill, parts2, marks[c], &off, &from, low, c, g);
+        let o = moving::put_parts(
+            flags,
+            parts,
+            fill,
+            parts2,
+            marks[c],
+            &off,
+            &from,
+            low,
+            c,
+            g,
+            keep,
+        );
         if !o.ok {
             return Passed::Stopped(c);
         }

@@ -1,6 +1,7 @@
 -- The grids of the flume's worked figures as lent sets: case F of P3, a 3×3 flume, all wall but the centre, which is interface; and a 4×4 one whose inner
 -- cells are interface at rest. Assumes nothing.
 use Prim.Native.Nat.{ℕ}
+use mathlib.Core.Bool.{Bool, true, false}
 use mathlib.Core.List.{List, [], _∷_, _++_}
 use lib.IntN.{ℤ, pos, negsuc}
 use lib.ListN.{replicate, set}
@@ -12,9 +13,13 @@ use Rattle.flume.specs.declared.FlumeSettings.{FlumeSettings}
 abbrev pub square : ℕ → FlumeSides
 square n = record { nx = n; nz = n }
 
+-- p 2037 without gravity, in either mode
+abbrev pub quick : Bool → FlumeSettings
+quick turbulent = record { p = pos 2037; gx = pos 0; gz = pos 0; turbulent = turbulent }
+
 -- p 1024
 abbrev pub pulled : ℤ → ℤ → FlumeSettings
-pulled gx gz = record { p = pos 1024; gx = gx; gz = gz }
+pulled gx gz = record { p = pos 1024; gx = gx; gz = gz; turbulent = false }
 
 abbrev pub falling : FlumeSettings
 falling = pulled (pos 0) (negsuc 1023)
@@ -42,6 +47,14 @@ single ps = record {
 
 abbrev pub caseF : Lent
 caseF = single rest
+
+-- case F's settings in the turbulent mode
+abbrev pub fallingOwn : FlumeSettings
+fallingOwn = record { p = pos 1024; gx = pos 0; gz = negsuc 1023; turbulent = true }
+
+-- P10's case U in the flume: case F's grid with parts 1 and 2 at x, 3 and 4 at z
+abbrev pub strained : ℤ → ℤ → Lent
+strained x z = single (pos 262144 ∷ x ∷ x ∷ z ∷ z ∷ pos 16384 ∷ pos 16384 ∷ pos 16384 ∷ pos 16384 ∷ [])
 
 abbrev pub marks : List ℕ
 marks = replicate 9 7

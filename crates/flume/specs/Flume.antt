@@ -34,7 +34,7 @@ flumeLengths n a = lengthsFit 9 n a
 
 -- p, gx, gz: the box's settings with gy = 0, so that (gx, gz) is allowed exactly when (gx, 0, gz) is in the box
 abbrev pub levelSettings : FlumeSettings → Settings
-levelSettings g = record { p = g .p; gx = g .gx; gy = pos 0; gz = g .gz }
+levelSettings g = record { p = g .p; gx = g .gx; gy = pos 0; gz = g .gz; turbulent = g .turbulent }
 
 -- what its outcomes stand on
 abbrev pub flumeGround : FlumeSides → Ground

@@ -11,7 +11,7 @@ use Rattle.grid.specs.State.{Lent, Scene}
 use Rattle.grid.specs.Step.{normal, newFlag, excess, gift}
 use Rattle.grid.specs.Outcome.{numberOf, placeOf}
 use Rattle.flume.specs.Outcome.{flumeCheck, flumeScene, flumeStep, flumeSecond, flumeMarks}
-use Rattle.flume.specs.Cases.{square, pulled, falling, calm, fallen, single, caseF, marks, nothing, pool}
+use Rattle.flume.specs.Cases.{square, quick, pulled, falling, fallingOwn, calm, fallen, single, caseF, strained, marks, nothing, pool}
 
 -- a figure: what the definitions give, and what the document says
 pub record Figure : Type 0 where
@@ -25,6 +25,9 @@ answers a number = record { worked = pos (numberOf a) ∷ pos (placeOf a) ∷ []
 -- a set as one list
 abbrev pub flat : Lent → List ℤ
 flat a = map pos (a .flags) ++ a .parts ++ a .masses ++ map pos (a .fills) ++ a .carry
+
+abbrev caseU : Lent
+caseU = strained (pos 66536) (pos 64536)
 
 abbrev aPool : Scene
 aPool = flumeScene (square 4) calm pool
@@ -47,6 +50,11 @@ figures =
     ∷ record { worked = pos (newFlag aPool 5) ∷ excess aPool 5 ∷ []; said = pos 2 ∷ pos 1600 ∷ [] }
     ∷ record { worked = normal aPool 5 .x ∷ normal aPool 5 .z ∷ []; said = pos 49152 ∷ pos 16384 ∷ [] }
     ∷ record { worked = gift aPool 5 1 ∷ gift aPool 5 3 ∷ gift aPool 5 5 ∷ []; said = pos 600 ∷ pos 200 ∷ pos 800 ∷ [] }
+    -- P10: case U with parts 1, 2 at 66,536 and 3, 4 at 64,536 gives 64,563 and 66,509, in the plain mode 64,547 and 66,525; case F is the same in both modes
+    ∷ answers (flumeStep (square 3) (quick true) caseU caseU marks) 0
+    ∷ record { worked = flat (flumeSecond (square 3) (quick true) caseU caseU marks); said = flat (strained (pos 64563) (pos 66509)) }
+    ∷ record { worked = flat (flumeSecond (square 3) (quick false) caseU caseU marks); said = flat (strained (pos 64547) (pos 66525)) }
+    ∷ record { worked = flat (flumeSecond (square 3) fallingOwn caseF caseF marks); said = flat (single fallen) }
     ∷ []
 
 -- two lists of numbers are the same

@@ -7,9 +7,10 @@ pub struct FlumeSides {
     pub nz: usize,
 }
 
-// The relaxation and the gravity of a flume's step.
+// The relaxation and the gravity of a flume's step, and its mode.
 pub struct FlumeSettings {
     pub p: i64,
     pub gx: i64,
     pub gz: i64,
+    pub turbulent: bool,
 }

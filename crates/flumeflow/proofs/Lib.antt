@@ -1,4 +1,5 @@
 pub mod Nines
 pub mod Gains
+pub mod Spread
 pub mod Poise
 pub mod Puts

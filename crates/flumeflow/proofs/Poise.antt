@@ -38,17 +38,18 @@ use Rattle.flumegrid.proofs.Offsets as flumegrid
 use Rattle.flumeflow.specs.Seen.{Bodied9, Traders9}
 use Rattle.flumeflow.specs.Flowed.{alongSettings, wideScene}
 use Rattle.flumeflow.proofs.Nines.{part-at, part-none}
+use Rattle.flumeflow.proofs.Spread.{scene-spread}
 
 -- the box's settings with gy = 0
 pub settings-good : (s : FlumeSides) (g : Settings) {flags : List ℕ} {parts masses : List ℤ} {fills : List ℕ} → FlumePoised s (alongSettings g) (uncarried flags parts masses fills) → g .gy ≡ pos 0
     → settingsGood g ≡ true
-settings-good s g r e = ap (λ (y : ℤ). settingsGood (record { p = g .p; gx = g .gx; gy = y; gz = g .gz })) e ∙ r .settings
+settings-good s g r e = ap (λ (y : ℤ). settingsGood (record { p = g .p; gx = g .gx; gy = y; gz = g .gz; turbulent = g .turbulent })) e ∙ r .settings
 
 -- the scene of pass 1 is the flume's own, spread
 pub wide-scene : (s : FlumeSides) (h : FlumeSettings) (flags : List ℕ) (parts masses : List ℤ) (fills : List ℕ)
     → wideScene s (levelSettings h) flags parts masses fills ≡ spreadScene (flumeScene s h (uncarried flags parts masses fills))
 unfolding flumeScene stateOf partOf9
-wide-scene s h flags parts masses fills = refl
+wide-scene s h flags parts masses fills = scene-spread s (levelSettings h) (uncarried flags parts masses fills)
 
 -- no rule of a cell reads a weight
 unweighed : (t : State) (c : ℕ) → cellGood d3q19 t c ≡ cellGood spreadLattice t c

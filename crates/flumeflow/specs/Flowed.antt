@@ -10,6 +10,7 @@ use Rattle.whole.specs.Search.{Dir}
 use Rattle.lattice.specs.declared.Settings.{Settings}
 use Rattle.grid.specs.State.{Scene, liquid}
 use Rattle.grid.specs.Step.{tooFast}
+use Rattle.grid.specs.Mode.{sceneBy}
 use Rattle.grid.specs.Between.{uncarried}
 use Rattle.flow.specs.declared.passing.Passed.{Passed}
 use Rattle.flow.specs.declared.passing.Passed.the-variants.{Stopped, Through}
@@ -23,17 +24,13 @@ use Rattle.flumegrid.specs.Ready.{FlumePoised}
 
 -- the flume's settings that a box's with gy = 0 are
 abbrev pub alongSettings : Settings → FlumeSettings
-alongSettings g = record { p = g .p; gx = g .gx; gz = g .gz }
+alongSettings g = record { p = g .p; gx = g .gx; gz = g .gz; turbulent = g .turbulent }
 
 -- the step's scene among the nineteen places, of a set without its carry
 abbrev pub wideScene : FlumeSides → Settings → List ℕ → List ℤ → List ℤ → List ℕ → Scene
-wideScene s g flags parts masses fills = record {
-  lat = spreadLattice;
-  grid = spreadGrid (flumeGrid s);
-  old = record { flag = λ c. getD flags c 3; part = partOf9 parts; mass = λ c. getD masses c (pos 0); fill = λ c. getD fills c 0; carry = pos 0 };
-  g = record { x = g .gx; y = g .gy; z = g .gz };
-  relax = λ c. g .p;
-}
+wideScene s g flags parts masses fills =
+    sceneBy spreadLattice (spreadGrid (flumeGrid s))
+    (record { flag = λ c. getD flags c 3; part = partOf9 parts; mass = λ c. getD masses c (pos 0); fill = λ c. getD fills c 0; carry = pos 0 }) g
 
 -- a set that is poised, room of the right lengths, and pass 0's marks: a liquid cell that is marked is fluid, and all its neighbours are liquid
 pub record FlumeFlowable (s : FlumeSides) (g : Settings) (flags : List ℕ) (parts masses : List ℤ) (fills : List ℕ) (parts2 masses2 : List ℤ) (marks : List ℕ) : Type 0 where

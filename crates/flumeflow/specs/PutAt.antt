@@ -4,11 +4,12 @@ use mathlib.Core.Path.{_≡_}
 use mathlib.Core.Bool.{true}
 use mathlib.Core.List.{List}
 use Prim.Native.Nat.{ℕ, _<_}
-use lib.IntN.{ℤ}
+use lib.IntN.{ℤ, natAbs}
 use lib.ListN.{length, getD}
 use Rattle.whole.specs.Fold.{tab}
 use Rattle.lattice.specs.declared.Flow.{Flow}
 use Rattle.lattice.specs.declared.Settings.{Settings}
+use Rattle.turbulence.specs.Post.{Keeps}
 use Rattle.grid.specs.State.{Scene, liquid}
 use Rattle.grid.specs.Between.{movedPart}
 use Rattle.grid.specs.Outcome.{settingsGood}
@@ -31,7 +32,7 @@ pub record PutAt9 (S : Scene) (c : ℕ) (before after : List ℤ) (r : Put) : Ty
   pub parts : r .ok ≡ true → after ≡ pasted9 before c (tab 19 (movedPart S c))
 
 -- what the code asks at cell c: a liquid cell has its neighbours around it, and is fluid with liquid all around where pass 0 marked it
-pub record Putting9 (flags : List ℕ) (parts : List ℤ) (fills : List ℕ) (room : List ℤ) (mark : ℕ) (off from : List ℕ) (low c : ℕ) (g : Settings) : Type 0 where
+pub record Putting9 (flags : List ℕ) (parts : List ℤ) (fills : List ℕ) (room : List ℤ) (mark : ℕ) (off from : List ℕ) (low c : ℕ) (g : Settings) (keep : ℕ) : Type 0 where
   pub bodied : Bodied9 flags parts
   pub filled : Fills flags fills
   pub is-cell : c < length flags
@@ -40,4 +41,5 @@ pub record Putting9 (flags : List ℕ) (parts : List ℤ) (fills : List ℕ) (ro
   pub sources : from ≡ tab 9 (sourceOf9 off)
   pub marked : liquid (getD flags c 3) ≡ true → mark ≡ 1 → Immersed flags off low c
   pub settings : settingsGood g ≡ true
+  pub keeps : Keeps (natAbs (g .p)) keep
   pub size : length room ≡ length parts

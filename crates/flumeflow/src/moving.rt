@@ -1,4 +1,5 @@
 // Stages 1 to 4 of one cell, written where they belong.
+use crate::relaxing::relaxation9;
 use crate::streaming::chosen9;
 use collision::gravity::pulled;
 use flow::moving::Put;
@@ -17,11 +18,12 @@ ghost use mathlib.Core.Path.{_≡_};
 ghost use mathlib.Core.Bool.{true};
 ghost use mathlib.Core.List.{List, []};
 ghost use Prim.Native.Nat.{ℕ, _+_, _*_, _≤_};
-ghost use lib.IntN.{ℤ, pos};
+ghost use lib.IntN.{ℤ, pos, natAbs};
 ghost use lib.ListN.{length, getD, replicate};
 ghost use Rattle.whole.specs.Fold.{tab};
 ghost use Rattle.lattice.specs.Lattice.{d3q19, density};
 ghost use Rattle.lattice.specs.Body.{partsOf, Bounded, bodyGood};
+ghost use Rattle.turbulence.specs.Post.{Keeps};
 ghost use Rattle.grid.specs.State.{liquid};
 ghost use Rattle.grid.specs.Step.{streamed};
 ghost use Rattle.grid.specs.Outcome.{settingsGood};
@@ -52,8 +54,15 @@ fn fair(f: [i32; 19], rho: i32) -> bool
 }
 
 // Stages 3 and 4 of a liquid cell c into which f streamed.
-fn put_moved9(f: [i32; 19], parts2: &mut [i32], c: usize, g: Settings) -> Put
-    requires { ⌜ Bounded f 1572864 1441792 × Quiet f × (settingsGood g ≡ true) × (9 * c + 9 ≤ length (now parts2)) ⌝ }
+fn put_moved9(
+    f: [i32; 19],
+    parts2: &mut [i32],
+    c: usize,
+    g: Settings,
+    keep: u64,
+    surface: bool,
+) -> Put
+    requires { ⌜ Bounded f 1572864 1441792 × Quiet f × (settingsGood g ≡ true) × (9 * c + 9 ≤ length (now parts2)) × Keeps (natAbs (g .p)) keep ⌝ }
     ensures { λ r. ⌜ ((flags : List ℕ) (parts : List ℤ) (fills off : List ℕ) (low : ℕ) → liquid (getD flags c 3) ≡ true → f ≡ tab 19 (streamed (sight9 flags parts [] fills off low noSettings) c) → PutAt9 (sight9 flags parts [] fills off low g) c (now (parts2 .entry)) (now (parts2 .exit)) r) ⌝ }
 {
     let v = pulled(flow_of(f), g);
@@ -64,7 +73,7 @@ fn put_moved9(f: [i32; 19], parts2: &mut [i32], c: usize, g: Settings) -> Put
             rho: 0,
         };
     }
-    let r = quieted(collided9(f, v, g.p));
+    let r = quieted(collided9(f, v, relaxation9(f, v, g, keep, surface)));
     paste9(parts2, c, r);
     Put {
         ok: true,
@@ -95,8 +104,9 @@ pub(crate) fn put_parts9(
     low: usize,
     c: usize,
     g: Settings,
+    keep: u64,
 ) -> Put
-    requires { ⌜ Putting9 (now flags) (now parts) (now fill) (now parts2) mark (now off) (now from) low c g ⌝ }
+    requires { ⌜ Putting9 (now flags) (now parts) (now fill) (now parts2) mark (now off) (now from) low c g keep ⌝ }
     ensures { λ r. ⌜ PutAt9 (sight9 (now (flags .entry)) (now (parts .entry)) [] (now (fill .entry)) (now (off .entry)) low g) c (now (parts2 .entry)) (now (parts2 .exit)) r ⌝ }
 {
     if is_liquid(flags[c]) {
@@ -105,6 +115,8 @@ pub(crate) fn put_parts9(
             parts2,
             c,
             g,
+            keep,
+            flags[c] == 1,
         );
     }
     dry_out9(parts2, c);

@@ -3,6 +3,7 @@ use crate::moving;
 use crate::streaming;
 use crate::trading;
 use flow::passing::Passed;
+use flow::relaxing::keeping;
 use flow::trading::new_mark;
 use flume::FlumeSides;
 use flumegrid::neighbours;
@@ -26,11 +27,24 @@ pub fn flowing9(
     let off = neighbours::offsets(s);
     let low = neighbours::low_of(s);
     let from = streaming::sources9(off, low);
+    let keep = keeping(g);
     let mut fair = true;
     let mut still = true;
     let mut c = 0;
     while c < flags.len() {
-        let o = moving::put_parts9(flags, parts, fill, parts2, marks[c], &off, &from, low, c, g);
+        let o = moving::put_parts9(
+            flags,
+            parts,
+            fill,
+            parts2,
+            marks[c],
+            &off,
+            &from,
+            low,
+            c,
+            g,
+            keep,
+        );
         if !o.ok {
             return Passed::Stopped(c);
         }

@@ -21,6 +21,7 @@ fn good_settings(g: FlumeSettings) -> bool
         gx: g.gx,
         gy: 0,
         gz: g.gz,
+        turbulent: g.turbulent,
     })
 }
 

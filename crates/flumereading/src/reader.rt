@@ -23,7 +23,12 @@ pub fn refused(a: Answer) -> FlumeHead
     ensures { λ r. ⌜ r ≡ flumeRefusedHead a ⌝ }
 {
     let s = FlumeSides { nx: 0, nz: 0 };
-    let g = FlumeSettings { p: 0, gx: 0, gz: 0 };
+    let g = FlumeSettings {
+        p: 0,
+        gx: 0,
+        gz: 0,
+        turbulent: false,
+    };
     let t = FlumeSite {
         edge: 0,
         x: 0,

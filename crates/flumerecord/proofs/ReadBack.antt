@@ -40,7 +40,7 @@ use Rattle.record.proofs.Rules.{carry-fair}
 use Rattle.record.proofs.GridBack as grid
 use Rattle.flumerecord.specs.declared.FlumeSite.{FlumeSite}
 use Rattle.flumerecord.specs.declared.FlumeHead.{FlumeHead}
-use Rattle.flumerecord.specs.Layout.{flumeCounts, levelSite, flumeSiteGood, flumeSiteBytes, flumeHeadBytes, flumeRecordOf}
+use Rattle.flumerecord.specs.Layout.{flumeRecorded, flumeCounts, levelSite, flumeSiteGood, flumeSiteBytes, flumeHeadBytes, flumeRecordOf}
 use Rattle.flumerecord.specs.Reading.{flumeSidesIn, flumeSettingsIn, flumeSiteIn, flumeCarryIn, flumeFlagsAt, flumeCellsIn, flumeFlagsIn, flumeFlagIn, flumeStateIn, flumeSlicesFit, flumeContent, flumeReadAnswer, flumeReadHead, flumeReadFlags, flumeReadSet}
 use Rattle.flumerecord.specs.Writing.{flumeWriteAnswer}
 use Rattle.flumerecord.specs.Passes.{FlumeSound}
@@ -53,9 +53,14 @@ abbrev pub Claim : Type 0
 Claim =
     (s : FlumeSides) (g : FlumeSettings) (t : FlumeSite) (a : Lent) (room : List ℕ) (b : Lent) → flumeWriteAnswer s g t a room ≡ Done
     → flumeSlicesFit (flumeCells s) (length (b .parts)) (length (b .masses)) (length (b .fills)) (length (b .carry)) ≡ true
-    → (flumeReadHead (flumeRecordOf s g t a) b ≡ record { answer = Done; sides = s; settings = g; site = t })
+    → (flumeReadHead (flumeRecordOf s g t a) b ≡ record { answer = Done; sides = s; settings = flumeRecorded g; site = t })
     × (flumeReadFlags (flumeRecordOf s g t a) b ≡ a .flags)
     × (flumeReadSet (flumeRecordOf s g t a) b ≡ a)
+
+-- test 3 asks for no mode
+no-mode : (g : FlumeSettings) (t : FlumeSite) → flumeSiteGood (flumeRecorded g) t ≡ flumeSiteGood g t
+unfolding flumeSiteGood siteGood settingsGood
+no-mode g t = refl
 
 -- ---- sections 1 to 4: their numbers, whatever follows
 module _ (s : FlumeSides) (g : FlumeSettings) (t : FlumeSite) (k : ℤ) (y : List ℕ) where
@@ -73,13 +78,14 @@ module _ (s : FlumeSides) (g : FlumeSettings) (t : FlumeSite) (k : ℤ) (y : Lis
       let ez : u32At h 8 ≡ s .nz = value-bytesOf 4 (s .nz) z in
       ap₂ (λ (u v : ℕ). record { nx = u; nz = v }) ex ez
 
-  settings-back : SFits w32 (g .p) → SFits w32 (g .gx) → SFits w32 (g .gz) → flumeSettingsIn h ≡ g
+  settings-back : SFits w32 (g .p) → SFits w32 (g .gx) → SFits w32 (g .gz) → flumeSettingsIn h ≡ flumeRecorded g
   unfolding flumeHeadBytes flumeSiteBytes join bytesOf flumeSettingsIn
   settings-back fp fx fz =
       let p : i32At h 16 ≡ g .p = back w32 4 (g .p) fp refl in
       let x : i32At h 20 ≡ g .gx = back w32 4 (g .gx) fx refl in
       let z : i32At h 24 ≡ g .gz = back w32 4 (g .gz) fz refl in
-      ap₂ (λ (u v : ℤ). record { p = u; gx = v; gz = i32At h 24 }) p x ∙ ap (λ (w : ℤ). record { p = g .p; gx = g .gx; gz = w }) z
+      ap₂ (λ (u v : ℤ). record { p = u; gx = v; gz = i32At h 24; turbulent = false }) p x
+      ∙ ap (λ (w : ℤ). record { p = g .p; gx = g .gx; gz = w; turbulent = false }) z
 
   site-back : SFits w32 (t .edge) → SFits w64 (t .x) → SFits w64 (t .z) → flumeSiteIn h ≡ t
   unfolding flumeHeadBytes flumeSiteBytes join bytesOf flumeSiteIn
@@ -140,7 +146,7 @@ module _ (s : FlumeSides) (g : FlumeSettings) (t : FlumeSite) (a : Lent) (fit : 
   unfolding flumeRecordOf
   sides-so = let k = good-sides s (fit .sides) in sides-back s g t (S .carry) _ (omega (arith, k .x .high)) (omega (arith, k .z .high))
 
-  settings-so : flumeSettingsIn rec ≡ g
+  settings-so : flumeSettingsIn rec ≡ flumeRecorded g
   unfolding flumeRecordOf
   settings-so = let w = level-small g t (fit .site) in settings-back s g t (S .carry) _ (fits-word (w .p)) (fits-word (w .gx)) (fits-word (w .gz))
 
@@ -223,7 +229,7 @@ module _ (s : FlumeSides) (g : FlumeSettings) (t : FlumeSite) (a : Lent) (fit : 
       le-trans (le-of-eq cells-so) (le-trans (tests .1) (le-of-eq (ap₂ (λ (z : FlumeSides) (o : List ℕ). badFluid 8 (flumeGrid z) (flagOf o)) (sym sides-so) (sym flags-so)))) in
       let kept : suc m ≤ rules =
       subst (λ (k : ℕ). suc k ≤ badRule d2q9 k (flumeStateIn rec)) (sym cells-so) (le-trans (tests .2) (le-of-eq (sym (bad-rule-same d2q9 n (flumeStateIn rec) S same-so)))) in
-      or-pass 3 0 _ (ap₂ flumeSiteGood settings-so site-so ∙ fit .site) ∙ skip m 5 place (ifNone (suc m) 6 rules Done) shut ∙ skip (suc m) 6 rules Done kept
+      or-pass 3 0 _ (ap₂ flumeSiteGood settings-so site-so ∙ no-mode g t ∙ fit .site) ∙ skip m 5 place (ifNone (suc m) 6 rules Done) shut ∙ skip (suc m) 6 rules Done kept
 
 pub read-back : Claim
 unfolding flumeReadHead flumeReadFlags flumeReadSet flumeReadAnswer

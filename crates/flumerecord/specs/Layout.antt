@@ -1,7 +1,7 @@
 -- The flume's record of document 02: the grid record's seven sections with 2 sides, 4 settings, 2 origin numbers, the carry alone, and 9 parts a cell.
 -- Assumes nothing.
 use Prim.Native.Nat.{ℕ, _*_}
-use mathlib.Core.Bool.{Bool}
+use mathlib.Core.Bool.{Bool, false}
 use mathlib.Core.List.{List, [], _∷_, _++_}
 use lib.IntN.{ℤ, pos}
 use Rattle.grid.specs.State.{Lent, stateOf}
@@ -22,6 +22,10 @@ flumeCounts = record { sides = 2; settings = 4; origin = 2; parts = 9 }
 -- edge and origin: the box's with y = 0, so that (x, z) is allowed exactly when (x, 0, z) is in the box
 abbrev pub levelSite : FlumeSite → Site
 levelSite t = record { edge = t .edge; x = t .x; y = pos 0; z = t .z }
+
+-- settings as a record keeps them: it has p and gravity, and no mode
+abbrev pub flumeRecorded : FlumeSettings → FlumeSettings
+flumeRecorded g = record { p = g .p; gx = g .gx; gz = g .gz; turbulent = false }
 
 -- p, gravity, cell edge and origin coordinates in their ranges: what refusal 3 asks of a record
 unfoldable pub flumeSiteGood : FlumeSettings → FlumeSite → Bool

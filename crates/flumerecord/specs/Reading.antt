@@ -1,6 +1,6 @@
 -- What the flume's reader answers, and what each lent slice then holds, for every input. Assumes nothing.
 use Prim.Native.Nat.{ℕ, suc, _+_, _*_}
-use mathlib.Core.Bool.{Bool, cond}
+use mathlib.Core.Bool.{Bool, false, cond}
 use mathlib.Core.List.{List, []}
 use lib.IntN.{ℤ, pos}
 use lib.ListN.{length}
@@ -38,7 +38,7 @@ unfoldable pub flumeSidesIn : List ℕ → FlumeSides
 flumeSidesIn r = record { nx = sideAt r 0; nz = sideAt r 1 }
 
 unfoldable pub flumeSettingsIn : List ℕ → FlumeSettings
-flumeSettingsIn r = record { p = settingAt r 0; gx = settingAt r 1; gz = settingAt r 2 }
+flumeSettingsIn r = record { p = settingAt r 0; gx = settingAt r 1; gz = settingAt r 2; turbulent = false }
 
 unfoldable pub flumeSiteIn : List ℕ → FlumeSite
 flumeSiteIn r = record { edge = settingAt r 3; x = originAt r 0; z = originAt r 1 }
@@ -105,7 +105,7 @@ abbrev pub flumeRefusedHead : Answer → FlumeHead
 flumeRefusedHead answer = record {
   answer = answer;
   sides = record { nx = 0; nz = 0 };
-  settings = record { p = pos 0; gx = pos 0; gz = pos 0 };
+  settings = record { p = pos 0; gx = pos 0; gz = pos 0; turbulent = false };
   site = record { edge = pos 0; x = pos 0; z = pos 0 };
 }
 

@@ -38,7 +38,12 @@ pub fn settings_in(rec: &[u8]) -> FlumeSettings
     let p = setting_at(rec, 16);
     let x = setting_at(rec, 20);
     let z = setting_at(rec, 24);
-    FlumeSettings { p: p, gx: x, gz: z }
+    FlumeSettings {
+        p: p,
+        gx: x,
+        gz: z,
+        turbulent: false,
+    }
 }
 
 pub fn site_in(rec: &[u8]) -> FlumeSite
@@ -64,6 +69,7 @@ pub fn good_site(g: FlumeSettings, t: FlumeSite) -> bool
         gx: g.gx,
         gy: 0,
         gz: g.gz,
+        turbulent: g.turbulent,
     };
     let site = Site {
         edge: t.edge,

@@ -2,7 +2,7 @@
 -- places, where the flume is a field and every law of a field serves; the bridge reads the outcome from there. Assumes nothing.
 use mathlib.Core.Path.{_≡_, refl, sym, ap, _∙_, subst}
 use mathlib.Core.Bool.{Bool, true, false, _&&_, cond, false≢true}
-use mathlib.Core.List.{List}
+use mathlib.Core.List.{List, [], _∷_}
 use Prim.Native.Nat.{ℕ, suc, _+_, _*_, _/_, _%_, _≤_, _<_}
 use native.Mathlib.Nat.{mod-lt, div-add-mod}
 use native.Mathlib.Omega.{arith}
@@ -18,7 +18,7 @@ use Rattle.lattice.specs.declared.Settings.{Settings}
 use Rattle.grid.specs.declared.Answer.{Answer}
 use Rattle.grid.specs.declared.Answer.the-variants.{Done, Refused}
 use Rattle.grid.specs.State.{Lent, Scene, liquid, stateOf}
-use Rattle.grid.specs.Step.{tooFast, collided, newFlag, newPart, newMass, newFill}
+use Rattle.grid.specs.Step.{tooFast, collided, newFlag, newPart, newMass, newFill, newCarry}
 use Rattle.grid.specs.Good.{badRule}
 use Rattle.grid.specs.Outcome.{accepted, ifNone, moveAnswer}
 use Rattle.grid.specs.Between.{firstMark}
@@ -165,6 +165,16 @@ module _ (s : FlumeSides) (g : FlumeSettings) (a : Lent) where
         abbrev second : Lent
         second = record { flags = flags2; parts = parts2; masses = masses2; fills = fills2; carry = carry2 }
 
+        -- the next state of a scene among the nineteen places, as a set of nine parts a cell
+        abbrev listed : Scene → Lent
+        listed T = record {
+          flags = tab n (newFlag T);
+          parts = tab (9 * n) (λ m. newPart T (m / 9) (wide (m % 9)));
+          masses = tab n (newMass T);
+          fills = tab n (newFill T);
+          carry = newCarry T ∷ [];
+        }
+
         fills-are : fills2 ≡ tab n (newFill S)
         fills-are = Tests.fills-are F (field .stands) t (w .turned) f
 
@@ -175,7 +185,8 @@ module _ (s : FlumeSides) (g : FlumeSettings) (a : Lent) where
         unfolding flumeScene stateOf partOf9
         second-next =
             (λ i. record { flags = w .turned .flags-are i; parts = parts-are i; masses = w .turned .masses-are i; fills = fills-are i; carry = w .turned .carry-is i })
-            ∙ sym (flume-next s g a (r .sized .flags) t)
+            ∙ (λ i. listed (flume-scene s g a i))
+            ∙ sym (flume-next s g a (r .sized .flags) (subst (λ (T : Scene). n ≤ first n (tooFast T)) (flume-scene s g a) t))
 
         -- test 8 where all was found fair
         pub fair-answer : ((c : ℕ) → c < n → liquid (getD (a .flags) c 3) ≡ true → bodyGood d3q19 (collided S c) ≡ true) → turned ≡ true → weighed ≡ true

@@ -21,6 +21,7 @@ pub(crate) fn level(g: FlumeSettings) -> Settings
         gx: g.gx,
         gy: 0,
         gz: g.gz,
+        turbulent: g.turbulent,
     }
 }
 

@@ -16,13 +16,14 @@ use Rattle.flume.specs.Offsets.{flumeLow, flumeOffset}
 use Rattle.flume.specs.Spread.{spreadLattice, spreadGrid, spreadScene}
 use Rattle.nine.specs.Cells.{partOf9}
 use Rattle.flumegrid.specs.Ready.{FlumeReady}
+use Rattle.flumeflow.proofs.Spread.{scene-spread}
 use Rattle.flumeturn.specs.Turned.{turnScene}
 use Rattle.flumeturn.proofs.Flumes as flumes
 
 -- the step's scene is the flume's own, spread
 pub turn-scene-is : (s : FlumeSides) (g : Settings) (a : Lent) → turnScene s g a ≡ spreadScene (sceneOn (flumeGround s) g a)
 unfolding stateOf partOf9
-turn-scene-is s g a = refl
+turn-scene-is s g a = scene-spread s g a
 
 abbrev pub flumeField : FlumeSides → Settings → Lent → List ℕ → ℕ → Field
 flumeField s g a off low = record {
@@ -39,10 +40,10 @@ flumeField s g a off low = record {
   carry = getD (a .carry) 0 (pos 0);
 }
 
-module _ (s : FlumeSides) (g : Settings) (a : Lent) (r : FlumeReady s (record { p = g .p; gx = g .gx; gz = g .gz }) a) (level : g .gy ≡ pos 0) where
+module _ (s : FlumeSides) (g : Settings) (a : Lent) (r : FlumeReady s (record { p = g .p; gx = g .gx; gz = g .gz; turbulent = g .turbulent }) a) (level : g .gy ≡ pos 0) where
   pub flume-sound : {off : List ℕ} {low : ℕ} → off ≡ tab 19 (flumeOffset s) → low ≡ flumeLow s → Sound (flumeField s g a off low)
   flume-sound {off} {low} eo el =
       subst (λ (o : List ℕ). Sound (flumeField s g a o low)) (sym eo)
       (subst (λ (l : ℕ). Sound (flumeField s g a (tab 19 (flumeOffset s)) l)) (sym el)
-      (subst (λ (y : ℤ). Sound (flumeField s (record { p = g .p; gx = g .gx; gy = y; gz = g .gz }) a (tab 19 (flumeOffset s)) (flumeLow s))) (sym level)
-      (flumes.flume-sound s (record { p = g .p; gx = g .gx; gz = g .gz }) a r)))
+      (subst (λ (y : ℤ). Sound (flumeField s (record { p = g .p; gx = g .gx; gy = y; gz = g .gz; turbulent = g .turbulent }) a (tab 19 (flumeOffset s)) (flumeLow s))) (sym level)
+      (flumes.flume-sound s (record { p = g .p; gx = g .gx; gz = g .gz; turbulent = g .turbulent }) a r)))

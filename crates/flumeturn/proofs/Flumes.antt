@@ -19,6 +19,7 @@ use Rattle.flumegrid.proofs.GoodSides.{few}
 use Rattle.flumegrid.proofs.Offsets.{near-self, place-is, near-low, reaching, inner-of, near-back}
 use Rattle.flumegrid.proofs.Poise.{poised, ready-carry, body, mass, fill, flagged, walled, closed}
 use Rattle.flumeflow.proofs.Nines.{light9}
+use Rattle.flumeflow.proofs.Spread.{scene-spread}
 use Rattle.turn.proofs.Field.{Field, sceneIn, Standing, Sound}
 
 abbrev pub flumeField : FlumeSides → FlumeSettings → Lent → Field
@@ -38,7 +39,7 @@ flumeField s g a = record {
 
 pub flume-scene : (s : FlumeSides) (g : FlumeSettings) (a : Lent) → sceneIn (flumeField s g a) ≡ spreadScene (flumeScene s g a)
 unfolding flumeScene stateOf partOf9
-flume-scene s g a = refl
+flume-scene s g a = scene-spread s (levelSettings g) a
 
 module _ (s : FlumeSides) (g : FlumeSettings) (a : Lent) where
   -- whatever the carry: no rule of a cell reads it

@@ -7,6 +7,7 @@ use lib.IntN.{ℤ, pos}
 use lib.ListN.{length, getD}
 use Rattle.lattice.specs.declared.Settings.{Settings}
 use Rattle.grid.specs.State.{Lent, Scene}
+use Rattle.grid.specs.Mode.{sceneBy}
 use Rattle.flow.specs.Flowed.{MovedTo}
 use Rattle.turn.specs.Turned.{TurnedTo}
 use Rattle.flume.specs.declared.FlumeSides.{FlumeSides}
@@ -17,17 +18,13 @@ use Rattle.flumegrid.specs.Ready.{FlumeReady}
 
 -- the step's scene of a set among the nineteen places: the flume's own scene, spread (proofs/Fields.antt)
 abbrev pub turnScene : FlumeSides → Settings → Lent → Scene
-turnScene s g a = record {
-  lat = spreadLattice;
-  grid = spreadGrid (flumeGrid s);
-  old = record { flag = λ c. getD (a .flags) c 3; part = partOf9 (a .parts); mass = λ c. getD (a .masses) c (pos 0); fill = λ c. getD (a .fills) c 0; carry = getD (a .carry) 0 (pos 0) };
-  g = record { x = g .gx; y = g .gy; z = g .gz };
-  relax = λ c. g .p;
-}
+turnScene s g a =
+    sceneBy spreadLattice (spreadGrid (flumeGrid s))
+    (record { flag = λ c. getD (a .flags) c 3; part = partOf9 (a .parts); mass = λ c. getD (a .masses) c (pos 0); fill = λ c. getD (a .fills) c 0; carry = getD (a .carry) 0 (pos 0) }) g
 
 -- what the conversion asks: a set that is ready under settings with gy = 0, stages 1 to 4 made, and room for flags and carry
 pub record FlumeTurning (s : FlumeSides) (g : Settings) (a : Lent) (flags : List ℕ) (parts masses carry : List ℤ) (marks : List ℕ) (still : Bool) : Type 0 where
-  pub ready : FlumeReady s (record { p = g .p; gx = g .gx; gz = g .gz }) a
+  pub ready : FlumeReady s (record { p = g .p; gx = g .gx; gz = g .gz; turbulent = g .turbulent }) a
   pub level : g .gy ≡ pos 0
   pub moved : MovedTo (turnScene s g a) (flumeCells s) (partOf9 parts) masses marks false still
   pub flags-room : length flags ≡ flumeCells s

@@ -13,6 +13,7 @@ use Rattle.grid.specs.declared.Answer.the-variants.{Done}
 use Rattle.grid.specs.Grid.{Grid, cellsOf, sidesGood, gridOf}
 use Rattle.grid.specs.State.{Lent, State, Scene, stateOf, lentOf}
 use Rattle.grid.specs.Step.{next}
+use Rattle.grid.specs.Mode.{sceneBy}
 use Rattle.grid.specs.Outcome.{accepted, orRefuse, checking, entering, goodAnswer, moveAnswer, lengthsFit, settingsGood, byAnswer, Ran, ranBy}
 
 -- lattice, grid and whether the sides pass test 1; how many directions and cells they have stands beside them, as the outcomes name them
@@ -43,13 +44,7 @@ module _ (G : Ground) where
 
   -- ---- the step: the first set's state with the settings; tests 1 to 6; its answer, the next state as a set, the second set and the marks
   abbrev pub sceneOn : Settings → Lent → Scene
-  sceneOn g a = record {
-    lat = G .lat;
-    grid = G .grid;
-    old = stateOn a;
-    g = record { x = g .gx; y = g .gy; z = g .gz };
-    relax = λ c. g .p;
-  }
+  sceneOn g a = sceneBy (G .lat) (G .grid) (stateOn a) g
 
   abbrev pub entryOn : Settings → Lent → Lent → List ℕ → Answer → Answer
   entryOn g a b marks rest =

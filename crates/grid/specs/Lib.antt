@@ -1,6 +1,7 @@
 pub mod Grid
 pub mod State
 pub mod Step
+pub mod Mode
 pub mod Good
 pub mod Outcome
 pub mod Ground

@@ -15,6 +15,7 @@ use Rattle.grid.specs.declared.Answer.the-variants.{Done, Refused}
 use Rattle.grid.specs.Grid.{Grid, cellsOf, sidesGood, gridOf}
 use Rattle.grid.specs.State.{Lent, State, Scene, stateOf, lentOf}
 use Rattle.grid.specs.Step.{tooFast, next}
+use Rattle.grid.specs.Mode.{sceneBy}
 use Rattle.grid.specs.Good.{badFlag, badFluid, badRule}
 
 -- ---- answers: the paper's number and place for each case, 0 0 if accepted
@@ -86,13 +87,7 @@ checkAnswer s a = checking (sidesGood s) (lengthsGood (cellsOf s) a) (goodAnswer
 
 -- the first set's state with the settings
 unfoldable pub sceneOf : Sides → Settings → Lent → Scene
-sceneOf s g a = record {
-  lat = d3q19;
-  grid = gridOf s;
-  old = stateOf 18 a;
-  g = record { x = g .gx; y = g .gy; z = g .gz };
-  relax = λ c. g .p;
-}
+sceneOf s g a = sceneBy d3q19 (gridOf s) (stateOf 18 a) g
 
 -- tests 1 to 6, and then `rest`
 unfoldable pub entryAnswer : Sides → Settings → Lent → Lent → List ℕ → Answer → Answer

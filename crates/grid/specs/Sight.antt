@@ -13,6 +13,7 @@ use Rattle.lattice.specs.Cell.{dense, slow}
 use Rattle.lattice.specs.declared.Settings.{Settings}
 use Rattle.grid.specs.State.{Scene, liquid}
 use Rattle.grid.specs.Fill.{partOf}
+use Rattle.grid.specs.Mode.{sceneBy}
 
 -- document 01's nineteen places and directions, with weights w: the box's own are document 01's
 abbrev pub weighing : (ℕ → ℕ) → Lattice
@@ -31,17 +32,14 @@ weighing w = record {
 
 -- no gravity, for a function that is lent no settings
 abbrev pub noSettings : Settings
-noSettings = record { p = pos 0; gx = pos 0; gy = pos 0; gz = pos 0 }
+noSettings = record { p = pos 0; gx = pos 0; gy = pos 0; gz = pos 0; turbulent = false }
 
 -- the scene: neighbour i of cell c is (c − low) + off[i]; masses are [] for a function that is lent none, and none is lent the carry
 unfoldable pub sight : (ℕ → ℕ) → List ℕ → (ℕ → ℕ → ℤ) → List ℤ → List ℕ → List ℕ → ℕ → Settings → Scene
-sight w flags part masses fills off low g = record {
-  lat = weighing w;
-  grid = record { cells = length flags; near = λ c i. (c - low) + getD off i 0; outer = λ c. false };
-  old = record { flag = λ c. getD flags c 3; part = part; mass = λ c. getD masses c (pos 0); fill = λ c. getD fills c 0; carry = pos 0 };
-  g = record { x = g .gx; y = g .gy; z = g .gz };
-  relax = λ c. g .p;
-}
+sight w flags part masses fills off low g =
+    sceneBy (weighing w) (record { cells = length flags; near = λ c i. (c - low) + getD off i 0; outer = λ c. false })
+    (record { flag = λ c. getD flags c 3; part = part; mass = λ c. getD masses c (pos 0); fill = λ c. getD fills c 0; carry = pos 0 })
+    g
 
 -- the box's: document 01's weights, and part k of cell c at 19c + k
 abbrev pub boxSight : List ℕ → List ℤ → List ℤ → List ℕ → List ℕ → ℕ → Settings → Scene

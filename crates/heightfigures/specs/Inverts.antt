@@ -15,7 +15,7 @@ use Rattle.heightfigures.specs.Texts.{bytes, Figure}
 
 -- ---- what the host gives: nz 4, the origin's height 7 mm, p 1024 and gravity straight down; and slices for 80 cells
 abbrev settings : Settings
-settings = record { p = pos 1024; gx = pos 0; gy = pos 0; gz = negsuc 1023 }
+settings = record { p = pos 1024; gx = pos 0; gy = pos 0; gz = negsuc 1023; turbulent = false }
 
 abbrev room : ℕ → Lengths
 room carry = record { flags = 80; parts = 1520; masses = 80; fills = 80; carry = carry; words = 2; count = 1 }

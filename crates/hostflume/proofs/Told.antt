@@ -1,5 +1,6 @@
 -- From the flume's own promise to the exported call's: number and place of the answer, the rest as it stands. Assumes nothing.
 use mathlib.Core.Path.{_≡_, ap, _∙_, subst}
+use mathlib.Core.Bool.{Bool}
 use mathlib.Core.List.{List}
 use Prim.Native.Nat.{ℕ}
 use lib.IntN.{ℤ}
@@ -12,7 +13,7 @@ use Rattle.grid.specs.Outcome.{numberOf, placeOf}
 use Rattle.flume.specs.declared.FlumeSides.{FlumeSides}
 use Rattle.flume.specs.declared.FlumeSettings.{FlumeSettings}
 use Rattle.flume.specs.Promise.{FlumeStepped, FlumeRanTo}
-use Rattle.hostflume.specs.Promise.{flumeSettingsOf, StepTold, RunTold}
+use Rattle.hostflume.specs.Promise.{flumeSettingsIn, StepTold, RunTold}
 
 -- the settings k that the flume was given are the call's own, g
 pub step-told : {s : FlumeSides} {g k : FlumeSettings} {a b : Lent} {marks : List ℕ} {answer : Answer} {number place : ℕ} {second : Lent} {after : List ℕ}
@@ -30,6 +31,6 @@ run-told {steps} {s} {a = a} {b = b} {marks = marks} {count = count} {number = n
     (record { count-is = h .count-is; number-is = n ∙ ap numberOf (h .answer-is); place-is = p ∙ ap placeOf (h .answer-is); first-is = h .first-is; second-is = h .second-is; marks-are = h .marks-are })
 
 -- a signed number that passed a struct is what it was, and so is the struct
-pub settings-back : (p x z : ℤ) → SFits w64 p → SFits w64 x → SFits w64 z
-    → flumeSettingsOf (toZ w64 (ofZ w64 p)) (toZ w64 (ofZ w64 x)) (toZ w64 (ofZ w64 z)) ≡ flumeSettingsOf p x z
-settings-back p x z hp hx hz = λ i. flumeSettingsOf (toZ-ofZ w64 p hp i) (toZ-ofZ w64 x hx i) (toZ-ofZ w64 z hz i)
+pub settings-back : (turbulent : Bool) (p x z : ℤ) → SFits w64 p → SFits w64 x → SFits w64 z
+    → flumeSettingsIn turbulent (toZ w64 (ofZ w64 p)) (toZ w64 (ofZ w64 x)) (toZ w64 (ofZ w64 z)) ≡ flumeSettingsIn turbulent p x z
+settings-back turbulent p x z hp hx hz = λ i. flumeSettingsIn turbulent (toZ-ofZ w64 p hp i) (toZ-ofZ w64 x hx i) (toZ-ofZ w64 z hz i)

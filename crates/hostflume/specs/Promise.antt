@@ -1,5 +1,6 @@
 -- What the flume's check, step and run promise, for every input: number and place of the outcome, and every lent slice. Assumes nothing.
 use mathlib.Core.Path.{_≡_}
+use mathlib.Core.Bool.{Bool}
 use mathlib.Core.List.{List}
 use Prim.Native.Nat.{ℕ}
 use lib.IntN.{ℤ}
@@ -13,8 +14,8 @@ use Rattle.flume.specs.Outcome.{flumeCheck, flumeStep, flumeSecond, flumeMarks,
 abbrev pub flumeSidesOf : ℕ → ℕ → FlumeSides
 flumeSidesOf nx nz = record { nx = nx; nz = nz }
 
-abbrev pub flumeSettingsOf : ℤ → ℤ → ℤ → FlumeSettings
-flumeSettingsOf p gx gz = record { p = p; gx = gx; gz = gz }
+abbrev pub flumeSettingsIn : Bool → ℤ → ℤ → ℤ → FlumeSettings
+flumeSettingsIn turbulent p gx gz = record { p = p; gx = gx; gz = gz; turbulent = turbulent }
 
 -- the check: number and place, 0 0 if accepted
 pub record CheckTold (s : FlumeSides) (a : Lent) (number place : ℕ) : Type 0 where

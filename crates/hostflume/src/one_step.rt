@@ -5,7 +5,7 @@ use flumestep::stepping;
 use host::answers::number_of;
 use host::answers::place_of;
 ghost use Rattle.grid.specs.State.{lent};
-ghost use Rattle.hostflume.specs.Promise.{flumeSidesOf, flumeSettingsOf, StepTold};
+ghost use Rattle.hostflume.specs.Promise.{flumeSidesOf, flumeSettingsIn, StepTold};
 
 // One step from the first set to the second.
 #[no_mangle]
@@ -26,12 +26,18 @@ pub extern "C" fn skw_flume_step(
     p: i64,
     gx: i64,
     gz: i64,
+    turbulent: bool,
     place: &mut usize,
 ) -> u8
-    ensures { λ r. ⌜ StepTold (flumeSidesOf nx nz) (flumeSettingsOf p gx gz) (lent (now (flags .entry)) (now (parts .entry)) (now (masses .entry)) (now (fills .entry)) (now (carry .entry))) (lent (now (flags2 .entry)) (now (parts2 .entry)) (now (masses2 .entry)) (now (fills2 .entry)) (now (carry2 .entry))) (now (marks .entry)) r (now (place .exit)) (lent (now (flags2 .exit)) (now (parts2 .exit)) (now (masses2 .exit)) (now (fills2 .exit)) (now (carry2 .exit))) (now (marks .exit)) ⌝ }
+    ensures { λ r. ⌜ StepTold (flumeSidesOf nx nz) (flumeSettingsIn turbulent p gx gz) (lent (now (flags .entry)) (now (parts .entry)) (now (masses .entry)) (now (fills .entry)) (now (carry .entry))) (lent (now (flags2 .entry)) (now (parts2 .entry)) (now (masses2 .entry)) (now (fills2 .entry)) (now (carry2 .entry))) (now (marks .entry)) r (now (place .exit)) (lent (now (flags2 .exit)) (now (parts2 .exit)) (now (masses2 .exit)) (now (fills2 .exit)) (now (carry2 .exit))) (now (marks .exit)) ⌝ }
 {
     let s = FlumeSides { nx, nz };
-    let g = FlumeSettings { p, gx, gz };
+    let g = FlumeSettings {
+        p,
+        gx,
+        gz,
+        turbulent,
+    };
     let a = stepping::step(
         flags,
         parts,

@@ -12,6 +12,7 @@ use Rattle.record.specs.declared.Written.{Written}
 use Rattle.record.specs.declared.Span.{Span}
 use Rattle.flumerecord.specs.declared.FlumeSite.{FlumeSite}
 use Rattle.flumerecord.specs.declared.FlumeHead.{FlumeHead}
+use Rattle.flumerecord.specs.Layout.{flumeRecorded}
 use Rattle.flumerecord.specs.Promise.{FlumeRead, FlumeWrote, flumeSpanOf}
 use Rattle.flumerecord.proofs.Spanned.{span-read}
 use Rattle.hostflumerecord.specs.Promise.{FlumeReadTold, FlumeWriteTold}
@@ -34,7 +35,7 @@ write-told {s} {k = k} {t = t} {a = a} {room = room} {number = number} {place = 
 -- the head's numbers, and where its flags stand
 pub read-told : {r : List ℕ} {a : Lent} {head : FlumeHead} {span : Span} {number place : ℕ} {s : FlumeSides} {g : FlumeSettings} {t : FlumeSite} {parts masses : List ℤ} {fills : List ℕ} {carry : List ℤ}
     → FlumeRead r a head parts masses fills carry → span ≡ flumeSpanOf r head → number ≡ numberOf (head .answer) → place ≡ placeOf (head .answer)
-    → s ≡ head .sides → g ≡ head .settings → t ≡ head .site
+    → s ≡ head .sides → g ≡ flumeRecorded (head .settings) → t ≡ head .site
     → FlumeReadTold r a number place s g t (span .from) (span .to) parts masses fills carry
 read-told {r} {a} h f n p es eg et =
     let e = f ∙ ap (flumeSpanOf r) (h .head-is) in
@@ -42,7 +43,7 @@ read-told {r} {a} h f n p es eg et =
       number-is = n ∙ ap (λ (x : FlumeHead). numberOf (x .answer)) (h .head-is);
       place-is = p ∙ ap (λ (x : FlumeHead). placeOf (x .answer)) (h .head-is);
       sides-are = es ∙ ap (λ (x : FlumeHead). x .sides) (h .head-is);
-      settings-are = eg ∙ ap (λ (x : FlumeHead). x .settings) (h .head-is);
+      settings-are = eg ∙ ap (λ (x : FlumeHead). flumeRecorded (x .settings)) (h .head-is);
       site-is = et ∙ ap (λ (x : FlumeHead). x .site) (h .head-is);
       from-is = ap (λ (x : Span). x .from) e ∙ span-read r a .1;
       to-is = ap (λ (x : Span). x .to) e ∙ span-end r a;

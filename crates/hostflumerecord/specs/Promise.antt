@@ -2,6 +2,7 @@
 use mathlib.Core.Path.{_≡_}
 use mathlib.Core.List.{List}
 use Prim.Native.Nat.{ℕ, _+_, _-_}
+use mathlib.Core.Bool.{false}
 use lib.IntN.{ℤ}
 use lib.ListN.{length, take, drop}
 use Rattle.grid.specs.State.{Lent}
@@ -10,6 +11,7 @@ use Rattle.flume.specs.declared.FlumeSides.{FlumeSides}
 use Rattle.flume.specs.declared.FlumeSettings.{FlumeSettings}
 use Rattle.flumerecord.specs.declared.FlumeSite.{FlumeSite}
 use Rattle.flumerecord.specs.Reading.{flumeReadHead, flumeReadSet, flumeFlagsFrom, flumeReadFlags}
+use Rattle.flumerecord.specs.Layout.{flumeRecorded}
 use Rattle.flumerecord.specs.Writing.{flumeWritten, flumeWrittenRoom}
 
 -- what the flume takes, from the numbers that a call is given
@@ -17,7 +19,7 @@ abbrev pub flumeSidesOf : ℕ → ℕ → FlumeSides
 flumeSidesOf nx nz = record { nx = nx; nz = nz }
 
 abbrev pub flumeSettingsOf : ℤ → ℤ → ℤ → FlumeSettings
-flumeSettingsOf p gx gz = record { p = p; gx = gx; gz = gz }
+flumeSettingsOf p gx gz = record { p = p; gx = gx; gz = gz; turbulent = false }
 
 abbrev pub flumeSiteOf : ℤ → ℤ → ℤ → FlumeSite
 flumeSiteOf edge x z = record { edge = edge; x = x; z = z }
@@ -27,7 +29,7 @@ pub record FlumeReadTold (r : List ℕ) (a : Lent) (number place : ℕ) (s : Flu
   pub number-is : number ≡ numberOf (flumeReadHead r a .answer)
   pub place-is : place ≡ placeOf (flumeReadHead r a .answer)
   pub sides-are : s ≡ flumeReadHead r a .sides
-  pub settings-are : g ≡ flumeReadHead r a .settings
+  pub settings-are : g ≡ flumeRecorded (flumeReadHead r a .settings)
   pub site-is : t ≡ flumeReadHead r a .site
   pub from-is : from ≡ flumeFlagsFrom r a
   pub to-is : to ≡ flumeFlagsFrom r a + length (flumeReadFlags r a)

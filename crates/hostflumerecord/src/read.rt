@@ -8,6 +8,7 @@ use host::answers::number_of;
 use host::answers::place_of;
 ghost use mathlib.Core.Path.{_≡_};
 ghost use Rattle.record.specs.Promise.{flagless};
+ghost use Rattle.flumerecord.specs.Layout.{flumeRecorded};
 ghost use Rattle.hostflumerecord.specs.Promise.{flumeSidesOf, flumeSettingsOf, flumeSiteOf, FlumeReadTold};
 
 fn put_sides(s: FlumeSides, nx: &mut usize, nz: &mut usize)
@@ -18,7 +19,7 @@ fn put_sides(s: FlumeSides, nx: &mut usize, nz: &mut usize)
 }
 
 fn put_settings(g: FlumeSettings, p: &mut i64, gx: &mut i64, gz: &mut i64)
-    ensures { λ _. ⌜ flumeSettingsOf (now (p .exit)) (now (gx .exit)) (now (gz .exit)) ≡ g ⌝ }
+    ensures { λ _. ⌜ flumeSettingsOf (now (p .exit)) (now (gx .exit)) (now (gz .exit)) ≡ flumeRecorded g ⌝ }
 {
     let relaxation = g.p;
     let x = g.gx;

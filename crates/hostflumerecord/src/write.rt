@@ -31,7 +31,12 @@ pub extern "C" fn skw_flume_write(
     ensures { λ r. ⌜ FlumeWriteTold (flumeSidesOf nx nz) (flumeSettingsOf p gx gz) (flumeSiteOf edge ox oz) (lent (now (flags .entry)) (now (parts .entry)) (now (masses .entry)) (now (fills .entry)) (now (carry .entry))) (now (room .entry)) r (now (place .exit)) (now (bytes .exit)) (now (room .exit)) ⌝ }
 {
     let s = FlumeSides { nx, nz };
-    let g = FlumeSettings { p, gx, gz };
+    let g = FlumeSettings {
+        p,
+        gx,
+        gz,
+        turbulent: false,
+    };
     let t = FlumeSite { edge, x: ox, z: oz };
     let w = writer::write(s, g, t, flags, parts, masses, fills, carry, room);
     let a = w.answer;

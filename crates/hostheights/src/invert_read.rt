@@ -55,7 +55,13 @@ pub extern "C" fn skw_invert_read(
 ) -> u8
     ensures { λ r. ⌜ InvertTold (now (text .entry)) nz oz (settingsOf p gx gy gz) (lent (now (flags .entry)) (now (parts .entry)) (now (masses .entry)) (now (fills .entry)) (now (carry .entry))) (index (now (words .entry)) (now (count .entry))) r (now (place .exit)) (now (nx .exit)) (now (ny .exit)) (now (edge .exit)) (now (ox .exit)) (now (oy .exit)) (lent (now (flags .exit)) (now (parts .exit)) (now (masses .exit)) (now (fills .exit)) (now (carry .exit))) (index (now (words .exit)) (now (count .exit))) ⌝ }
 {
-    let g = Settings { p, gx, gy, gz };
+    let g = Settings {
+        p,
+        gx,
+        gy,
+        gz,
+        turbulent: false,
+    };
     let h = reader::read(
         text,
         nz,

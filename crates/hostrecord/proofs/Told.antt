@@ -12,6 +12,7 @@ use Rattle.record.specs.declared.Site.{Site}
 use Rattle.record.specs.declared.Written.{Written}
 use Rattle.record.specs.declared.Head.{Head}
 use Rattle.record.specs.declared.Span.{Span}
+use Rattle.record.specs.Layout.{recorded}
 use Rattle.record.specs.Promise.{Wrote, spanOf}
 use Rattle.index.specs.Index.{Index}
 use Rattle.index.specs.Held.{Held}
@@ -36,7 +37,7 @@ write-told {s} {k = k} {t = t} {a = a} {room = room} {number = number} {place = 
 -- the head's numbers, and where its flags stand
 pub read-told : {r : List ℕ} {a : Held} {head : Head} {span : Span} {number place : ℕ} {s : Sides} {g : Settings} {t : Site} {parts masses : List ℤ} {fills : List ℕ} {carry : List ℤ} {index : Index}
     → Read r a head parts masses fills carry index → span ≡ spanOf r head → number ≡ numberOf (head .answer) → place ≡ placeOf (head .answer)
-    → s ≡ head .sides → g ≡ head .settings → t ≡ head .site
+    → s ≡ head .sides → g ≡ recorded (head .settings) → t ≡ head .site
     → ReadTold r a number place s g t (span .from) (span .to) parts masses fills carry index
 read-told {r} {a} h f n p es eg et =
     let e = f ∙ ap (spanOf r) (h .head-is) in
@@ -44,7 +45,7 @@ read-told {r} {a} h f n p es eg et =
       number-is = n ∙ ap (λ (x : Head). numberOf (x .answer)) (h .head-is);
       place-is = p ∙ ap (λ (x : Head). placeOf (x .answer)) (h .head-is);
       sides-are = es ∙ ap (λ (x : Head). x .sides) (h .head-is);
-      settings-are = eg ∙ ap (λ (x : Head). x .settings) (h .head-is);
+      settings-are = eg ∙ ap (λ (x : Head). recorded (x .settings)) (h .head-is);
       site-is = et ∙ ap (λ (x : Head). x .site) (h .head-is);
       from-is = ap (λ (x : Span). x .from) e ∙ spans r a .begin;
       to-is = ap (λ (x : Span). x .to) e ∙ spans r a .end;

@@ -9,6 +9,7 @@ use Rattle.grid.specs.declared.Sides.{Sides}
 use Rattle.grid.specs.State.{Lent}
 use Rattle.grid.specs.Outcome.{numberOf, placeOf}
 use Rattle.record.specs.declared.Site.{Site}
+use Rattle.record.specs.Layout.{recorded}
 use Rattle.record.specs.Writing.{written, writtenRoom}
 use Rattle.index.specs.Index.{Index}
 use Rattle.index.specs.Held.{Held}
@@ -22,7 +23,7 @@ pub record ReadTold (r : List ℕ) (a : Held) (number place : ℕ) (s : Sides) (
   pub number-is : number ≡ numberOf (readHead r a .answer)
   pub place-is : place ≡ placeOf (readHead r a .answer)
   pub sides-are : s ≡ readHead r a .sides
-  pub settings-are : g ≡ readHead r a .settings
+  pub settings-are : g ≡ recorded (readHead r a .settings)
   pub site-is : t ≡ readHead r a .site
   pub from-is : from ≡ flagsFrom r a
   pub to-is : to ≡ flagsFrom r a + length (readFlags r a)

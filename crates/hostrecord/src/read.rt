@@ -7,6 +7,7 @@ use lattice::Settings;
 use record::Site;
 use record::flags;
 ghost use mathlib.Core.Path.{_≡_};
+ghost use Rattle.record.specs.Layout.{recorded};
 ghost use Rattle.record.specs.Promise.{flagless};
 ghost use Rattle.index.specs.Index.{index};
 ghost use Rattle.index.specs.Held.{held};
@@ -22,7 +23,7 @@ fn put_sides(s: Sides, nx: &mut usize, ny: &mut usize, nz: &mut usize)
 }
 
 fn put_settings(g: Settings, p: &mut i64, gx: &mut i64, gy: &mut i64, gz: &mut i64)
-    ensures { λ _. ⌜ settingsOf (now (p .exit)) (now (gx .exit)) (now (gy .exit)) (now (gz .exit)) ≡ g ⌝ }
+    ensures { λ _. ⌜ settingsOf (now (p .exit)) (now (gx .exit)) (now (gy .exit)) (now (gz .exit)) ≡ recorded g ⌝ }
 {
     let relaxation = g.p;
     let x = g.gx;

@@ -35,7 +35,13 @@ pub extern "C" fn skw_write(
     ensures { λ r. ⌜ WriteTold (sidesOf nx ny nz) (settingsOf p gx gy gz) (siteOf edge ox oy oz) (lent (now (flags .entry)) (now (parts .entry)) (now (masses .entry)) (now (fills .entry)) (now (carry .entry))) (now (room .entry)) r (now (place .exit)) (now (bytes .exit)) (now (room .exit)) ⌝ }
 {
     let s = Sides { nx, ny, nz };
-    let g = Settings { p, gx, gy, gz };
+    let g = Settings {
+        p,
+        gx,
+        gy,
+        gz,
+        turbulent: false,
+    };
     let t = Site {
         edge,
         x: ox,

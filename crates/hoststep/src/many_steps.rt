@@ -7,7 +7,7 @@ use runs::running;
 ghost use Rattle.grid.specs.State.{lent};
 ghost use Rattle.index.specs.Index.{index};
 ghost use Rattle.index.specs.Held.{held};
-ghost use Rattle.host.specs.Given.{sidesOf, settingsOf};
+ghost use Rattle.host.specs.Given.{sidesOf, settingsIn};
 ghost use Rattle.hoststep.specs.Promise.{RunTold};
 
 // At most `steps` steps between the two sets, each with its index; how many were made.
@@ -36,13 +36,20 @@ pub extern "C" fn skw_run(
     gx: i64,
     gy: i64,
     gz: i64,
+    turbulent: bool,
     number: &mut u8,
     place: &mut usize,
 ) -> usize
-    ensures { λ r. ⌜ RunTold steps (sidesOf nx ny nz) (settingsOf p gx gy gz) (held (lent (now (flags .entry)) (now (parts .entry)) (now (masses .entry)) (now (fills .entry)) (now (carry .entry))) (index (now (words .entry)) (now (count .entry)))) (held (lent (now (flags2 .entry)) (now (parts2 .entry)) (now (masses2 .entry)) (now (fills2 .entry)) (now (carry2 .entry))) (index (now (words2 .entry)) (now (count2 .entry)))) (now (marks .entry)) r (now (number .exit)) (now (place .exit)) (held (lent (now (flags .exit)) (now (parts .exit)) (now (masses .exit)) (now (fills .exit)) (now (carry .exit))) (index (now (words .exit)) (now (count .exit)))) (held (lent (now (flags2 .exit)) (now (parts2 .exit)) (now (masses2 .exit)) (now (fills2 .exit)) (now (carry2 .exit))) (index (now (words2 .exit)) (now (count2 .exit)))) (now (marks .exit)) ⌝ }
+    ensures { λ r. ⌜ RunTold steps (sidesOf nx ny nz) (settingsIn turbulent p gx gy gz) (held (lent (now (flags .entry)) (now (parts .entry)) (now (masses .entry)) (now (fills .entry)) (now (carry .entry))) (index (now (words .entry)) (now (count .entry)))) (held (lent (now (flags2 .entry)) (now (parts2 .entry)) (now (masses2 .entry)) (now (fills2 .entry)) (now (carry2 .entry))) (index (now (words2 .entry)) (now (count2 .entry)))) (now (marks .entry)) r (now (number .exit)) (now (place .exit)) (held (lent (now (flags .exit)) (now (parts .exit)) (now (masses .exit)) (now (fills .exit)) (now (carry .exit))) (index (now (words .exit)) (now (count .exit)))) (held (lent (now (flags2 .exit)) (now (parts2 .exit)) (now (masses2 .exit)) (now (fills2 .exit)) (now (carry2 .exit))) (index (now (words2 .exit)) (now (count2 .exit)))) (now (marks .exit)) ⌝ }
 {
     let s = Sides { nx, ny, nz };
-    let g = Settings { p, gx, gy, gz };
+    let g = Settings {
+        p,
+        gx,
+        gy,
+        gz,
+        turbulent,
+    };
     let ran = running::run(
         steps,
         flags,

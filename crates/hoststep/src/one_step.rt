@@ -7,7 +7,7 @@ use lattice::Settings;
 ghost use Rattle.grid.specs.State.{lent};
 ghost use Rattle.index.specs.Index.{index};
 ghost use Rattle.index.specs.Held.{held};
-ghost use Rattle.host.specs.Given.{sidesOf, settingsOf};
+ghost use Rattle.host.specs.Given.{sidesOf, settingsIn};
 ghost use Rattle.hoststep.specs.Promise.{StepTold};
 
 // One step from the first set to the second, each with its index.
@@ -35,12 +35,19 @@ pub extern "C" fn skw_step(
     gx: i64,
     gy: i64,
     gz: i64,
+    turbulent: bool,
     place: &mut usize,
 ) -> u8
-    ensures { λ r. ⌜ StepTold (sidesOf nx ny nz) (settingsOf p gx gy gz) (held (lent (now (flags .entry)) (now (parts .entry)) (now (masses .entry)) (now (fills .entry)) (now (carry .entry))) (index (now (words .entry)) (now (count .entry)))) (held (lent (now (flags2 .entry)) (now (parts2 .entry)) (now (masses2 .entry)) (now (fills2 .entry)) (now (carry2 .entry))) (index (now (words2 .entry)) (now (count2 .entry)))) (now (marks .entry)) r (now (place .exit)) (held (lent (now (flags2 .exit)) (now (parts2 .exit)) (now (masses2 .exit)) (now (fills2 .exit)) (now (carry2 .exit))) (index (now (words2 .exit)) (now (count2 .exit)))) (now (marks .exit)) ⌝ }
+    ensures { λ r. ⌜ StepTold (sidesOf nx ny nz) (settingsIn turbulent p gx gy gz) (held (lent (now (flags .entry)) (now (parts .entry)) (now (masses .entry)) (now (fills .entry)) (now (carry .entry))) (index (now (words .entry)) (now (count .entry)))) (held (lent (now (flags2 .entry)) (now (parts2 .entry)) (now (masses2 .entry)) (now (fills2 .entry)) (now (carry2 .entry))) (index (now (words2 .entry)) (now (count2 .entry)))) (now (marks .entry)) r (now (place .exit)) (held (lent (now (flags2 .exit)) (now (parts2 .exit)) (now (masses2 .exit)) (now (fills2 .exit)) (now (carry2 .exit))) (index (now (words2 .exit)) (now (count2 .exit)))) (now (marks .exit)) ⌝ }
 {
     let s = Sides { nx, ny, nz };
-    let g = Settings { p, gx, gy, gz };
+    let g = Settings {
+        p,
+        gx,
+        gy,
+        gz,
+        turbulent,
+    };
     let a = stepping::step(
         flags,
         parts,

@@ -15,7 +15,7 @@ use Rattle.grid.specs.Outcome.{runFirst}
 use Rattle.pumps.specs.Three.{threeAnswer}
 use Rattle.pumps.specs.Demands.{balance, totalled, Lived}
 use Rattle.record.specs.declared.Site.{Site}
-use Rattle.record.specs.Layout.{recordOf}
+use Rattle.record.specs.Layout.{recorded, recordOf}
 use Rattle.record.specs.Reading.{slicesFit, readHead, readFlags, readSet}
 use Rattle.record.specs.Writing.{writeAnswer}
 use Rattle.schemes.specs.Scheme.{wallAt, joined, parted, tested}
@@ -97,7 +97,7 @@ abbrev pub Recorded : Type 0
 Recorded =
     (s : Sides) (g : Settings) (t : Site) (map : List ℕ) (a : Lent) (room : List ℕ) (b : Lent) → tested s map a true ≡ Done → writeAnswer s g t (joined s map a) room ≡ Done
     → slicesFit (cellsOf s) (length (b .parts)) (length (b .masses)) (length (b .fills)) (length (b .carry)) ≡ true
-    → (readHead (recordOf s g t (joined s map a)) b ≡ record { answer = Done; sides = s; settings = g; site = t })
+    → (readHead (recordOf s g t (joined s map a)) b ≡ record { answer = Done; sides = s; settings = recorded g; site = t })
     × (readFlags (recordOf s g t (joined s map a)) b ≡ joined s map a .flags)
     × (readSet (recordOf s g t (joined s map a)) b ≡ joined s map a)
     × (parted s (readSet (recordOf s g t (joined s map a)) b) ≡ a)

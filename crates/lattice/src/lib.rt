@@ -5,12 +5,13 @@ pub mod limits;
 pub mod moments;
 pub mod rules;
 
-// The relaxation and the gravity of a step, as document 01's settings have them.
+// The relaxation and the gravity of a step, as document 01's settings have them, and its mode: in the turbulent one each cell has a relaxation of its own.
 pub struct Settings {
     pub p: i64,
     pub gx: i64,
     pub gy: i64,
     pub gz: i64,
+    pub turbulent: bool,
 }
 
 // Density and momentum of a cell.

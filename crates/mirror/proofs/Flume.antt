@@ -35,7 +35,7 @@ Running = (n : ℕ) (s : FlumeSides) (t : Axes) (g : FlumeSettings) (a b : Lent)
 -- gravity has no y, and so its reflection has none
 level-too : (t : Axes) (g : FlumeSettings) → levelSettings (reflectFlume t g) ≡ reflectSettings t (levelSettings g)
 unfolding reflectFlume reflectSettings
-level-too t g i = record { p = g .p; gx = reflectFlume t g .gx; gy = sym (turn-zero (t .y)) i; gz = reflectFlume t g .gz }
+level-too t g i = record { p = g .p; gx = reflectFlume t g .gx; gy = sym (turn-zero (t .y)) i; gz = reflectFlume t g .gz; turbulent = g .turbulent }
 
 pub flume-step-mirrors : Claim
 unfolding open-outcome flumeGrid flumeCells flume d2q9 flumeMirror boxMirror
@@ -52,4 +52,4 @@ flume-run-mirrors n s t g a b marks e calm second marks′ room =
 -- reflected twice, a flume's settings are themselves again
 pub flume-settings-back : (t : Axes) (g : FlumeSettings) → reflectFlume t (reflectFlume t g) ≡ g
 unfolding reflectFlume
-flume-settings-back t g i = record { p = g .p; gx = turn-twice (t .x) (g .gx) i; gz = turn-twice (t .z) (g .gz) i }
+flume-settings-back t g i = record { p = g .p; gx = turn-twice (t .x) (g .gx) i; gz = turn-twice (t .z) (g .gz) i; turbulent = g .turbulent }

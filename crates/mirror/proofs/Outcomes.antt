@@ -22,6 +22,7 @@ use Rattle.grid.specs.State.{Lent, stateOf}
 use Rattle.grid.specs.Step.{next}
 use Rattle.grid.specs.Outcome.{moveAnswer, lengthsGood, settingsGood, sceneOf, stepAnswer, stepSecond, open-outcome}
 use Rattle.grid.specs.Ground.{Ground, ground, boxGround, lengthsOn, stateOn, sceneOn, entryOn, stepOn, nextOn, secondOn}
+use Rattle.grid.specs.Mode.{pullOf}
 use Rattle.grid.specs.Demands.{gridAnswer}
 use Rattle.grid.proofs.Accepted.{passed, sound}
 use Rattle.grid.proofs.Laid.{Laid}
@@ -34,6 +35,7 @@ use Rattle.mirror.proofs.Turned.{turn-square, turn-twice}
 use Rattle.mirror.proofs.Cells.{grid-mirror}
 use Rattle.mirror.proofs.Rules.{good-too}
 use Rattle.mirror.proofs.Sets.{set-reflects, sets-reflect, set-twice, exact}
+use Rattle.mirror.proofs.Owned as owned
 use Rattle.mirror.proofs.Stepped.{mirror-holds}
 
 abbrev pub Claim : Type 0
@@ -89,8 +91,8 @@ module _ (L : Lattice) (K : Grid) (fits : Bool) (M : Mirror) where
 
     -- the relaxation goes with its cell
     relax-goes : (c : ℕ) → c < K .cells → K .outer c ≡ false → sceneOn G h (turned a) .relax c ≡ sceneOn G g a .relax (M .cell c)
-    unfolding reflectSettings
-    relax-goes c l o = refl
+    unfolding reflectSettings reflect
+    relax-goes c l o = owned.relax-goes L K M paired laid m (stateOn G a) (stateOn G (turned a)) state-too (pullOf g) (g .turbulent) (g .p) c l o
 
     -- ---- tests 1 to 6
     pub entry-too : (b : Lent) (marks : List ℕ) (rest rest′ : Answer) → entryOn G g a b marks rest ≡ Done → (second : Lent) (marks′ : List ℕ) → Room G second marks′
@@ -152,4 +154,4 @@ set-back s t a e = set-twice d3q19 (gridOf s) (mirrorOf s t) (grid-mirror s t) a
 
 pub settings-back : (t : Axes) (g : Settings) → reflectSettings t (reflectSettings t g) ≡ g
 unfolding reflectSettings
-settings-back t g i = record { p = g .p; gx = turn-twice (t .x) (g .gx) i; gy = turn-twice (t .y) (g .gy) i; gz = turn-twice (t .z) (g .gz) i }
+settings-back t g i = record { p = g .p; gx = turn-twice (t .x) (g .gx) i; gy = turn-twice (t .y) (g .gy) i; gz = turn-twice (t .z) (g .gz) i; turbulent = g .turbulent }

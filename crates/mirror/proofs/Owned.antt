@@ -15,6 +15,7 @@ use Rattle.lattice.proofs.Paired.{Paired}
 use Rattle.grid.specs.Grid.{Grid}
 use Rattle.grid.specs.State.{State, Scene}
 use Rattle.grid.specs.Step.{streamed, newDensity, newMomentum}
+use Rattle.grid.specs.Mode.{ownAt, relaxIn, before}
 use Rattle.grid.specs.Demands.{scene}
 use Rattle.grid.proofs.Laid.{Laid}
 use Rattle.turbulence.specs.Turbulence.{component, beyond, stress, square, tension, own, ownRelaxation}
@@ -96,10 +97,6 @@ module _ (L : Lattice) (t : Axes) (π : ℕ → ℕ) (m : Turns L t π) where
       ap (λ (u : ℕ). pos (own (natAbs p) u))
       (tension-alike (beyond L ρ j f) (beyond L ρ′ j′ f′) (λ i d. ap₂ (λ (x y : ℤ). x -ℤ y) (same i (d .most)) (still-alike L t π m ρ ρ′ j j′ r e i d)))
 
--- own p of cell c in a scene, where its plain relaxation is p
-unfoldable pub ownAt : Scene → ℤ → ℕ → ℤ
-ownAt S p c = ownRelaxation (S .lat) (newDensity S c) (newMomentum S c) p (streamed S c)
-
 -- in a step of the reflected state it is that of the reflected cell
 module _ (L : Lattice) (G : Grid) (M : Mirror) (paired : Paired L) (laid : Laid L G) (m : Reflection L G M)
     (s t : State) (same : Reflects M (L .q) (G .cells) s t) (g : V3) (p p′ : ℕ → ℤ) where
@@ -109,3 +106,17 @@ module _ (L : Lattice) (G : Grid) (M : Mirror) (paired : Paired L) (laid : Laid 
   own-goes plain c h o =
       own-alike L (M .axes) (M .dir) (m .turns) _ _ _ _ plain _ _ (density-new L G M paired laid m s t same g p p′ c h o)
       (momentum-new L G M paired laid m s t same g p p′ c h o) (streamed-alike L G M paired laid m s t same g p p′ c h o)
+
+-- what own p turns on: no masses and no carry
+abbrev bare : State → State
+bare s = record { flag = s .flag; part = s .part; mass = λ c. pos 0; fill = s .fill; carry = pos 0 }
+
+-- in either mode the reflected cell's relaxation is the cell's
+module _ (L : Lattice) (G : Grid) (M : Mirror) (paired : Paired L) (laid : Laid L G) (m : Reflection L G M) (s t : State) (same : Reflects M (L .q) (G .cells) s t) (g : V3) where
+  bare-too : Reflects M (L .q) (G .cells) (bare s) (bare t)
+  bare-too = record { flags = same .flags; parts = same .parts; masses = λ c h. refl; fills = same .fills; carries = refl }
+
+  pub relax-goes : (mode : Bool) (p : ℤ) (c : ℕ) → c < G .cells → G .outer c ≡ false
+      → relaxIn mode (before L G (t .flag) (t .part) (t .fill) (reflect (M .axes) g)) p c ≡ relaxIn mode (before L G (s .flag) (s .part) (s .fill) g) p (M .cell c)
+  relax-goes false p c h o = refl
+  relax-goes true p c h o = own-goes L G M paired laid m (bare s) (bare t) bare-too g (λ d. pos 0) (λ d. pos 0) p c h o

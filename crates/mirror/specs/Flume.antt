@@ -15,4 +15,4 @@ abbrev pub reflectFlumeSet : FlumeSides → Axes → Lent → Lent
 reflectFlumeSet s t a = reflectOn (flumeGround s) (mirrorIn s t) a
 
 unfoldable pub reflectFlume : Axes → FlumeSettings → FlumeSettings
-reflectFlume t g = record { p = g .p; gx = turn (t .x) (g .gx); gz = turn (t .z) (g .gz) }
+reflectFlume t g = record { p = g .p; gx = turn (t .x) (g .gx); gz = turn (t .z) (g .gz); turbulent = g .turbulent }

@@ -1,21 +1,19 @@
--- The flume's own lattice and the nineteen places give the same own p and, by it, the same parts; and the tensor does not know the weights. Assumes nothing.
+-- The flume's own lattice and the nineteen places give the same own p; and the tensor does not know the weights. Assumes nothing.
 use mathlib.Core.Path.{_≡_, refl, sym, ap, ap₂, _∙_}
 use Prim.Native.Nat.{ℕ, zero, suc, _+_, _*_, _≤_}
-use native.Mathlib.Nat.{lt-irrefl}
 use native.Mathlib.Omega.{arith}
 use lib.IntN.{ℤ, pos, natAbs, _+ℤ_, _-ℤ_, _*ℤ_, *ℤ-zero}
 use Rattle.whole.specs.Fold.{dirs}
 use Rattle.whole.specs.Search.{Dir}
 use Rattle.lattice.specs.Lattice.{V3, dot, Lattice, d3q19, d2q9}
-use Rattle.lattice.specs.Cell.{still, quad, relaxed}
-use Rattle.lattice.specs.Body.{stillDir, relaxedDir, collidedPart}
+use Rattle.lattice.specs.Cell.{still, quad}
+use Rattle.lattice.specs.Body.{stillDir}
 use Rattle.grid.specs.State.{Scene}
 use Rattle.grid.specs.Step.{streamed, newDensity, newMomentum}
 use Rattle.flume.specs.Spread.{wide, Idle, Spreads, spreadLattice, plainScene, spreadScene}
-use Rattle.flume.proofs.Places.{by-nine, wide-dir, spread-at, dirs-same}
+use Rattle.flume.proofs.Places.{spread-at, dirs-same}
 use Rattle.flume.proofs.Flowing.{e-at, streamed-spreads, new-density-same, new-momentum-same}
-use Rattle.nine.proofs.Places.{idle-stays}
-use Rattle.turbulence.specs.Turbulence.{component, beyond, stress, square, tension, own, ownRelaxation, turbulentPart}
+use Rattle.turbulence.specs.Turbulence.{component, beyond, stress, square, tension, own, ownRelaxation}
 use Rattle.turbulence.proofs.Tensor.{tension-entries}
 use Rattle.nineturbulence.proofs.Fours.{beyond-none}
 
@@ -58,36 +56,6 @@ module _ (ρ : ℤ) (j : V3) (f h : ℕ → ℤ) (z : Spreads f h) where
   pub own-same : (p : ℤ) → ownRelaxation spreadLattice ρ j p f ≡ ownRelaxation d2q9 ρ j p h
   unfolding ownRelaxation
   own-same p = ap (λ (t : ℕ). pos (own (natAbs p) t)) tension-same
-
-  -- ---- stage 4 with it
-  module _ (p : ℤ) where
-    relaxed-at : (k : ℕ) → Dir 8 k → relaxedDir spreadLattice ρ j p f (wide k) ≡ relaxedDir d2q9 ρ j p h k
-    unfolding relaxedDir
-    relaxed-at k d i = relaxed p (weight-at k d i) (quad ρ (dot (e-at k d i) j) (dot j j)) ρ (z .at k (d .most) i)
-
-    relaxed-idle : (i : ℕ) → Idle i → relaxedDir spreadLattice ρ j p f i ≡ pos 0
-    relaxed-idle i n = idle-stays ρ j p f i n (z .none i n)
-
-    moving : (L : Lattice) (g : ℕ → ℤ) (i : ℕ) → Dir (L .q) i → collidedPart L ρ j p g i ≡ relaxedDir L ρ j p g i
-    unfolding collidedPart
-    moving L g zero d = absurd (lt-irrefl zero (d .some))
-    moving L g (suc a) d = refl
-
-    rest-same : collidedPart spreadLattice ρ j p f (wide 0) ≡ collidedPart d2q9 ρ j p h 0
-    unfolding d3q19 d2q9 wide collidedPart
-    rest-same = ap (λ (x : ℤ). ρ -ℤ x) (dirs-same (relaxedDir spreadLattice ρ j p f) (relaxedDir d2q9 ρ j p h) relaxed-at relaxed-idle)
-
-    moving-same : (k : ℕ) → Dir 8 k → collidedPart spreadLattice ρ j p f (wide k) ≡ collidedPart d2q9 ρ j p h k
-    unfolding d3q19 d2q9
-    moving-same k d = moving spreadLattice f (wide k) (wide-dir k d) ∙ relaxed-at k d ∙ sym (moving d2q9 h k d)
-
-    collided-same : (k : ℕ) → k ≤ 8 → collidedPart spreadLattice ρ j p f (wide k) ≡ collidedPart d2q9 ρ j p h k
-    collided-same = by-nine (λ k. collidedPart spreadLattice ρ j p f (wide k) ≡ collidedPart d2q9 ρ j p h k) rest-same moving-same
-
-  pub part-same : (p : ℤ) (k : ℕ) → k ≤ 8 → turbulentPart spreadLattice ρ j p f (wide k) ≡ turbulentPart d2q9 ρ j p h k
-  unfolding turbulentPart
-  part-same p k l =
-      ap (λ (o : ℤ). collidedPart spreadLattice ρ j o f (wide k)) (own-same p) ∙ collided-same (ownRelaxation d2q9 ρ j p h) k l
 
 -- ---- own p of cell c in a step
 pub own-in-step : (S : Scene) (p : ℤ) (c : ℕ)

@@ -31,6 +31,7 @@ pub fn refused(a: Answer) -> Head
         gx: 0,
         gy: 0,
         gz: 0,
+        turbulent: false,
     };
     let t = Site {
         edge: 0,

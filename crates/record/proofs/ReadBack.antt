@@ -49,7 +49,7 @@ use Rattle.record.specs.declared.Site.{Site}
 use Rattle.record.specs.declared.Head.{Head}
 use Rattle.record.specs.Bytes.{bytesOf, value, part, u32At, i32At, i64At, u32Of, i32Of, i64Of, join, gathered}
 use Rattle.record.specs.Places.{past, counts, settingsFrom, originFrom, totalsFrom, cellsFrom, massesFrom, partsFrom, lengthOf}
-use Rattle.record.specs.Layout.{siteGood, section, interfaces, liquids, massBytes, cellBytes, partBytes, siteBytes, totalsBytes, headBytes, cellsBytes, recordOf, recordLength}
+use Rattle.record.specs.Layout.{recorded, siteGood, section, interfaces, liquids, massBytes, cellBytes, partBytes, siteBytes, totalsBytes, headBytes, cellsBytes, recordOf, recordLength}
 use Rattle.record.specs.Reading.{sidesIn, settingsIn, siteIn, totalsIn, carryIn, pouredIn, takenIn, cellsIn, flagsIn, flagIn, interfacesIn, liquidsIn, slicesFit, contentAnswer, massAt, partAt, massIn, partIn, stateIn, readAnswer, readHead, readFlags, readSet}
 use Rattle.record.specs.Writing.{writeAnswer}
 use Rattle.record.specs.Passes.{Held, Sound}
@@ -66,9 +66,14 @@ abbrev pub Claim : Type 0
 Claim =
     (s : Sides) (g : Settings) (t : Site) (a : Lent) (room : List ℕ) (b : Lent) → writeAnswer s g t a room ≡ Done
     → slicesFit (cellsOf s) (length (b .parts)) (length (b .masses)) (length (b .fills)) (length (b .carry)) ≡ true
-    → (readHead (recordOf s g t a) b ≡ record { answer = Done; sides = s; settings = g; site = t })
+    → (readHead (recordOf s g t a) b ≡ record { answer = Done; sides = s; settings = recorded g; site = t })
     × (readFlags (recordOf s g t a) b ≡ a .flags)
     × (readSet (recordOf s g t a) b ≡ a)
+
+-- test 3 asks for no mode
+no-mode : (g : Settings) (t : Site) → siteGood (recorded g) t ≡ siteGood g t
+unfolding siteGood settingsGood
+no-mode g t = refl
 
 -- ---- sections 1 to 4: their numbers, whatever follows
 module _ (s : Sides) (g : Settings) (t : Site) (k p q : ℤ) (y : List ℕ) where
@@ -95,14 +100,15 @@ module _ (s : Sides) (g : Settings) (t : Site) (k p q : ℤ) (y : List ℕ) wher
       let ez : u32At h 12 ≡ s .nz = value-bytesOf 4 (s .nz) z in
       ap₂ (λ (u v : ℕ). record { nx = u; ny = v; nz = u32At h 12 }) ex ey ∙ ap (λ (w : ℕ). record { nx = s .nx; ny = s .ny; nz = w }) ez
 
-  settings-back : SFits w32 (g .p) → SFits w32 (g .gx) → SFits w32 (g .gy) → SFits w32 (g .gz) → settingsIn h ≡ g
+  settings-back : SFits w32 (g .p) → SFits w32 (g .gx) → SFits w32 (g .gy) → SFits w32 (g .gz) → settingsIn h ≡ recorded g
   unfolding headBytes siteBytes totalsBytes join bytesOf settingsIn
   settings-back fp fx fy fz =
       let p : i32At h 20 ≡ g .p = back w32 4 (g .p) fp refl in
       let x : i32At h 24 ≡ g .gx = back w32 4 (g .gx) fx refl in
       let y : i32At h 28 ≡ g .gy = back w32 4 (g .gy) fy refl in
       let z : i32At h 32 ≡ g .gz = back w32 4 (g .gz) fz refl in
-      ap₂ (λ (u v : ℤ). record { p = u; gx = v; gy = i32At h 28; gz = i32At h 32 }) p x ∙ ap₂ (λ (u v : ℤ). record { p = g .p; gx = g .gx; gy = u; gz = v }) y z
+      ap₂ (λ (u v : ℤ). record { p = u; gx = v; gy = i32At h 28; gz = i32At h 32; turbulent = false }) p x
+      ∙ ap₂ (λ (u v : ℤ). record { p = g .p; gx = g .gx; gy = u; gz = v; turbulent = false }) y z
 
   site-back : SFits w32 (t .edge) → SFits w64 (t .x) → SFits w64 (t .y) → SFits w64 (t .z) → siteIn h ≡ t
   unfolding headBytes siteBytes totalsBytes join bytesOf siteIn
@@ -220,7 +226,7 @@ module _ (s : Sides) (g : Settings) (t : Site) (a : Lent) (fit : Fit s g t a) wh
   sides-so =
       sides-back s g t (numberIn a 0) poured taken _ (let h = small-sides .x .high in omega arith) (let h = small-sides .y .high in omega arith) (let h = small-sides .z .high in omega arith)
 
-  settings-so : settingsIn rec ≡ g
+  settings-so : settingsIn rec ≡ recorded g
   unfolding recordOf
   settings-so = let w = small g t (fit .site) in settings-back s g t (numberIn a 0) poured taken _ (fits-word (w .p)) (fits-word (w .gx)) (fits-word (w .gy)) (fits-word (w .gz))
 
@@ -402,7 +408,7 @@ module _ (s : Sides) (g : Settings) (t : Site) (a : Lent) (fit : Fit s g t a) wh
       subst (λ (k : ℕ). suc k ≤ badRule d3q19 k (stateIn rec)) (sym cells-so) (le-trans (tests .2) (le-of-eq (sym (bad-rule-same d3q19 n (stateIn rec) S same)))) in
       let totals = totalsGood (pouredIn rec) (takenIn rec) in
       let last = orRefuse totals 6 m Done in
-      or-pass 3 0 _ (ap₂ siteGood settings-so site-so ∙ fit .site) ∙ skip m 5 place (ifNone (suc m) 6 rules last) shut ∙ skip (suc m) 6 rules last kept
+      or-pass 3 0 _ (ap₂ siteGood settings-so site-so ∙ no-mode g t ∙ fit .site) ∙ skip m 5 place (ifNone (suc m) 6 rules last) shut ∙ skip (suc m) 6 rules last kept
       ∙ or-pass 6 m Done (ap₂ totalsGood poured-so taken-so ∙ fit .totals)
     where
       same : Same (d3q19 .q) n (stateIn rec) S

@@ -18,6 +18,10 @@ use Rattle.record.specs.declared.Site.{Site}
 use Rattle.record.specs.Places.{counts, lengthOf}
 use Rattle.record.specs.Bytes.{u32Of, i32Of, i64Of, join, gathered}
 
+-- settings as a record keeps them: it has p and gravity, and no mode
+abbrev pub recorded : Settings → Settings
+recorded g = record { p = g .p; gx = g .gx; gy = g .gy; gz = g .gz; turbulent = false }
+
 -- p, gravity, cell edge and origin coordinates in their ranges: what refusal 3 asks of a record
 unfoldable pub siteGood : Settings → Site → Bool
 siteGood g t = settingsGood g && edgeGood (t .edge) && coordinateGood (t .x) && coordinateGood (t .y) && coordinateGood (t .z)

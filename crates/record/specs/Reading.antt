@@ -82,7 +82,7 @@ unfoldable pub sidesIn : List ℕ → Sides
 sidesIn r = record { nx = sideAt r 0; ny = sideAt r 1; nz = sideAt r 2 }
 
 unfoldable pub settingsIn : List ℕ → Settings
-settingsIn r = record { p = settingAt r 0; gx = settingAt r 1; gy = settingAt r 2; gz = settingAt r 3 }
+settingsIn r = record { p = settingAt r 0; gx = settingAt r 1; gy = settingAt r 2; gz = settingAt r 3; turbulent = false }
 
 unfoldable pub siteIn : List ℕ → Site
 siteIn r = record { edge = settingAt r 4; x = originAt r 0; y = originAt r 1; z = originAt r 2 }
@@ -217,7 +217,7 @@ abbrev pub refusedHead : Answer → Head
 refusedHead answer = record {
   answer = answer;
   sides = record { nx = 0; ny = 0; nz = 0 };
-  settings = record { p = pos 0; gx = pos 0; gy = pos 0; gz = pos 0 };
+  settings = record { p = pos 0; gx = pos 0; gy = pos 0; gz = pos 0; turbulent = false };
   site = record { edge = pos 0; x = pos 0; y = pos 0; z = pos 0 };
 }
 

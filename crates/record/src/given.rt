@@ -65,6 +65,7 @@ pub fn settings_in(rec: &[u8]) -> Settings
         gx: x,
         gy: y,
         gz: z,
+        turbulent: false,
     }
 }
 

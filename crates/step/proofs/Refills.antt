@@ -27,6 +27,7 @@ use Rattle.grid.proofs.Dense.{born-part}
 use Rattle.grid.proofs.Moved.{density-collided, density-born}
 use Rattle.grid.proofs.Same.{density-same}
 use Rattle.flow.proofs.Collisions.{relaxation-of}
+use Rattle.flow.proofs.Modes.{relax-good}
 use Rattle.flow.proofs.Onward.{collided-seen}
 use Rattle.flow.proofs.Spans.{Light, light-low, streamed-in}
 use Rattle.turn.specs.Born.{TestedOn}
@@ -54,7 +55,7 @@ module _ (weights : ℕ → ℕ) (light : Light weights) (flags : List ℕ) (par
     moved-in : (i : ℕ) → 1 ≤ i → i < 19 → Within (collidedDir S c i) 33554432
     unfolding collidedDir sight
     moved-in i z k =
-        relaxed-in (tame .low) (tame .rho) (relaxation-in (g .p) relax) (light-low light i z k) (quad-of flow tame i k)
+        relaxed-in (tame .low) (tame .rho) (relaxation-in (S .relax c) (relax-good (g .turbulent) _ (g .p) c relax)) (light-low light i z k) (quad-of flow tame i k)
         (streamed-in weights light flags part fills off low g (t .bodies) c (t .around c h (wet-low (getD flags c 3) l)) l i (omega arith))
 
     pub collided-weighty : Weighty (collided S c)

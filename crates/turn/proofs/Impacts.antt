@@ -26,6 +26,7 @@ use Rattle.grid.specs.State.{Scene, liquid}
 use Rattle.grid.specs.Step.{streamed, newDensity, newMomentum, tooFast, collidedDir, collided}
 use Rattle.grid.specs.Passes.{Amid}
 use Rattle.grid.specs.Sight.{weighing, Around, Bodies, sight}
+use Rattle.flow.proofs.Modes.{relax-good}
 use Rattle.flow.proofs.Collisions.{relaxation-of}
 use Rattle.flow.proofs.Plain.{axial19, streamed-same}
 use Rattle.flow.proofs.Spans.{light-low, streamed-in}
@@ -144,7 +145,7 @@ module _ (F : Field) (r : Standing F) (t : F .cells ≤ first (F .cells) (tooFas
   dir-in : (i : ℕ) → Dir 18 i → natAbs (collidedDir S c i) ≤ 33554432
   unfolding collidedDir flow
   dir-in i d =
-      relaxed-in (F .g .p) (F .weights i) _ (newDensity S c) (streamed S c i) (relaxation-in (F .g .p) (relaxation-of (F .g) (r .settings)) .abs) (light-low (r .light) i (d .some) (omega (arith, d .most)))
+      relaxed-in (S .relax c) (F .weights i) _ (newDensity S c) (streamed S c i) (relaxation-in (S .relax c) (relax-good (F .g .turbulent) _ (F .g .p) c (relaxation-of (F .g) (r .settings))) .abs) (light-low (r .light) i (d .some) (omega (arith, d .most)))
       (quad-in (newDensity S c) (dot (d3q19 .e i) (newMomentum S c)) (dot (newMomentum S c) (newMomentum S c)) (tame .rho .abs)
       (along-in (newMomentum S c) i d (tame .x .abs) (tame .y .abs) (tame .z .abs)) (square-in (newMomentum S c) (tame .x .abs) (tame .y .abs) (tame .z .abs)))
       (abs-above (tame .low)) (tame .rho .abs) (stream-in i (d .most) .abs)

@@ -122,7 +122,7 @@ module _ (F : Field) (r : Standing F) where
   momentum-seen c h l =
       new-momentum-same (weighing (F .weights)) (paired19 .dir) axial19 (seen .grid) (step .grid) (step .old .flag) (step .old .part) (step .old .fill) c
       (λ i d. near-of c h l i (omega arith))
-      (seen .old .mass) (step .old .mass) (seen .old .carry) (step .old .carry) (step .g) (step .relax)
+      (seen .old .mass) (step .old .mass) (seen .old .carry) (step .old .carry) (step .g) (seen .relax) (step .relax)
 
   module _ (c : ℕ) (inner : Amid (F .cells) (F .low) c) where
     place : (a : ℕ) → a < 18 → seen .grid .near c (suc a) ≡ step .grid .near c (suc a)

@@ -5,7 +5,7 @@
 
 use super::{raw, Axis, Point, Settings, Sides, Site};
 use crate::lent::answered;
-use crate::{Refusal, State, StateMut, Stopped};
+use crate::{InMode, Refusal, State, StateMut, Stopped};
 
 /// What the reader answers beside the slices that it fills.
 #[derive(Clone, Copy, Debug, PartialEq, Eq)]
@@ -40,16 +40,18 @@ pub fn check(sides: Sides, state: State) -> Result<(), Refusal> {
     answered(number, place)
 }
 
-/// The state one step after the first into the second; marks is a byte per cell of work space, all 0 afterwards.
+/// The state one step after the first into the second; marks is a byte per cell of work space, all 0 afterwards. Settings alone make a
+/// plain step, [`Settings::in_mode`] one in either mode.
 ///
 /// Refusals 1 to 6 write nothing. After 7 or 8 the second is a copy of the first, and the marks are 0.
 pub fn step(
     sides: Sides,
-    settings: Settings,
+    settings: impl Into<InMode<Settings>>,
     first: State,
     second: StateMut,
     marks: &mut [u8],
 ) -> Result<(), Refusal> {
+    let InMode { settings, mode } = settings.into();
     let mut place = 0;
     let number = unsafe {
         raw::skw_flume_step(
@@ -80,6 +82,7 @@ pub fn step(
             settings.p,
             settings.gx,
             settings.gz,
+            mode.is_turbulent(),
             &mut place,
         )
     };
@@ -123,17 +126,18 @@ pub fn mirror(sides: Sides, first: State, second: StateMut, axis: Axis) -> Resul
     answered(number, place)
 }
 
-/// So many steps, 0 to 1,000, from the state in the first set, until one is refused.
+/// So many steps, 0 to 1,000, from the state in the first set, until one is refused, all in one mode as [`step`] takes it.
 ///
 /// Refusals 9 and 1 to 6 write nothing. Else both hold the state reached, after 7 or 8 too, and the marks are 0.
 pub fn run(
     sides: Sides,
-    settings: Settings,
+    settings: impl Into<InMode<Settings>>,
     steps: usize,
     first: StateMut,
     second: StateMut,
     marks: &mut [u8],
 ) -> Result<(), Stopped> {
+    let InMode { settings, mode } = settings.into();
     let (mut number, mut place) = (0, 0);
     let count = unsafe {
         raw::skw_flume_run(
@@ -165,6 +169,7 @@ pub fn run(
             settings.p,
             settings.gx,
             settings.gz,
+            mode.is_turbulent(),
             &mut number,
             &mut place,
         )

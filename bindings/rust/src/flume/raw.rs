@@ -45,6 +45,7 @@ extern "C" {
         p: i64,
         gx: i64,
         gz: i64,
+        turbulent: bool,
         place: *mut usize,
     ) -> u8;
 
@@ -104,6 +105,7 @@ extern "C" {
         p: i64,
         gx: i64,
         gz: i64,
+        turbulent: bool,
         number: *mut u8,
         place: *mut usize,
     ) -> usize;

@@ -29,6 +29,12 @@ pub const OUTPUT: Choice = Choice {
 };
 pub const QUIET: Choice =
     Choice { name: "quiet", letter: Some('q'), value: None, help: "say nothing but what is refused" };
+pub const TURBULENT: Choice = Choice {
+    name: "turbulent",
+    letter: None,
+    value: None,
+    help: "each cell by its own p, which stress takes off p",
+};
 
 /// What was said behind a command, by options and other words.
 pub struct Arguments {

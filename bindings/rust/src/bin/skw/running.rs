@@ -4,9 +4,9 @@
 use std::time::{Duration, Instant};
 
 use skwarzyna::spelling::grouped;
-use skwarzyna::{Refusal, Stopped};
+use skwarzyna::{Mode, Refusal, Stopped};
 
-use crate::arguments::{Arguments, QUIET};
+use crate::arguments::{Arguments, QUIET, TURBULENT};
 use crate::failure::{remark, Failure};
 use crate::files::{Input, Output};
 use crate::interrupt;
@@ -20,7 +20,7 @@ const LONG: Duration = Duration::from_millis(200);
 
 /// What a record holds, with its own settings.
 pub trait Runs {
-    fn run(&mut self, steps: usize) -> Result<(), Stopped>;
+    fn run(&mut self, steps: usize, mode: Mode) -> Result<(), Stopped>;
     fn total(&self) -> i64;
     fn write(&self, output: &Output) -> Result<(), Failure>;
     /// A refusal as a person can find its place.
@@ -41,6 +41,7 @@ pub fn steps<R: Runs>(
     read: impl FnOnce(&Input) -> Result<R, Failure>,
 ) -> Result<(), Failure> {
     let quiet = arguments.has(&QUIET);
+    let mode = if arguments.has(&TURBULENT) { Mode::Turbulent } else { Mode::Plain };
     let (input, output) = (arguments.input()?, arguments.output(true)?);
     // Before the work, so that hours of it are not lost to a name that cannot be written.
     output.ready()?;
@@ -49,11 +50,12 @@ pub fn steps<R: Runs>(
 
     interrupt::listen();
     let mut progress = Progress::new(steps, quiet);
-    let ended = advance(&mut runs, steps, &mut progress);
+    let ended = advance(&mut runs, steps, mode, &mut progress);
     progress.end();
     runs.write(&output)?;
 
-    let made = format!("{} of {} steps made", grouped(ended.made), grouped(steps));
+    let named = if mode.is_turbulent() { "turbulent steps" } else { "steps" };
+    let made = format!("{} of {} {named} made", grouped(ended.made), grouped(steps));
     let kept = format!("the state reached is in {}", output.name());
     if let Some(refusal) = ended.refusal {
         let why = runs.told(refusal);
@@ -73,7 +75,7 @@ pub fn steps<R: Runs>(
 }
 
 /// Makes the steps until all are made, one is refused, or somebody asks to end.
-fn advance(runs: &mut impl Runs, steps: u64, progress: &mut Progress) -> Ended {
+fn advance(runs: &mut impl Runs, steps: u64, mode: Mode, progress: &mut Progress) -> Ended {
     let (mut made, mut lot) = (0, 1);
     while made < steps {
         if let Some(signal) = interrupt::asked() {
@@ -81,7 +83,7 @@ fn advance(runs: &mut impl Runs, steps: u64, progress: &mut Progress) -> Ended {
         }
         let count = lot.min(steps - made);
         let start = Instant::now();
-        if let Err(stopped) = runs.run(count as usize) {
+        if let Err(stopped) = runs.run(count as usize, mode) {
             made += stopped.count as u64;
             return Ended { made, refusal: Some(stopped.refusal), signal: None };
         }

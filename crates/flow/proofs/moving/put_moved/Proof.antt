@@ -51,16 +51,25 @@ returns c flags parts fills off low l e =
     put-refused (d3q19 .weight) flags (partOf parts) fills off low _ _ _ e _ _ (u .0) (u .1) (c .before .before .pulled .ensures) l _ _ refl
     (sym (c .before .steady .ensures) ∙ not-true _ (c .if1 .taken))
 
--- the relaxation as it was passed on
-relaxation : (c : tie.After-struct-told) → toZ w64 (ofZ w64 (c .before .before .before .before .before .args .g .p)) ≡ c .before .before .before .before .before .args .g .p
-relaxation c = toZ-ofZ (record { sfits = c .struct-told .given .0 .1 })
+relaxation-requires : tie.Need-relaxation-requires
+relaxation-requires c κs =
+    let s = c .before .before .before .before in (
+      s .pre .0,
+      sym (c .before .steady .ensures) ∙ not-false _ (c .if1 .left),
+      s .pre .1,
+      s .pre .3,
+    )
+
+-- the relaxation as it is handed on
+handed : (c : tie.After-relaxation) → toZ w64 (ofZ w64 (c .relaxation .result)) ≡ c .relaxation .result
+handed c = toZ-ofZ (record { sfits = c .relaxation .ok })
 
 collided-requires : tie.Need-collided-requires
 collided-requires c κs =
     let s = c .before .before .before .before .before in (
       s .pre .0,
       sym (c .before .before .steady .ensures) ∙ not-false _ (c .before .if1 .left),
-      ap relaxationGood (relaxation c) ∙ relaxation-of _ (s .pre .1),
+      ap relaxationGood (handed c) ∙ c .relaxation .ensures .1,
     )
 
 mul-paste : tie.Need-mul-paste
@@ -82,10 +91,10 @@ returns-2 c flags parts fills off low l e =
     let s = a .before .before .before in
     let u = a .before .before .flow-of .ensures in
     put-accepted (d3q19 .weight) flags (partOf parts) fills off low _ _ _ e _ _ (u .0) (u .1) (a .before .pulled .ensures) l (k .collided .result)
-    (subst (λ (p : ℤ). k .collided .result ≡ tab 19 (collidedPart d3q19 (a .before .pulled .result .rho) (vec (a .before .pulled .result)) p (partsOf (s .args .f)))) (relaxation (k .before)) (k .collided .ensures .0))
+    (subst (λ (p : ℤ). k .collided .result ≡ tab 19 (collidedPart d3q19 (a .before .pulled .result .rho) (vec (a .before .pulled .result)) p (partsOf (s .args .f)))) (handed (k .before) ∙ k .before .relaxation .ensures .0) (k .collided .ensures .0))
     _ _ _ (s .pre .2) (c .before .before .before .paste .ensures) refl
     (sym (a .steady .ensures) ∙ not-false _ (k .before .before .if1 .left))
-    (toZ-ofZ (record { sfits = c .struct-told2 .given .0 .1 }))
+    (toZ-ofZ (record { sfits = c .struct-told .given .0 .1 }))
     (c .before .fair .ensures)
 
 pub put-moved-spec : {M : Type 1} → statement M
@@ -96,6 +105,7 @@ put-moved-spec =
     pulled-requires
     steady-requires
     returns
+    relaxation-requires
     collided-requires
     mul-paste
     paste-requires

@@ -36,20 +36,23 @@ chosen-requires c κs =
     let l = kind c in
     (p .bodied, p .filled, p .around l, l, p .mirrored, p .sources, p .marked l)
 
+shared-slice-read-put-moved : tie.Need-shared-slice-read-put-moved
+shared-slice-read-put-moved c = c .before .before .before .before .before .before .before .before .pre .is-cell
+
 put-moved-requires : tie.Need-put-moved-requires
 put-moved-requires c κs =
-    let t = c .before .before in
+    let t = c .before .before .before in
     let s = t .before .before .before .before .before in
-    (bounded-streamed _ light19 _ _ _ _ _ noSettings (bodiesOf (s .pre .bodied)) _ (s .pre .around (kind t)) (kind t) _ (c .before .chosen .ensures) _ _ (omega arith) (omega arith), s .pre .settings, room s)
+    (bounded-streamed _ light19 _ _ _ _ _ noSettings (bodiesOf (s .pre .bodied)) _ (s .pre .around (kind t)) (kind t) _ (c .before .before .chosen .ensures) _ _ (omega arith) (omega arith), s .pre .settings, room s, s .pre .keeps)
 
 same-length : tie.Need-same-length
 same-length c = search needs
 
 returns : tie.Need-returns
 returns c =
-    let t = c .before .before .before .before in
+    let t = c .before .before .before .before .before in
     let s = t .before .before .before .before .before in
-    c .before .put-moved .ensures (s .args .flags .now) (s .args .parts .now) (s .args .fill .now) (s .args .off .now) (s .args .low) (kind t) (c .before .before .before .chosen .ensures)
+    c .before .put-moved .ensures (s .args .flags .now) (s .args .parts .now) (s .args .fill .now) (s .args .off .now) (s .args .low) (kind t) (c .before .before .before .before .chosen .ensures)
 
 dry-out-requires : tie.Need-dry-out-requires
 dry-out-requires c κs = room (c .before .before .before .before .before .before)
@@ -70,6 +73,7 @@ put-parts-spec =
     shared-slice-read-wet
     wet-requires
     chosen-requires
+    shared-slice-read-put-moved
     put-moved-requires
     same-length
     returns

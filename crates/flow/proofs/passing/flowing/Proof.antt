@@ -36,12 +36,12 @@ use Rattle.flow.proofs.passing.flowing.Statement.{statement}
 use Rattle.flow.proofs.passing.flowing.Tie as tie
 
 abbrev Inv-loop : tie.InvT-loop
-Inv-loop flags parts mass fill parts2₀ mass2₀ marks₀ g off low from fair₀ still₀ c₀ parts2 mass2 marks fair still c =
+Inv-loop flags parts mass fill parts2₀ mass2₀ marks₀ g off low from keep fair₀ still₀ c₀ parts2 mass2 marks fair still c =
     (c ≤ length flags) × (length parts2 ≡ length parts2₀) × (length mass2 ≡ length mass2₀) × (length marks ≡ length marks₀)
     × Walked (d3q19 .weight) flags (partOf parts) mass fill off low g marks₀ (partOf parts2) mass2 marks fair still c
 
 abbrev μ-loop : tie.MeasureT-loop
-μ-loop flags parts mass fill parts2₀ mass2₀ marks₀ g off low from fair₀ still₀ c₀ parts2 mass2 marks fair still c = length flags - c
+μ-loop flags parts mass fill parts2₀ mass2₀ marks₀ g off low from keep fair₀ still₀ c₀ parts2 mass2 marks fair still c = length flags - c
 
 -- a cell that did not pass is too fast
 too-fast : {ok t : Bool} → ok ≡ not t → ok ≡ false → t ≡ true
@@ -51,19 +51,19 @@ too-fast {t = false} e f = sym f ∙ e
 -- ---- inside the loop: the offsets, the cell, and what a function of one cell asks
 module _ (d : tie.In-loop Inv-loop μ-loop) where
   abbrev start : tie.Start Inv-loop μ-loop
-  start = d .before .before .before .before .before .before .before .before
+  start = d .before .before .before .before .before .before .before .before .before
 
   abbrev cell : ℕ
   cell = d .before .loop .c
 
   abbrev off : List ℕ
-  off = d .before .before .before .before .offsets .result
+  off = d .before .before .before .before .before .offsets .result
 
   abbrev low : ℕ
-  low = d .before .before .before .low-of .result
+  low = d .before .before .before .before .low-of .result
 
   offs : Offsets (start .args .s) off low
-  offs = record { table = d .before .before .before .before .offsets .ensures; lowest = d .before .before .before .low-of .ensures }
+  offs = record { table = d .before .before .before .before .before .offsets .ensures; lowest = d .before .before .before .before .low-of .ensures }
 
   poise : Poised (start .args .s) (start .args .g) (uncarried (start .args .flags .now) (start .args .parts .now) (start .args .mass .now) (start .args .fill .now))
   poise = start .pre .poised
@@ -95,7 +95,7 @@ module _ (d : tie.In-loop Inv-loop μ-loop) where
     fills-good = poised-fills (start .args .s) (start .args .g) _ poise;
   }
 
-  putting : Putting (start .args .flags .now) (start .args .parts .now) (start .args .fill .now) (d .before .loop .parts2) (getD (d .before .loop .marks) cell 0) off (d .before .before .sources .result) low cell (start .args .g)
+  putting : Putting (start .args .flags .now) (start .args .parts .now) (start .args .fill .now) (d .before .loop .parts2) (getD (d .before .loop .marks) cell 0) off (d .before .before .before .sources .result) low cell (start .args .g) (d .before .before .keeping .result)
   unfolding stateOf
   putting = record {
     bodied = poised-bodied (start .args .s) (start .args .g) _ poise;
@@ -103,12 +103,13 @@ module _ (d : tie.In-loop Inv-loop μ-loop) where
     is-cell = d .loop-test .taken;
     around = around-it;
     mirrored = mirrored (start .args .s) off low (offs .table) (offs .lowest) small;
-    sources = d .before .before .sources .ensures;
+    sources = d .before .before .before .sources .ensures;
     marked = λ l e.
         let m : getD (start .args .marks .now) cell 0 ≡ 1 = sym (walked .marks-left cell (le-refl cell)) ∙ e in
         immersed offs cell (liquid-inner (start .args .s) (start .args .g) _ poise cell is-cell l) (start .args .flags .now)
         (start .pre .marked-fluid cell is-cell l m) (start .pre .marked cell is-cell l m);
     settings = poise .settings;
+    keeps = d .before .before .keeping .ensures;
     size = d .before .loop .inv .1 ∙ start .pre .parts-room ∙ sym (poise .parts);
   }
 
@@ -125,11 +126,14 @@ sources-requires c κs =
     mirrored s (c .before .offsets .result) (c .low-of .result) (c .before .offsets .ensures) (c .low-of .ensures)
     (omega (arith, room s (p .sides), few s (p .sides), c .low-of .ensures))
 
+keeping-requires : tie.Need-keeping-requires Inv-loop μ-loop
+keeping-requires c κs = c .before .before .before .before .before .before .pre .poised .settings
+
 loop-holds : tie.Need-loop-holds Inv-loop μ-loop
 loop-holds c = (omega arith, refl, refl, refl, walked-first _ _ _ _ _ _ _ _ _ _ _)
 
 slice-read-put-parts : tie.Need-slice-read-put-parts Inv-loop μ-loop
-slice-read-put-parts c = let d = c .before .before in let h = is-cell d in omega (arith, d .before .loop .inv .3, d .before .before .before .before .before .before .before .before .pre .marks-room)
+slice-read-put-parts c = let d = c .before .before in let h = is-cell d in omega (arith, d .before .loop .inv .3, start d .pre .marks-room)
 
 put-parts-requires : tie.Need-put-parts-requires Inv-loop μ-loop
 put-parts-requires c κs = putting (c .before .before .before .before)
@@ -147,7 +151,7 @@ returns : tie.Need-returns Inv-loop μ-loop
 unfolding sceneOf stateOf
 returns c =
     let d = c .before .before .before .before .before .before .before .before in
-    let t = d .before .before .before .before .before .before .before .before in
+    let t = start d in
     let o = c .before .before .before .put-parts in
     record {
       went = stopped (is-cell d) (walked-stopped (d3q19 .weight) (gridOf (t .args .s)) (t .args .g) _ _ _ _ (off d) (low d) _ (placed (t .args .s) (t .args .g) _ (poise d) (offs d)) _ _ _ _ _ _ (cell d) (is-cell d) (walked d)
@@ -167,16 +171,16 @@ new-mark-requires : tie.Need-new-mark-requires Inv-loop μ-loop
 new-mark-requires c κs = tt
 
 mul-m : tie.Need-mul-m Inv-loop μ-loop
-mul-m c = let h = is-cell (c .before .before .before .before .before .before .before .before .before .before .before .before .before .before) in record { fits = omega (arith, few (c .before .before .before .before .before .before .before .before .before .before .before .before .before .before .before .before .before .before .before .before .before .before .args .s) (c .before .before .before .before .before .before .before .before .before .before .before .before .before .before .before .before .before .before .before .before .before .before .pre .poised .sides)) }
+mul-m c = let h = is-cell (c .before .before .before .before .before .before .before .before .before .before .before .before .before .before) in record { fits = omega (arith, few (start (c .before .before .before .before .before .before .before .before .before .before .before .before .before .before) .args .s) (poise (c .before .before .before .before .before .before .before .before .before .before .before .before .before .before) .sides)) }
 
 slice-set-from-m : tie.Need-slice-set-from-m Inv-loop μ-loop
-slice-set-from-m c = let d = c .before .before .before .before .before .before .before .before .before .before .before .before .before .before in let h = is-cell d in omega (arith, d .before .loop .inv .2, d .before .before .before .before .before .before .before .before .pre .masses-room)
+slice-set-from-m c = let d = c .before .before .before .before .before .before .before .before .before .before .before .before .before .before in let h = is-cell d in omega (arith, d .before .loop .inv .2, start d .pre .masses-room)
 
 slice-write-marks : tie.Need-slice-write-marks Inv-loop μ-loop
-slice-write-marks c = let d = c .before .before .before .before .before .before .before .before .before .before .before .before .before .before in let h = is-cell d in omega (arith, d .before .loop .inv .3, d .before .before .before .before .before .before .before .before .pre .marks-room)
+slice-write-marks c = let d = c .before .before .before .before .before .before .before .before .before .before .before .before .before .before in let h = is-cell d in omega (arith, d .before .loop .inv .3, start d .pre .marks-room)
 
 add-c : tie.Need-add-c Inv-loop μ-loop
-add-c c = let h = is-cell (c .before .before .before .before .before .before .before .before .before .before .before .before .before .before .before) in record { fits = omega (arith, few (c .before .before .before .before .before .before .before .before .before .before .before .before .before .before .before .before .before .before .before .before .before .before .before .args .s) (c .before .before .before .before .before .before .before .before .before .before .before .before .before .before .before .before .before .before .before .before .before .before .before .pre .poised .sides)) }
+add-c c = let h = is-cell (c .before .before .before .before .before .before .before .before .before .before .before .before .before .before .before) in record { fits = omega (arith, few (start (c .before .before .before .before .before .before .before .before .before .before .before .before .before .before .before) .args .s) (poise (c .before .before .before .before .before .before .before .before .before .before .before .before .before .before .before) .sides)) }
 
 loop-less : tie.Need-loop-less Inv-loop μ-loop
 loop-less c = let h = c .before .before .before .before .before .before .before .before .before .before .before .before .before .before .before .loop-test .taken in omega arith
@@ -184,7 +188,7 @@ loop-less c = let h = c .before .before .before .before .before .before .before 
 loop-again : tie.Need-loop-again Inv-loop μ-loop
 loop-again c =
     let d = c .before .before .before .before .before .before .before .before .before .before .before .before .before .before .before in
-    let t = d .before .before .before .before .before .before .before .before in
+    let t = start d in
     let l = d .before .loop in
     let put = c .before .before .before .before .before .before .before .before .before .before .put-parts in
     let gained = c .before .before .before .before .new-mass in
@@ -217,18 +221,18 @@ same-length-6 c = c .before .loop .inv .3
 returns-2 : tie.Need-returns-2 Inv-loop μ-loop
 unfolding sceneOf stateOf
 returns-2 c =
-    let t = c .before .before .before .before .before .before .before .before in
+    let t = c .before .before .before .before .before .before .before .before .before in
     let p = t .pre .poised in
     let l = c .before .loop in
-    let o : Offsets (t .args .s) (c .before .before .before .before .offsets .result) (c .before .before .before .low-of .result) = record { table = c .before .before .before .before .offsets .ensures; lowest = c .before .before .before .low-of .ensures } in
+    let o : Offsets (t .args .s) (c .before .before .before .before .before .offsets .result) (c .before .before .before .before .low-of .result) = record { table = c .before .before .before .before .before .offsets .ensures; lowest = c .before .before .before .before .low-of .ensures } in
     let e : l .c ≡ cellsOf (t .args .s) = omega (arith, p .flags, l .inv .0) in
     record {
       went = through (moved-list (l .inv .1 ∙ t .pre .parts-room)
           (walked-moved (d3q19 .weight) (gridOf (t .args .s)) (t .args .g) (t .args .flags .now) (partOf (t .args .parts .now)) (t .args .mass .now) (t .args .fill .now)
-          (c .before .before .before .before .offsets .result) (c .before .before .before .low-of .result) (cellsOf (t .args .s)) (placed (t .args .s) (t .args .g) _ p o)
+          (c .before .before .before .before .before .offsets .result) (c .before .before .before .before .low-of .result) (cellsOf (t .args .s)) (placed (t .args .s) (t .args .g) _ p o)
           (t .args .marks .now) (partOf (l .parts2)) (l .mass2) (l .marks) (l .fair) (l .still)
           (l .inv .2 ∙ t .pre .masses-room) (l .inv .3 ∙ t .pre .marks-room)
-          (subst (λ (n : ℕ). Walked (d3q19 .weight) (t .args .flags .now) (partOf (t .args .parts .now)) (t .args .mass .now) (t .args .fill .now) (c .before .before .before .before .offsets .result) (c .before .before .before .low-of .result) (t .args .g) (t .args .marks .now) (partOf (l .parts2)) (l .mass2) (l .marks) (l .fair) (l .still) n) e (l .inv .4))));
+          (subst (λ (n : ℕ). Walked (d3q19 .weight) (t .args .flags .now) (partOf (t .args .parts .now)) (t .args .mass .now) (t .args .fill .now) (c .before .before .before .before .before .offsets .result) (c .before .before .before .before .low-of .result) (t .args .g) (t .args .marks .now) (partOf (l .parts2)) (l .mass2) (l .marks) (l .fair) (l .still) n) e (l .inv .4))));
       parts-kept = l .inv .1 ∙ t .pre .parts-room;
       masses-kept = l .inv .2 ∙ t .pre .masses-room;
       marks-kept = l .inv .3 ∙ t .pre .marks-room;
@@ -243,6 +247,7 @@ flowing-spec =
     offsets-requires
     low-of-requires
     sources-requires
+    keeping-requires
     loop-holds
     slice-read-put-parts
     put-parts-requires

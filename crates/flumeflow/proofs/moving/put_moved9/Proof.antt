@@ -13,6 +13,7 @@ use mir.Facts.{toZ-ofZ}
 use Rattle.whole.specs.Fold.{tab}
 use Rattle.lattice.specs.Cell.{relaxationGood}
 use Rattle.lattice.specs.Body.{partsOf, Bounded, vec, collidedPart}
+use Rattle.flow.specs.Relaxed.{relaxedBy}
 use Rattle.flow.proofs.Collisions.{loosened, gravity-of, relaxation-of, flow-rho, flow-x, flow-y, flow-z, pulled-x, pulled-y, pulled-z, told-refused, told-accepted, moved}
 use Rattle.flume.specs.Spread.{spreadLattice}
 use Rattle.nine.specs.Cells.{partOf9, pasted9}
@@ -55,16 +56,26 @@ returns c flags parts fills off low l e =
       parts = λ h. absurd (false≢true h);
     }
 
--- the relaxation as it was passed on
-relaxation : (c : tie.After-struct-told) → toZ w64 (ofZ w64 (c .before .before .before .before .before .args .g .p)) ≡ c .before .before .before .before .before .args .g .p
-relaxation c = toZ-ofZ (record { sfits = c .struct-told .given .0 .1 })
+relaxation9-requires : tie.Need-relaxation9-requires
+relaxation9-requires c κs =
+    let s = c .before .before .before .before in (
+      s .pre .0,
+      sym (c .before .steady .ensures) ∙ not-false _ (c .if1 .left),
+      s .pre .2,
+      s .pre .4,
+      s .pre .1,
+    )
+
+-- the relaxation as it is handed on
+handed : (c : tie.After-relaxation9) → toZ w64 (ofZ w64 (c .relaxation9 .result)) ≡ c .relaxation9 .result
+handed c = toZ-ofZ (record { sfits = c .relaxation9 .ok })
 
 collided9-requires : tie.Need-collided9-requires
 collided9-requires c κs =
     let s = c .before .before .before .before .before in (
       s .pre .0,
       sym (c .before .before .steady .ensures) ∙ not-false _ (c .before .if1 .left),
-      ap relaxationGood (relaxation c) ∙ relaxation-of _ (s .pre .2),
+      ap relaxationGood (handed c) ∙ c .relaxation9 .ensures .1,
       s .pre .1,
     )
 
@@ -81,7 +92,7 @@ fair-requires c κs =
     let s = k .before .before .before .before .before .before in
     let v = k .before .before .before .before .pulled .result in (
       subst (λ (x : List ℤ). Bounded x 1073741824 33554432) (sym (q .quieted .ensures)) (k .collided9 .ensures .1),
-      density-made (v .rho) (vec v) (toZ w64 (ofZ w64 (s .args .g .p))) (s .args .f) (q .quieted .result) (q .quieted .ensures ∙ k .collided9 .ensures .0) ∙ sym (toZ-ofZ {w = w32} (record { sfits = c .struct-told2 .given .0 .1 })),
+      density-made (v .rho) (vec v) (toZ w64 (ofZ w64 (k .before .relaxation9 .result))) (s .args .f) (q .quieted .result) (q .quieted .ensures ∙ k .collided9 .ensures .0) ∙ sym (toZ-ofZ {w = w32} (record { sfits = c .struct-told .given .0 .1 })),
     )
 
 same-length : tie.Need-same-length
@@ -94,13 +105,13 @@ returns-2 c flags parts fills off low l e =
     let a = k .before .before .before in
     let s = a .before .before .before in
     let u = a .before .before .flow-of .ensures in
-    let made = subst (λ (p : ℤ). k .collided9 .result ≡ tab 19 (collidedPart spreadLattice (a .before .pulled .result .rho) (vec (a .before .pulled .result)) p (partsOf (s .args .f)))) (relaxation (k .before)) (k .collided9 .ensures .0) in
-    let quiet : w .quieted .result ≡ tab 19 (collidedPart spreadLattice (a .before .pulled .result .rho) (vec (a .before .pulled .result)) (s .args .g .p) (partsOf (s .args .f))) = w .quieted .ensures ∙ made in
+    let made = subst (λ (p : ℤ). k .collided9 .result ≡ tab 19 (collidedPart spreadLattice (a .before .pulled .result .rho) (vec (a .before .pulled .result)) p (partsOf (s .args .f)))) (handed (k .before) ∙ k .before .relaxation9 .ensures .0) (k .collided9 .ensures .0) in
+    let quiet : w .quieted .result ≡ tab 19 (collidedPart spreadLattice (a .before .pulled .result .rho) (vec (a .before .pulled .result)) (relaxedBy (s .args .g .turbulent) spreadLattice (a .before .pulled .result .rho) (vec (a .before .pulled .result)) (s .args .g .p) (partsOf (s .args .f))) (partsOf (s .args .f))) = w .quieted .ensures ∙ made in
     let put = c .before .before .before .before .paste9 .ensures in
     record {
       kept = ap length put ∙ length-pasted9 _ _ _ (s .pre .3);
       told = told-accepted (spreadLattice .weight) flags (partOf9 parts) fills off low _ _ _ e _ _ (u .0) (u .1) (a .before .pulled .ensures) l (w .quieted .result) quiet _ refl
-          (sym (a .steady .ensures) ∙ not-false _ (k .before .before .if1 .left)) (toZ-ofZ (record { sfits = c .struct-told3 .given .0 .1 })) (c .before .fair .ensures);
+          (sym (a .steady .ensures) ∙ not-false _ (k .before .before .if1 .left)) (toZ-ofZ (record { sfits = c .struct-told2 .given .0 .1 })) (c .before .fair .ensures);
       parts = λ h. put ∙ ap (pasted9 (s .args .parts2 .now) (s .args .c)) (moved (spreadLattice .weight) flags (partOf9 parts) fills off low _ _ _ e _ _ (u .0) (u .1) (a .before .pulled .ensures) l (w .quieted .result) quiet);
     }
 
@@ -112,6 +123,7 @@ put-moved9-spec =
     pulled-requires
     steady-requires
     returns
+    relaxation9-requires
     collided9-requires
     quieted-requires
     paste9-requires

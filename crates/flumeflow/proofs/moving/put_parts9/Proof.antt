@@ -43,22 +43,25 @@ chosen9-requires c κs =
 quieted-requires : tie.Need-quieted-requires
 quieted-requires c κs = quiet-streamed _ _ _ _ _ _ _ _ (c .chosen9 .ensures)
 
+shared-slice-read-put-moved9 : tie.Need-shared-slice-read-put-moved9
+shared-slice-read-put-moved9 c = c .before .before .before .before .before .before .before .before .before .pre .is-cell
+
 put-moved9-requires : tie.Need-put-moved9-requires
 put-moved9-requires c κs =
-    let t = c .before .before .before in
+    let t = c .before .before .before .before in
     let s = t .before .before .before .before .before in
-    let e = c .before .quieted .ensures ∙ c .before .before .chosen9 .ensures in
-    (bounded-streamed _ light9 _ _ _ _ _ noSettings (s .pre .bodied .bodies) _ (s .pre .around (kind t)) (kind t) _ e _ _ (omega arith) (omega arith), quiet-streamed _ _ _ _ _ _ _ _ e, s .pre .settings, room s)
+    let e = c .before .before .quieted .ensures ∙ c .before .before .before .chosen9 .ensures in
+    (bounded-streamed _ light9 _ _ _ _ _ noSettings (s .pre .bodied .bodies) _ (s .pre .around (kind t)) (kind t) _ e _ _ (omega arith) (omega arith), quiet-streamed _ _ _ _ _ _ _ _ e, s .pre .settings, room s, s .pre .keeps)
 
 same-length : tie.Need-same-length
 same-length c = search needs
 
 returns : tie.Need-returns
 returns c =
-    let t = c .before .before .before .before .before in
+    let t = c .before .before .before .before .before .before in
     let s = t .before .before .before .before .before in
     c .before .put-moved9 .ensures (s .args .flags .now) (s .args .parts .now) (s .args .fill .now) (s .args .off .now) (s .args .low) (kind t)
-    (c .before .before .before .quieted .ensures ∙ c .before .before .before .before .chosen9 .ensures)
+    (c .before .before .before .before .quieted .ensures ∙ c .before .before .before .before .before .chosen9 .ensures)
 
 dry-out9-requires : tie.Need-dry-out9-requires
 dry-out9-requires c κs = room (c .before .before .before .before .before .before)
@@ -86,6 +89,7 @@ put-parts9-spec =
     is-liquid-requires
     chosen9-requires
     quieted-requires
+    shared-slice-read-put-moved9
     put-moved9-requires
     same-length
     returns

@@ -32,12 +32,12 @@ use Rattle.flumeflow.proofs.passing.flowing9.Statement.{statement}
 use Rattle.flumeflow.proofs.passing.flowing9.Tie as tie
 
 abbrev Inv-loop : tie.InvT-loop
-Inv-loop flags parts mass fill parts2₀ mass2₀ marks₀ g off low from fair₀ still₀ c₀ parts2 mass2 marks fair still c =
+Inv-loop flags parts mass fill parts2₀ mass2₀ marks₀ g off low from keep fair₀ still₀ c₀ parts2 mass2 marks fair still c =
     (c ≤ length flags) × (length parts2 ≡ length parts2₀) × (length mass2 ≡ length mass2₀) × (length marks ≡ length marks₀)
     × Walked (spreadLattice .weight) flags (partOf9 parts) mass fill off low g marks₀ (partOf9 parts2) mass2 marks fair still c
 
 abbrev μ-loop : tie.MeasureT-loop
-μ-loop flags parts mass fill parts2₀ mass2₀ marks₀ g off low from fair₀ still₀ c₀ parts2 mass2 marks fair still c = length flags - c
+μ-loop flags parts mass fill parts2₀ mass2₀ marks₀ g off low from keep fair₀ still₀ c₀ parts2 mass2 marks fair still c = length flags - c
 
 -- a cell that did not pass is too fast
 too-fast : {ok t : Bool} → ok ≡ not t → ok ≡ false → t ≡ true
@@ -47,22 +47,22 @@ too-fast {t = false} e f = sym f ∙ e
 -- ---- inside the loop: the offsets, the cell, and what a function of one cell asks
 module _ (d : tie.In-loop Inv-loop μ-loop) where
   abbrev start : tie.Start Inv-loop μ-loop
-  start = d .before .before .before .before .before .before .before .before
+  start = d .before .before .before .before .before .before .before .before .before
 
   abbrev cell : ℕ
   cell = d .before .loop .c
 
   abbrev off : List ℕ
-  off = d .before .before .before .before .offsets .result
+  off = d .before .before .before .before .before .offsets .result
 
   abbrev low : ℕ
-  low = d .before .before .before .low-of .result
+  low = d .before .before .before .before .low-of .result
 
   table : off ≡ tab 19 (flumeOffset (start .args .s))
-  table = d .before .before .before .before .offsets .ensures
+  table = d .before .before .before .before .before .offsets .ensures
 
   lowest : low ≡ flumeLow (start .args .s)
-  lowest = d .before .before .before .low-of .ensures
+  lowest = d .before .before .before .before .low-of .ensures
 
   poise : FlumePoised (start .args .s) (alongSettings (start .args .g)) (uncarried (start .args .flags .now) (start .args .parts .now) (start .args .mass .now) (start .args .fill .now))
   poise = start .pre .poised
@@ -88,19 +88,20 @@ module _ (d : tie.In-loop Inv-loop μ-loop) where
   all-traders : Traders9 (start .args .flags .now) (start .args .parts .now) (start .args .mass .now) (start .args .fill .now)
   all-traders = traders (start .args .s) _ _ _ _ _ poise
 
-  putting : Putting9 (start .args .flags .now) (start .args .parts .now) (start .args .fill .now) (d .before .loop .parts2) (getD (d .before .loop .marks) cell 0) off (d .before .before .sources9 .result) low cell (start .args .g)
+  putting : Putting9 (start .args .flags .now) (start .args .parts .now) (start .args .fill .now) (d .before .loop .parts2) (getD (d .before .loop .marks) cell 0) off (d .before .before .before .sources9 .result) low cell (start .args .g) (d .before .before .keeping .result)
   putting = record {
     bodied = all-traders .bodied;
     filled = all-traders .fills-good;
     is-cell = d .loop-test .taken;
     around = around-it;
     mirrored = mirrored (start .args .s) off low table lowest (omega (arith, low-few (start .args .s) (poise .sides), lowest));
-    sources = d .before .before .sources9 .ensures;
+    sources = d .before .before .before .sources9 .ensures;
     marked = λ l e.
         let m : getD (start .args .marks .now) cell 0 ≡ 1 = sym (walked .marks-left cell (le-refl cell)) ∙ e in
         immersed (start .args .s) off low table lowest cell (inner-cell cell is-cell l) (start .args .flags .now)
         (start .pre .marked-fluid cell is-cell l m) (start .pre .marked cell is-cell l m);
     settings = settings-good (start .args .s) (start .args .g) poise (start .pre .level);
+    keeps = d .before .before .keeping .ensures;
     size = d .before .loop .inv .1 ∙ start .pre .parts-room ∙ sym (poise .parts);
   }
 
@@ -116,11 +117,14 @@ sources9-requires c κs =
     let p = c .before .before .before .before .before .pre .poised in
     mirrored s (c .before .offsets .result) (c .low-of .result) (c .before .offsets .ensures) (c .low-of .ensures) (omega (arith, low-few s (p .sides), c .low-of .ensures))
 
+keeping-requires : tie.Need-keeping-requires Inv-loop μ-loop
+keeping-requires c κs = let t = c .before .before .before .before .before .before in settings-good (t .args .s) (t .args .g) (t .pre .poised) (t .pre .level)
+
 loop-holds : tie.Need-loop-holds Inv-loop μ-loop
 loop-holds c = (omega arith, refl, refl, refl, walked-first _ _ _ _ _ _ _ _ _ _ _)
 
 slice-read-put-parts9 : tie.Need-slice-read-put-parts9 Inv-loop μ-loop
-slice-read-put-parts9 c = let d = c .before .before in let h = is-cell d in omega (arith, d .before .loop .inv .3, d .before .before .before .before .before .before .before .before .pre .marks-room)
+slice-read-put-parts9 c = let d = c .before .before in let h = is-cell d in omega (arith, d .before .loop .inv .3, start d .pre .marks-room)
 
 put-parts9-requires : tie.Need-put-parts9-requires Inv-loop μ-loop
 put-parts9-requires c κs = putting (c .before .before .before .before)
@@ -137,7 +141,7 @@ same-length-3 c = c .before .before .before .before .before .before .before .bef
 returns : tie.Need-returns Inv-loop μ-loop
 returns c =
     let d = c .before .before .before .before .before .before .before .before in
-    let t = d .before .before .before .before .before .before .before .before in
+    let t = start d in
     let o = c .before .before .before .put-parts9 in
     record {
       went = stopped (is-cell d) (walked-stopped (spreadLattice .weight) (spreadGrid (flumeGrid (t .args .s))) (t .args .g) _ _ _ _ (off d) (low d) _ (placed-all d) _ _ _ _ _ _ (cell d) (is-cell d) (walked d)
@@ -157,16 +161,16 @@ new-mark-requires : tie.Need-new-mark-requires Inv-loop μ-loop
 new-mark-requires c κs = tt
 
 mul-m : tie.Need-mul-m Inv-loop μ-loop
-mul-m c = let h = is-cell (c .before .before .before .before .before .before .before .before .before .before .before .before .before .before) in record { fits = omega (arith, few (c .before .before .before .before .before .before .before .before .before .before .before .before .before .before .before .before .before .before .before .before .before .before .args .s) (c .before .before .before .before .before .before .before .before .before .before .before .before .before .before .before .before .before .before .before .before .before .before .pre .poised .sides)) }
+mul-m c = let h = is-cell (c .before .before .before .before .before .before .before .before .before .before .before .before .before .before) in record { fits = omega (arith, few (start (c .before .before .before .before .before .before .before .before .before .before .before .before .before .before) .args .s) (poise (c .before .before .before .before .before .before .before .before .before .before .before .before .before .before) .sides)) }
 
 slice-set-from-m : tie.Need-slice-set-from-m Inv-loop μ-loop
-slice-set-from-m c = let d = c .before .before .before .before .before .before .before .before .before .before .before .before .before .before in let h = is-cell d in omega (arith, d .before .loop .inv .2, d .before .before .before .before .before .before .before .before .pre .masses-room)
+slice-set-from-m c = let d = c .before .before .before .before .before .before .before .before .before .before .before .before .before .before in let h = is-cell d in omega (arith, d .before .loop .inv .2, start d .pre .masses-room)
 
 slice-write-marks : tie.Need-slice-write-marks Inv-loop μ-loop
-slice-write-marks c = let d = c .before .before .before .before .before .before .before .before .before .before .before .before .before .before in let h = is-cell d in omega (arith, d .before .loop .inv .3, d .before .before .before .before .before .before .before .before .pre .marks-room)
+slice-write-marks c = let d = c .before .before .before .before .before .before .before .before .before .before .before .before .before .before in let h = is-cell d in omega (arith, d .before .loop .inv .3, start d .pre .marks-room)
 
 add-c : tie.Need-add-c Inv-loop μ-loop
-add-c c = let h = is-cell (c .before .before .before .before .before .before .before .before .before .before .before .before .before .before .before) in record { fits = omega (arith, few (c .before .before .before .before .before .before .before .before .before .before .before .before .before .before .before .before .before .before .before .before .before .before .before .args .s) (c .before .before .before .before .before .before .before .before .before .before .before .before .before .before .before .before .before .before .before .before .before .before .before .pre .poised .sides)) }
+add-c c = let h = is-cell (c .before .before .before .before .before .before .before .before .before .before .before .before .before .before .before) in record { fits = omega (arith, few (start (c .before .before .before .before .before .before .before .before .before .before .before .before .before .before .before) .args .s) (poise (c .before .before .before .before .before .before .before .before .before .before .before .before .before .before .before) .sides)) }
 
 loop-less : tie.Need-loop-less Inv-loop μ-loop
 loop-less c = let h = c .before .before .before .before .before .before .before .before .before .before .before .before .before .before .before .loop-test .taken in omega arith
@@ -174,7 +178,7 @@ loop-less c = let h = c .before .before .before .before .before .before .before 
 loop-again : tie.Need-loop-again Inv-loop μ-loop
 loop-again c =
     let d = c .before .before .before .before .before .before .before .before .before .before .before .before .before .before .before in
-    let t = d .before .before .before .before .before .before .before .before in
+    let t = start d in
     let l = d .before .loop in
     let put = c .before .before .before .before .before .before .before .before .before .before .put-parts9 in
     let gained = c .before .before .before .before .new-mass9 in
@@ -206,17 +210,17 @@ same-length-6 c = c .before .loop .inv .3
 
 returns-2 : tie.Need-returns-2 Inv-loop μ-loop
 returns-2 c =
-    let t = c .before .before .before .before .before .before .before .before in
+    let t = c .before .before .before .before .before .before .before .before .before in
     let p = t .pre .poised in
     let l = c .before .loop in
     let e : l .c ≡ flumeCells (t .args .s) = omega (arith, p .flags, l .inv .0) in
     record {
       went = through
           (walked-moved (spreadLattice .weight) (spreadGrid (flumeGrid (t .args .s))) (t .args .g) (t .args .flags .now) (partOf9 (t .args .parts .now)) (t .args .mass .now) (t .args .fill .now)
-          (c .before .before .before .before .offsets .result) (c .before .before .before .low-of .result) (flumeCells (t .args .s)) (λ j h l. placed (t .args .s) _ _ (c .before .before .before .before .offsets .ensures) (c .before .before .before .low-of .ensures) j (liquid-inner (t .args .s) _ _ _ _ _ p j h l))
+          (c .before .before .before .before .before .offsets .result) (c .before .before .before .before .low-of .result) (flumeCells (t .args .s)) (λ j h l. placed (t .args .s) _ _ (c .before .before .before .before .before .offsets .ensures) (c .before .before .before .before .low-of .ensures) j (liquid-inner (t .args .s) _ _ _ _ _ p j h l))
           (t .args .marks .now) (partOf9 (l .parts2)) (l .mass2) (l .marks) (l .fair) (l .still)
           (l .inv .2 ∙ t .pre .masses-room) (l .inv .3 ∙ t .pre .marks-room)
-          (subst (λ (n : ℕ). Walked (spreadLattice .weight) (t .args .flags .now) (partOf9 (t .args .parts .now)) (t .args .mass .now) (t .args .fill .now) (c .before .before .before .before .offsets .result) (c .before .before .before .low-of .result) (t .args .g) (t .args .marks .now) (partOf9 (l .parts2)) (l .mass2) (l .marks) (l .fair) (l .still) n) e (l .inv .4)));
+          (subst (λ (n : ℕ). Walked (spreadLattice .weight) (t .args .flags .now) (partOf9 (t .args .parts .now)) (t .args .mass .now) (t .args .fill .now) (c .before .before .before .before .before .offsets .result) (c .before .before .before .before .low-of .result) (t .args .g) (t .args .marks .now) (partOf9 (l .parts2)) (l .mass2) (l .marks) (l .fair) (l .still) n) e (l .inv .4)));
       parts-kept = l .inv .1 ∙ t .pre .parts-room;
       masses-kept = l .inv .2 ∙ t .pre .masses-room;
       marks-kept = l .inv .3 ∙ t .pre .marks-room;
@@ -231,6 +235,7 @@ flowing9-spec =
     offsets-requires
     low-of-requires
     sources9-requires
+    keeping-requires
     loop-holds
     slice-read-put-parts9
     put-parts9-requires

@@ -51,7 +51,7 @@ returns c =
     let v = c .before .before .before .before .before .before .before .before .before .before .before .before .before .before .before .before .before .before .before .before .before .before .before .before .before .before .before .before .before .before .before .before .before .before .before in
     let a = v .args in
     let f = v .fits in
-    run-told (settings-back (a .p) (a .gx) (a .gz) (f .p) (f .gx) (f .gz)) (c .before .before .before .before .before .before .before .before .before .before .before .before .before .before .before .before .before .before .run .ensures) (c .before .number-of .ensures) (c .place-of .ensures)
+    run-told (settings-back (a .turbulent) (a .p) (a .gx) (a .gz) (f .p) (f .gx) (f .gz)) (c .before .before .before .before .before .before .before .before .before .before .before .before .before .before .before .before .before .before .run .ensures) (c .before .number-of .ensures) (c .place-of .ensures)
 
 pub skw-flume-run-spec : {M : Type 1} → statement M
 skw-flume-run-spec =

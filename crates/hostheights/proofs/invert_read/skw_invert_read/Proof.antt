@@ -1,4 +1,5 @@
 -- `hostheights::invert_read::skw_invert_read`: the reader's own promise, its head told number by number. Assumes nothing.
+use mathlib.Core.Bool.{false}
 use borrow.Author.Needs.{needs}
 use mir.Syntax.{w64}
 use mir.ValLaws.{toZ-ofZ}
@@ -50,7 +51,7 @@ returns c =
     let f = d .before .before .before .before .before .before .before .before .before .before .before .before .before .fits in
     let sides = c .before .before .before .before .before .before .put-sides .ensures in
     let site = c .before .before .put-site .ensures in
-    invert-told (toZ-ofZ w64 (a .oz) (f .oz)) (settings-back (a .p) (a .gx) (a .gy) (a .gz) (f .p) (f .gx) (f .gy) (f .gz)) (d .read .ensures) (c .number-of .ensures) (c .before .place-of .ensures)
+    invert-told (toZ-ofZ w64 (a .oz) (f .oz)) (settings-back false (a .p) (a .gx) (a .gy) (a .gz) (f .p) (f .gx) (f .gy) (f .gz)) (d .read .ensures) (c .number-of .ensures) (c .before .place-of .ensures)
     (sides .0) (sides .1) (site .0) (site .1) (site .2)
 
 pub skw-invert-read-spec : {M : Type 1} → statement M

@@ -1,4 +1,5 @@
 -- `hostrecord::write::skw_write`: the writer's own promise, its answer told as number, place and length. Assumes nothing.
+use mathlib.Core.Bool.{false}
 use borrow.Author.Needs.{needs}
 use mathlib.Core.Path.{refl}
 use Rattle.host.proofs.Returned.{settings-back}
@@ -24,7 +25,7 @@ returns c =
     let d = c .before .before .before .before in
     let a = d .before .before .before .before .before .args in
     let f = d .before .before .before .before .before .fits in
-    write-told (settings-back (a .p) (a .gx) (a .gy) (a .gz) (f .p) (f .gx) (f .gy) (f .gz)) (site-back (a .edge) (a .ox) (a .oy) (a .oz) (f .edge) (f .ox) (f .oy) (f .oz))
+    write-told (settings-back false (a .p) (a .gx) (a .gy) (a .gz) (f .p) (f .gx) (f .gy) (f .gz)) (site-back (a .edge) (a .ox) (a .oy) (a .oz) (f .edge) (f .ox) (f .oy) (f .oz))
     (d .write .ensures) (c .number-of .ensures) (c .before .place-of .ensures) refl
 
 pub skw-write-spec : {M : Type 1} → statement M

@@ -43,7 +43,7 @@ returns c =
     let v = c .before .before .before .before .before .before .before .before .before .before .before .before .before .before .before .before .before .before .before .before .before .before .before .before .before .before .before .before .before .before .before .before .before in
     let a = v .args in
     let f = v .fits in
-    step-told (settings-back (a .p) (a .gx) (a .gy) (a .gz) (f .p) (f .gx) (f .gy) (f .gz)) (c .before .before .before .before .before .before .before .before .before .before .before .before .before .before .before .step .ensures) (c .number-of .ensures) (c .before .place-of .ensures)
+    step-told (settings-back (a .turbulent) (a .p) (a .gx) (a .gy) (a .gz) (f .p) (f .gx) (f .gy) (f .gz)) (c .before .before .before .before .before .before .before .before .before .before .before .before .before .before .before .step .ensures) (c .number-of .ensures) (c .before .place-of .ensures)
 
 pub skw-step-spec : {M : Type 1} → statement M
 skw-step-spec =

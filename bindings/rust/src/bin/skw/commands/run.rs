@@ -1,9 +1,9 @@
 // skw run: any number of steps.
 
-use skwarzyna::{Record, Refusal, Stopped};
+use skwarzyna::{Mode, Record, Refusal, Stopped};
 
 use super::Command;
-use crate::arguments::{Arguments, OUTPUT, QUIET};
+use crate::arguments::{Arguments, OUTPUT, QUIET, TURBULENT};
 use crate::failure::Failure;
 use crate::files::Output;
 use crate::running::{self, Runs};
@@ -11,7 +11,7 @@ use crate::{records, told};
 
 pub const COMMAND: Command = Command {
     name: "run",
-    usage: "K [FILE] [-o FILE] [-q]",
+    usage: "K [FILE] [--turbulent] [-o FILE] [-q]",
     summary: "make K steps, any number of them",
     help: "\
 Makes K steps with the record's own settings and writes the record of the state
@@ -23,10 +23,15 @@ count is told, and the status is 130. A second one ends it at once, and the file
 is as it was. On a terminal a line shows the steps made, their rate and the time
 left.
 
+With --turbulent each cell is relaxed by a p of its own, which its stress takes
+off the record's: water is damped where it is sheared, and kept to the unit as
+well. The record does not tell the mode: say it each time.
+
     skw run 100000 sump.rec -o later.rec
     skw run 100000 sump.rec -o sump.rec     and so on from there
+    skw run 600 --turbulent sump.rec -o later.rec
     skw run 500 < sump.rec | skw draw -o later.png",
-    choices: &[OUTPUT, QUIET],
+    choices: &[TURBULENT, OUTPUT, QUIET],
     act,
 };
 
@@ -36,8 +41,8 @@ fn act(mut arguments: Arguments) -> Result<(), Failure> {
 }
 
 impl Runs for Record {
-    fn run(&mut self, steps: usize) -> Result<(), Stopped> {
-        self.grid.run(steps, self.settings)
+    fn run(&mut self, steps: usize, mode: Mode) -> Result<(), Stopped> {
+        self.grid.run(steps, self.settings.in_mode(mode))
     }
 
     fn total(&self) -> i64 {

@@ -1,8 +1,8 @@
 // skw flume run: any number of steps of a flume.
 
-use skwarzyna::{Flume, Refusal, Stopped};
+use skwarzyna::{Flume, Mode, Refusal, Stopped};
 
-use crate::arguments::{Arguments, OUTPUT, QUIET};
+use crate::arguments::{Arguments, OUTPUT, QUIET, TURBULENT};
 use crate::commands::Command;
 use crate::failure::Failure;
 use crate::files::Output;
@@ -11,7 +11,7 @@ use crate::running::{self, Runs};
 
 pub const COMMAND: Command = Command {
     name: "flume run",
-    usage: "K [FILE] [-o FILE] [-q]",
+    usage: "K [FILE] [--turbulent] [-o FILE] [-q]",
     summary: "make K steps of it, any number of them",
     help: "\
 Makes K steps of a flume with the record's own settings and writes the record of
@@ -23,9 +23,14 @@ count is told, and the status is 130. A second one ends it at once, and the file
 is as it was. On a terminal a line shows the steps made, their rate and the time
 left.
 
+With --turbulent each cell is relaxed by a p of its own, which its stress takes
+off the record's: water is damped where it is sheared, and kept to the unit as
+well. The record does not tell the mode: say it each time.
+
     skw flume run 3000 weir.rec -o later.rec
+    skw flume run 3000 --turbulent weir.rec -o later.rec
     skw flume run 500 < weir.rec | skw flume draw -o later.png",
-    choices: &[OUTPUT, QUIET],
+    choices: &[TURBULENT, OUTPUT, QUIET],
     act,
 };
 
@@ -35,7 +40,8 @@ fn act(mut arguments: Arguments) -> Result<(), Failure> {
 }
 
 impl Runs for Flume {
-    fn run(&mut self, steps: usize) -> Result<(), Stopped> {
+    fn run(&mut self, steps: usize, mode: Mode) -> Result<(), Stopped> {
+        self.mode = mode;
         Flume::run(self, steps)
     }
 
