@@ -216,12 +216,13 @@ impl Flume {
         lent::run(self.sides, settings, steps, first, second, &mut self.marks)
     }
 
-    /// The flume mirrored in an axis, gravity with it; mirrored once more it is this flume again. Refusals 4, 5 and 6. As long as no cell is
-    /// filled or emptied, it does what this flume does, mirrored.
+    /// The flume mirrored in an axis, gravity with it, in the same mode; mirrored once more it is this flume again. Refusals 4, 5 and 6. As long
+    /// as no cell is filled or emptied, it does what this flume does, mirrored.
     pub fn mirrored(&self, axis: Axis) -> Result<Flume, Refusal> {
         let mut first = Buffers::new(self.first.flags.len());
         lent::mirror(self.sides, self.state(), first.lend_mut(), axis)?;
-        Ok(Flume::holding(self.sides, self.settings.mirrored(axis), self.site, first))
+        let mirrored = Flume::holding(self.sides, self.settings.mirrored(axis), self.site, first);
+        Ok(Flume { mode: self.mode, ..mirrored })
     }
 
     /// How many cells there are of each flag.

@@ -10,7 +10,7 @@ use oracle::flume::sets::store;
 use oracle::flume::step::draft;
 use oracle::step::Fate;
 use skwarzyna::flume::{lent, Axis, Settings, Sides};
-use skwarzyna::{Flume, Refusal, State, StateMut};
+use skwarzyna::{Flume, Mode, Refusal, State, StateMut};
 
 const AXES: [(Axis, Theirs); 2] = [(Axis::X, Theirs::X), (Axis::Z, Theirs::Z)];
 
@@ -31,9 +31,11 @@ fn text(bytes: &[u8]) -> &str {
 fn there_and_back_beside_the_independent_program() {
     for seed in 0..300 {
         let scene = good(seed);
-        let flume = Flume::from_record(&scene.record()).unwrap();
+        let mut flume = Flume::from_record(&scene.record()).unwrap();
+        flume.mode = if seed % 2 == 0 { Mode::Plain } else { Mode::Turbulent };
         for (axis, theirs) in AXES {
             let mirrored = flume.mirrored(axis).unwrap();
+            assert_eq!(mirrored.mode, flume.mode);
             let wanted = store(&theirs.turned_state(&scene.grid(), &scene.state));
             let state = mirrored.state();
             assert_eq!((state.flags, state.parts), (&wanted.flags[..], &wanted.parts[..]));
