@@ -17,7 +17,7 @@ use Rattle.whole.specs.Bools.{cond-yes, cond-no, and-true}
 use Rattle.whole.specs.Fold.{tab}
 use Rattle.whole.specs.Order.{≤-or}
 use Rattle.whole.specs.Tab.{upto-all}
-use Rattle.grid.specs.Passes.{Unmarked}
+use Rattle.grid.specs.Passes.{Lacking, Unmarked}
 
 -- two tests of order that go together
 pub ltb-same : (a b c d : ℕ) → (a < b → c < d) → (c < d → a < b) → ltb a b ≡ ltb c d
@@ -38,16 +38,23 @@ over-gap P a b h keep p = subst P (omega arith) (go (b - a) (omega arith))
     go zero k = subst P (sym (add-zero a)) p
     go (suc n) k = subst P (sym (add-suc a n) ∙ refl) (subst P (add-one (a + n)) (keep (a + n) (omega arith) (omega arith) (go n (omega arith))))
 
+-- what holds of the places from a to c − 1, and of n more
+pub more-places : (P : ℕ → Type 0) (a c n : ℕ) → ((j : ℕ) → a ≤ j → j < c → P j) → ((k : ℕ) → k < n → P (c + k)) → (j : ℕ) → a ≤ j → j < c + n → P j
+more-places P a c n p q j h l = ⊎-elim (λ m. subst P (omega arith) (q (j - c) (omega arith))) (λ m. p j h m) (≤-or c j)
+
+-- places of another kind, and some more
+pub lacking-first : (bytes : List ℕ) (a k : ℕ) → a ≤ length bytes → Lacking bytes a k a
+lacking-first bytes a k h = record { least = omega arith; most = h; before = λ j u v. absurd (omega arith) }
+
+pub lacking-more : (bytes : List ℕ) (a k c n : ℕ) → Lacking bytes a k c → c + n ≤ length bytes → ((i : ℕ) → i < n → getD bytes (c + i) 0 ≡ k → ⊥) → Lacking bytes a k (c + n)
+lacking-more bytes a k c n u h z = record { least = omega (arith, u .least); most = h; before = more-places (λ j. getD bytes j 0 ≡ k → ⊥) a c n (u .before) z }
+
 -- places without a mark, and some more
 pub unmarked-first : (marks : List ℕ) (a : ℕ) → a ≤ length marks → Unmarked marks a a
 unmarked-first marks a h = record { least = omega arith; most = h; before = λ j k l. absurd (omega arith) }
 
 pub unmarked-more : (marks : List ℕ) (a c n : ℕ) → Unmarked marks a c → c + n ≤ length marks → ((k : ℕ) → k < n → getD marks (c + k) 0 ≡ 0) → Unmarked marks a (c + n)
-unmarked-more marks a c n u h z = record {
-  least = omega (arith, u .least);
-  most = h;
-  before = λ j k l. ⊎-elim (λ m. ap (λ (i : ℕ). getD marks i 0) (omega arith) ∙ z (j - c) (omega arith)) (λ m. u .before j k m) (≤-or c j);
-}
+unmarked-more marks a c n u h z = record { least = omega (arith, u .least); most = h; before = more-places (λ j. getD marks j 0 ≡ 0) a c n (u .before) z }
 
 module _ {ℓ} {A : Type ℓ} (d : A) (f : ℕ → A) (old : List A) (a b : ℕ) where
   abbrev pub ranged : ℕ → A

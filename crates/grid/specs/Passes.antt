@@ -130,6 +130,12 @@ pub record NextOf (bytes : List ℕ) (a k r : ℕ) : Type 0 where
   pub before : (j : ℕ) → a ≤ j → j < r → getD bytes j 0 ≡ k → ⊥
   pub here : r < length bytes → getD bytes r 0 ≡ k
 
+-- the places from a to r − 1 hold another number than k
+pub record Lacking (bytes : List ℕ) (a k r : ℕ) : Type 0 where
+  pub least : a ≤ r
+  pub most : r ≤ length bytes
+  pub before : (j : ℕ) → a ≤ j → j < r → getD bytes j 0 ≡ k → ⊥
+
 -- the places from a to r − 1 have no mark
 pub record Unmarked (marks : List ℕ) (a r : ℕ) : Type 0 where
   pub least : a ≤ r

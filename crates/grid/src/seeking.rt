@@ -1,17 +1,47 @@
 // Where a pass that does much at few cells goes on: from one such cell to the next. Its own loop would keep what it counts in memory.
 ghost use mathlib.Core.Path.{_≡_};
+ghost use mathlib.Core.Bool.{not};
 ghost use Prim.Native.Nat.{_+_, _≤_};
 ghost use lib.Dec.{eqb};
 ghost use lib.ListN.{length, getD};
 ghost use Rattle.whole.specs.Fold.{all};
-ghost use Rattle.grid.specs.Passes.{NextOf, NextMarked, Unmarked};
+ghost use Rattle.grid.specs.Passes.{Lacking, NextOf, NextMarked, Unmarked};
+
+// Whether none of 32 cells from a on is of a kind. By no way out, so that they are looked at together.
+fn lacking(flags: &[u8], a: usize, kind: u8) -> bool
+    requires { ⌜ a + 32 ≤ length (now flags) ⌝ }
+    ensures { λ r. ⌜ r ≡ all 32 (λ k. not (eqb (getD (now (flags .entry)) (a + k) 0) kind)) ⌝ }
+{
+    let mut none = true;
+    let mut k = 0;
+    while k < 32 {
+        none = none & (flags[a + k] != kind);
+        k += 1;
+    }
+    none
+}
+
+// Past cells from a on that are of another kind, 32 at a time.
+fn past_lacking(flags: &[u8], a: usize, kind: u8) -> usize
+    requires { ⌜ a ≤ length (now flags) ⌝ }
+    ensures { λ r. ⌜ Lacking (now (flags .entry)) a kind r ⌝ }
+{
+    let mut c = a;
+    while flags.len() - c >= 32 {
+        if !lacking(flags, c, kind) {
+            return c;
+        }
+        c += 32;
+    }
+    c
+}
 
 // The next cell of a kind, from a on; the number of cells if there is none.
 pub fn next_of(flags: &[u8], a: usize, kind: u8) -> usize
     requires { ⌜ a ≤ length (now flags) ⌝ }
     ensures { λ r. ⌜ NextOf (now (flags .entry)) a kind r ⌝ }
 {
-    let mut c = a;
+    let mut c = past_lacking(flags, a, kind);
     while c < flags.len() {
         if flags[c] == kind {
             return c;
