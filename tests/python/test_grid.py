@@ -244,6 +244,24 @@ class Both(Refusing):
     def test_threads_wait_for_each_other(self):
         for kind in (Grid, Flume):
             one, other = block(kind), block(kind)
+            cell = next(cell for cell, flag in enumerate(one.flags) if flag == INTERFACE)
+            calls = [one.step, lambda: one.run(5), one.write, one.check, one.counts, one.water, one.copy, lambda: one.mirrored("x"), lambda: one == other]
+            calls += [lambda: one.set_wall(cell), lambda: one.set_empty(cell), lambda: one.set_fluid(cell), lambda: one.set_interface(cell)]
+            if kind is Grid:
+                calls += [lambda: one.pour(cell, 1), lambda: one.take(cell, 1), one.depth_map, one.surface, one.surface_count, one.pools]
+                calls += [lambda: one.point(cell), lambda: one.depth(1, 1), lambda: one.profile([(0, 0, 0, 0)])]
+            for call in calls:
+                ended = threading.Event()
+                thread = threading.Thread(target=lambda call=call, ended=ended: (call(), ended.set()))
+                with one._lock:
+                    thread.start()
+                    self.assertFalse(ended.wait(0.01))
+                thread.join()
+                self.assertTrue(ended.is_set())
+
+    def test_runs_of_many_threads(self):
+        for kind in (Grid, Flume):
+            one, other = block(kind), block(kind)
             threads = [threading.Thread(target=one.run, args=(50,)) for _ in range(4)]
             for thread in threads:
                 thread.start()

@@ -3,7 +3,7 @@
     import skwarzyna
 
     grid = skwarzyna.Grid.from_invert(open("channel.asc").read(), nz=10, oz=118000)
-    cell = grid.cell(18, 9, 4)                   x, y, z; the number of a cell
+    cell = grid.cell(18, 9, 3)                   x, y, z; the number of a cell
     grid.set_interface(cell)                     surface without water, that can be poured into
     grid.pour(cell, 500_000)                     units: 589,824 of them fill a cell
     grid.run(200)                                up to 1,000 steps; turbulent=True for the turbulent mode

@@ -76,7 +76,7 @@ class Grid(Holding):
         grid.set_fluid(grid.cell(1, 1, 1))          a cell of water; empty neighbours become interface
         grid.run(100)                               a hundred steps with grid.settings
         grid.run(100, turbulent=True)               a hundred in the turbulent mode
-        grid.depth(1, 1)                            Depth(kind='deep', cells=0.98...)
+        grid.depth(1, 1)                            Depth(kind='deep', cells=0.99...)
         grid.water().balance                        to the unit what it was before
 
     Sides are 3 to 128 cells each, at most 262,144 cells in all (refusal 1). Water is counted in units, whole numbers, 589,824 (ONE) to a full cell.
