@@ -52,11 +52,14 @@ class Library(unittest.TestCase):
         self.assertEqual((status, told, said), (0, "1\n", ""))
 
     def test_help_is_there(self):
-        status, told, _ = python("import skwarzyna; help(skwarzyna); help(skwarzyna.lent); help(skwarzyna.Grid)")
+        status, told, _ = python("import skwarzyna; help(skwarzyna)")
+        self.assertEqual(status, 0)
+        self.assertLess(told.count("\n"), 600)
+        status, told, _ = python("import skwarzyna; help(skwarzyna); help(skwarzyna.lent); help(skwarzyna.values)")
         self.assertEqual(status, 0)
         for text in ("proved to add up to the unit", "class Grid", "surface_next(sides, words, start)", "from_invert(text, nz, oz=0"):
             self.assertIn(text, told)
-        for name in skwarzyna.__all__:
+        for name in set(skwarzyna.__all__) | {name for name in vars(skwarzyna) if not name.startswith("_")}:
             thing = getattr(skwarzyna, name)
             if inspect.isclass(thing) or callable(thing) or inspect.ismodule(thing):
                 self.assertTrue(thing.__doc__, name)

@@ -16,6 +16,7 @@ Grid        a box of cells with its water: read, write, step, run, pour, take, w
 Flume       a long section in two dimensions, likewise
 Refused     why a call was refused, in document 01's words; with number, place and, for a run, count
 lent        every call of include/skwarzyna.h over buffers of your own, numpy arrays among them
+values      what goes in and comes out, tuples with names, all to be had here too: Settings, Site, Water, Depth, Pool and so on
 
 Cells are numbered, x + nx*(y + ny*z). Lengths are whole millimetres, water is whole units. Bad numbers are refused by the library, which accepts
 every input and ends; values that it cannot be told at all are a TypeError or a ValueError.
@@ -24,7 +25,7 @@ The library behind this package is proved; the package and your own code are not
 bindings/object --shared makes it. Nothing is needed but Python's standard library.
 """
 
-from . import lent
+from . import lent, values
 from .flume import Flume
 from .grid import Grid, Surface
 from .refusal import Refused
@@ -54,33 +55,5 @@ from .values import (
     litres,
 )
 
-__all__ = [
-    "Grid",
-    "Flume",
-    "Refused",
-    "lent",
-    "Sides",
-    "Settings",
-    "Site",
-    "FlumeSides",
-    "FlumeSettings",
-    "FlumeSite",
-    "State",
-    "Held",
-    "Point",
-    "Surface",
-    "CellPoint",
-    "Depth",
-    "Profile",
-    "Pool",
-    "Pools",
-    "Water",
-    "Counts",
-    "litres",
-    "EMPTY",
-    "INTERFACE",
-    "FLUID",
-    "WALL",
-    "ONE",
-    "FULL",
-]
+# What help tells of here; the tuples are told of by help(skwarzyna.values).
+__all__ = ["Grid", "Flume", "Refused", "lent", "values", "litres", "EMPTY", "INTERFACE", "FLUID", "WALL", "ONE", "FULL"]
