@@ -139,7 +139,7 @@ class Read:
     def __init__(self, name, kind):
         self.name = name
         self.kind = kind
-        self.ctypes = (ctypes.c_void_p, ctypes.c_size_t)
+        self.types = (ctypes.c_void_p, ctypes.c_size_t)
 
 
 class Written(Read):
@@ -154,14 +154,14 @@ class Number:
     def __init__(self, name, kind):
         self.name = name
         self.kind = kind
-        self.ctypes = (kind.ctype,)
+        self.types = (kind.ctype,)
 
 
 class Mode:
     """An argument: the mode, a bool."""
 
     name = "turbulent"
-    ctypes = (ctypes.c_bool,)
+    types = (ctypes.c_bool,)
 
 
 class Answer:
@@ -170,7 +170,7 @@ class Answer:
     def __init__(self, name, kind):
         self.name = name
         self.kind = kind
-        self.ctypes = (ctypes.POINTER(kind.ctype),)
+        self.types = (ctypes.POINTER(kind.ctype),)
 
 
 class Call:
@@ -186,7 +186,7 @@ class Call:
     def bind(self, library):
         """Looks the call up in the compiled library."""
         self.function = getattr(library, self.name)
-        self.function.argtypes = [ctype for argument in self.arguments for ctype in argument.ctypes]
+        self.function.argtypes = [ctype for argument in self.arguments for ctype in argument.types]
         self.function.restype = ctypes.c_size_t if self.counts else ctypes.c_uint8
 
     def __call__(self, *values):
