@@ -12,6 +12,7 @@ from .values import AXES, INTERFACE, KINDS, PARTS, Depth, Held, Pool, Pools, Pro
 # No header of a depth map is longer, and no value with the blank or the line's end behind it.
 MAP_HEADER, MAP_VALUE = 102, 7
 
+
 def numbers(code, count):
     """So many numbers of an array's type, all 0."""
     return array(code, bytes(array(code).itemsize * count))
@@ -129,7 +130,7 @@ class Grid(Holding):
         -9999. The outer layer is wall in any case. Refusals 19 of a header line, 1, 3, then 20 of a row; the place is the line, from 1.
         """
         text = text.encode() if isinstance(text, str) else bytes_of("text", text)
-        nz = size.number("nz", nz)
+        nz, oz = size.number("nz", nz), i64.number("oz", oz)
         first = room_for((*_sides_in(text), nz))
         sides, site = lent.invert_read(text, nz, oz, settings, first)
         return cls._holding(sides, settings, site, first)
