@@ -27,7 +27,7 @@ type Outcome<T> = Result<T, Box<dyn Error>>;
 /// Cells in height, and the height of the origin in millimetres.
 const NZ: usize = 24;
 const HEIGHT: i64 = 512_000;
-/// Nearly the strongest gravity that there is, and water so viscous that no step of this run is refused.
+/// Nearly the strongest gravity that there is, and a p with which no step of this run is refused; with some others one is (docs/DECISIONS.md).
 const SETTINGS: Settings = Settings { p: 1800, gx: 0, gy: 0, gz: -1000 };
 const FLOWING: InMode<Settings> = SETTINGS.in_mode(Mode::Turbulent);
 /// Steps if none are said. For six ninths of them the hose runs alone, for two beside the pump, and in the last it is shut.

@@ -106,8 +106,8 @@ impl Tunnel {
     }
 
     /// Puts drops back into the nearest water, but for what a source has just begun. A cell that a falling surface leaves behind alone gains speed by
-    /// gravity in every step, and would end the run at the limit, with refusal 7 or 8. Its water is taken there and poured here, so that the library
-    /// keeps account of it.
+    /// gravity in every step until it passes the limit, and the run ends with refusal 7 or 8. Its water is taken there and poured here, so that the
+    /// library keeps account of it.
     pub fn gather_drops(&mut self, sources: &[Source]) -> Result<(), Refusal> {
         let (pools, sides) = (self.grid.pools()?, self.grid.sides());
         let few = |mark: u16| mark > 0 && pools.list[usize::from(mark) - 1].cells <= DROP;
