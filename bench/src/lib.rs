@@ -1,5 +1,6 @@
 // What the benchmark and its tests share: the scenes, the steps that are compared, and how they are timed.
 
+pub mod beside;
 pub mod engine;
 pub mod float;
 pub mod flume;

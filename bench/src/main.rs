@@ -2,6 +2,7 @@
 
 use std::process::ExitCode;
 
+use bench::beside;
 use bench::engine::{Engine, Settings, ACCEPTED};
 use bench::float::{self, FloatStore};
 use bench::flume;
@@ -18,12 +19,14 @@ use bench::scenes::{self, water, Scene};
 use bench::sweep;
 
 const USAGE: &str = "bench [--quick] [--pools] [--heights] [--flume] [--modes] [--sides A,B,..]
+bench --record FILE STEPS
   --quick   little of everything, to see that it works: its times say nothing
   --pools   the pools alone, at the largest side
   --heights the height grids alone
   --flume   the flume alone
   --modes   the two modes alone: what a turbulent step costs, and how far dam breaks come in each
-  --sides   of the cubes, 8 to 64; 32,48,64 if not said";
+  --sides   of the cubes, 8 to 64; 32,48,64 if not said
+  --record  the water of a record after so many plain steps, by the library and in f32; nothing else";
 
 struct Wish {
     sides: Vec<usize>,
@@ -216,8 +219,21 @@ fn bench(wish: &Wish) -> Result<(), String> {
     }
 }
 
+/// The water of a record by the library and in f32.
+fn record(words: &[String]) -> Result<(), String> {
+    let [_, file, steps] = words else { return Err(format!("--record?\n{USAGE}")) };
+    let steps = steps.parse().map_err(|_| format!("--record: '{steps}' is no number of steps\n{USAGE}"))?;
+    let bytes = std::fs::read(file).map_err(|error| format!("{file}: {error}"))?;
+    beside::tell(&bytes, steps).map_err(|error| format!("{file}: {error}"))
+}
+
 fn main() -> ExitCode {
-    match wish(std::env::args().skip(1)).and_then(|wish| bench(&wish)) {
+    let words: Vec<String> = std::env::args().skip(1).collect();
+    let asked = match words.first().map(String::as_str) {
+        Some("--record") => record(&words),
+        _ => wish(words.into_iter()).and_then(|wish| bench(&wish)),
+    };
+    match asked {
         Ok(()) => ExitCode::SUCCESS,
         Err(error) => {
             eprintln!("bench: {error}");

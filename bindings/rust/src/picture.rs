@@ -75,6 +75,15 @@ impl Picture {
         self.fill((x + width).saturating_sub(1), y, 1, height, colour);
     }
 
+    /// Another picture from its upper left corner, without its notes.
+    pub fn paste(&mut self, x: usize, y: usize, other: &Picture) {
+        for (row, pixels) in other.pixels.chunks(other.width.max(1)).enumerate() {
+            for (column, &colour) in pixels.iter().enumerate() {
+                self.fill(x + column, y + row, 1, 1, colour);
+            }
+        }
+    }
+
     /// A line from point to point, both drawn.
     pub fn line(&mut self, from: (usize, usize), to: (usize, usize), colour: Colour) {
         let steps = from.0.abs_diff(to.0).max(from.1.abs_diff(to.1)).max(1);

@@ -391,3 +391,16 @@ fn skw_draws_the_same() {
         assert!(all.zip(&read.pixels).all(|((x, y), colour)| ours.pixel(x, y) == Some(*colour)), "{words:?}");
     }
 }
+
+#[test]
+fn pictures_are_pasted() {
+    let (mut sheet, mut stamp) = (Picture::new(5, 4), Picture::new(3, 2));
+    stamp.fill(0, 0, 3, 2, INK);
+    sheet.paste(1, 1, &stamp);
+    // What lies over the edge is left out.
+    sheet.paste(4, 3, &stamp);
+    let inked = |x: usize, y: usize| (1..4).contains(&x) && (1..3).contains(&y) || (x, y) == (4, 3);
+    for (x, y) in (0..4).flat_map(|y| (0..5).map(move |x| (x, y))) {
+        assert_eq!(sheet.pixel(x, y), Some(if inked(x, y) { INK } else { WHITE }), "{x} {y}");
+    }
+}
