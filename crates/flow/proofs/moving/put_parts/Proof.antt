@@ -5,7 +5,7 @@ use Prim.Native.Nat.{ℕ, _+_, _*_, _<_, _≤_}
 use native.Mathlib.Omega.{arith}
 use lib.ListN.{length, getD}
 use Rattle.grid.specs.State.{liquid}
-use Rattle.grid.specs.Sight.{noSettings, bodiesOf}
+use Rattle.grid.specs.Sight.{bodiesOf}
 use Rattle.grid.proofs.Lists.{getD-there}
 use Rattle.flow.proofs.Collisions.{put-dry}
 use Rattle.flow.proofs.Spans.{light19, bounded-streamed}
@@ -43,7 +43,7 @@ put-moved-requires : tie.Need-put-moved-requires
 put-moved-requires c κs =
     let t = c .before .before .before in
     let s = t .before .before .before .before .before in
-    (bounded-streamed _ light19 _ _ _ _ _ noSettings (bodiesOf (s .pre .bodied)) _ (s .pre .around (kind t)) (kind t) _ (c .before .before .chosen .ensures) _ _ (omega arith) (omega arith), s .pre .settings, room s, s .pre .keeps)
+    (bounded-streamed _ light19 _ _ _ _ _ (s .args .g) (bodiesOf (s .pre .bodied)) _ (s .pre .around (kind t)) (kind t) _ (c .before .before .chosen .ensures (s .args .g)) _ _ (omega arith) (omega arith), s .pre .settings, room s, s .pre .keeps)
 
 same-length : tie.Need-same-length
 same-length c = search needs
@@ -52,7 +52,7 @@ returns : tie.Need-returns
 returns c =
     let t = c .before .before .before .before .before in
     let s = t .before .before .before .before .before in
-    c .before .put-moved .ensures (s .args .flags .now) (s .args .parts .now) (s .args .fill .now) (s .args .off .now) (s .args .low) (kind t) (c .before .before .before .before .chosen .ensures)
+    c .before .put-moved .ensures (s .args .flags .now) (s .args .parts .now) (s .args .fill .now) (s .args .off .now) (s .args .low) (kind t) (c .before .before .before .before .chosen .ensures (s .args .g))
 
 dry-out-requires : tie.Need-dry-out-requires
 dry-out-requires c κs = room (c .before .before .before .before .before .before)

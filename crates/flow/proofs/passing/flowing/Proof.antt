@@ -1,7 +1,7 @@
 -- `flow::passing::flowing`: pass 1. The invariant is Walked: the first c cells have gone through stages 1 to 4. Assumes nothing.
 use mathlib.Core.Path.{_≡_, refl, sym, ap, _∙_, subst}
 use mathlib.Core.Bool.{Bool, true, false, not, _&&_}
-use mathlib.Core.List.{List}
+use mathlib.Core.List.{List, []}
 use Prim.Native.Nat.{ℕ, zero, suc, _+_, _*_, _-_, _/_, _≤_, _<_}
 use native.Mathlib.Nat.{le-refl}
 use native.Mathlib.Omega.{arith}
@@ -13,13 +13,12 @@ use mir.Syntax.{w32}
 use mir.Facts.{toZ-ofZ}
 use Rattle.whole.specs.Fold.{tab}
 use Rattle.lattice.specs.Lattice.{d3q19}
-use Rattle.lattice.specs.declared.Settings.{Settings}
 use Rattle.grid.specs.declared.Sides.{Sides}
 use Rattle.grid.specs.Fill.{partOf}
 use Rattle.grid.specs.Grid.{cellsOf, gridOf}
-use Rattle.grid.specs.State.{liquid, stateOf}
+use Rattle.grid.specs.State.{lent, liquid, stateOf}
 use Rattle.grid.specs.Outcome.{sceneOf}
-use Rattle.grid.specs.Between.{Poised, uncarried}
+use Rattle.grid.specs.Between.{Poised}
 use Rattle.grid.specs.Passes.{lowOf, offsetOf}
 use Rattle.grid.specs.Sight.{Around}
 use Rattle.grid.proofs.Beside.{Offsets}
@@ -65,7 +64,7 @@ module _ (d : tie.In-loop Inv-loop μ-loop) where
   offs : Offsets (start .args .s) off low
   offs = record { table = d .before .before .before .before .before .offsets .ensures; lowest = d .before .before .before .before .low-of .ensures }
 
-  poise : Poised (start .args .s) (start .args .g) (uncarried (start .args .flags .now) (start .args .parts .now) (start .args .mass .now) (start .args .fill .now))
+  poise : Poised (start .args .s) (start .args .g) (lent (start .args .flags .now) (start .args .parts .now) (start .args .mass .now) (start .args .fill .now) [])
   poise = start .pre .poised
 
   walked : Walked (d3q19 .weight) (start .args .flags .now) (partOf (start .args .parts .now)) (start .args .mass .now) (start .args .fill .now) off low (start .args .g) (start .args .marks .now)
@@ -204,7 +203,7 @@ loop-again c =
           (put-more _ (l .parts2) (put .last .1 .1 .1 .0) (l .c) (omega (arith, l .inv .1, t .pre .parts-room)) (put .ensures .parts ok))
           (gained .result) _ _ _ _ (mark .result) _ (getD-there (t .args .flags .now) (l .c) 0 3 (d .loop-test .taken))
           (omega (arith, l .inv .2, t .pre .masses-room)) (omega (arith, l .inv .3, t .pre .marks-room))
-          (gained .ensures) (toZ-ofZ {w = w32} (record { sfits = c .before .before .before .before .before .struct-told .given .1 .1 .0 .1 }))
+          (gained .ensures (t .args .g)) (toZ-ofZ {w = w32} (record { sfits = c .before .before .before .before .before .struct-told .given .1 .1 .0 .1 }))
           (toZ-ofZ {w = w32} (record { sfits = gained .ok })) (mark .ensures) (toZ-ofZ {w = w32} (record { sfits = gained .ok }))
           (toZ-ofZ {w = w32} (record { sfits = c .before .before .struct-told2 .given .1 .1 .0 .1 })),
     )

@@ -1,7 +1,6 @@
 -- `flow::streaming::arriving` is what arrives from one direction, by the neighbour's flag. What is rebuilt fits, since gas and own part are bounded. Assumes nothing.
 use mathlib.Core.Path.{_≡_, sym, ap, ap₂, _∙_, subst}
 use mathlib.Core.Bool.{Bool, true, _||_}
-use mathlib.Core.List.{List}
 use Prim.Native.Nat.{ℕ, _+_, _*_, _≤_, _<_}
 use native.Mathlib.Omega.{arith}
 use lib.IntN.{ℤ, pos, natAbs, _-ℤ_}
@@ -19,7 +18,7 @@ use Rattle.lattice.specs.Cell.{gas, isPositive}
 use Rattle.lattice.specs.Body.{vec}
 use Rattle.lattice.proofs.Reading.{inside}
 use Rattle.grid.specs.Fill.{partOf}
-use Rattle.grid.specs.Sight.{Body, noSettings}
+use Rattle.grid.specs.Sight.{Body}
 use Rattle.grid.proofs.Lists.{getD-there}
 use Rattle.flow.proofs.Arrivals.{arrives-wall, arrives-rebuilt, arrives-liquid}
 use Rattle.flow.proofs.Leans.{above-zero}
@@ -102,10 +101,10 @@ shared-slice-copy-out-result : tie.Need-shared-slice-copy-out-result
 shared-slice-copy-out-result c = search needs
 
 returns : tie.Need-returns
-returns c fills off low e n =
+returns c fills off low g e n =
     let s = c .before .before .before .before in
     toZ-ofZ (sfits-of {w = w32} (c .result .given))
-    ∙ sym (arrives-wall (d3q19 .weight) _ (partOf (s .args .parts .now)) fills off low noSettings _ _ _ _ e (subst (λ (f : ℕ). 2 < f) (flag s) (c .before .if1 .taken)))
+    ∙ sym (arrives-wall (d3q19 .weight) _ (partOf (s .args .parts .now)) fills off low g _ _ _ _ e (subst (λ (f : ℕ). 2 < f) (flag s) (c .before .if1 .taken)))
 
 weight-of-requires : tie.Need-weight-of-requires
 weight-of-requires c κs = search needs
@@ -148,12 +147,12 @@ cast-result c =
     does-fit (search machine depth 30 fits 5000) tt
 
 returns-2 : tie.Need-returns-2
-returns-2 c fills off low e n =
+returns-2 c fills off low g e n =
     let s = c .before .before .before .before .before .before .before .before in
-    let g = gas-read (c .before .before) in
+    let a = gas-read (c .before .before) in
     let p = part-read c in
     reads-as (search machine depth 30 fits 5000) tt
-    ∙ sym (arrives-rebuilt (d3q19 .weight) _ (partOf (s .args .parts .now)) fills off low noSettings _ _ _ _ e (no-wall (c .before .before .before .before .before)) (tested s n ∙ c .before .before .before .before .if2 .taken))
+    ∙ sym (arrives-rebuilt (d3q19 .weight) _ (partOf (s .args .parts .now)) fills off low g _ _ _ _ e (no-wall (c .before .before .before .before .before)) (tested s n ∙ c .before .before .before .before .if2 .taken))
 
 mul-result-3 : tie.Need-mul-result-3
 mul-result-3 c = search needs
@@ -168,10 +167,10 @@ shared-slice-copy-out-result-2 : tie.Need-shared-slice-copy-out-result-2
 shared-slice-copy-out-result-2 c = search needs
 
 returns-3 : tie.Need-returns-3
-returns-3 c fills off low e n =
+returns-3 c fills off low g e n =
     let s = c .before .before .before .before .before in
     toZ-ofZ (sfits-of {w = w32} (c .result2 .given))
-    ∙ sym (arrives-liquid (d3q19 .weight) _ (partOf (s .args .parts .now)) fills off low noSettings _ _ _ _ e (no-wall (c .before .before)) (tested s n ∙ c .before .if2 .left))
+    ∙ sym (arrives-liquid (d3q19 .weight) _ (partOf (s .args .parts .now)) fills off low g _ _ _ _ e (no-wall (c .before .before)) (tested s n ∙ c .before .if2 .left))
 
 pub arriving-spec : {M : Type 1} → statement M
 arriving-spec =

@@ -15,10 +15,11 @@ use Rattle.whole.specs.Tab.{Upto, upto-zero, upto-more, upto-all, getD-tab}
 use Rattle.lattice.specs.Lattice.{dot, d3q19}
 use Rattle.lattice.specs.Body.{vec}
 use Rattle.lattice.specs.Cell.{isPositive}
+use Rattle.lattice.specs.declared.Settings.{Settings}
 use Rattle.grid.specs.Fill.{partOf}
 use Rattle.grid.specs.State.{Scene}
 use Rattle.grid.specs.Step.{leansTo, streamed}
-use Rattle.grid.specs.Sight.{Body, noSettings, boxSight}
+use Rattle.grid.specs.Sight.{Body, boxSight}
 use Rattle.flow.specs.Sources.{Flows, Beside}
 use Rattle.flow.proofs.Arrivals.{streamed-rest, streamed-odd, streamed-even}
 use Rattle.flow.proofs.Leans.{leans-is}
@@ -28,7 +29,7 @@ use Rattle.flow.proofs.streaming.streamed.Statement.{statement}
 use Rattle.flow.proofs.streaming.streamed.Tie as tie
 
 abbrev Inv-loop : tie.InvT-loop
-Inv-loop flags parts fill off low c k v d n f₀ i₀ f i = (i % 2 ≡ 1) × (i ≤ 19) × (length f ≡ 19) × Upto (pos 0) (streamed (boxSight flags parts [] fill off low noSettings) c) f i
+Inv-loop flags parts fill off low c k v d n f₀ i₀ f i = (i % 2 ≡ 1) × (i ≤ 19) × (length f ≡ 19) × ((g : Settings) → Upto (pos 0) (streamed (boxSight flags parts [] fill off low g) c) f i)
 
 abbrev μ-loop : tie.MeasureT-loop
 μ-loop flags parts fill off low c k v d n f₀ i₀ f i = 19 - i
@@ -37,9 +38,9 @@ abbrev μ-loop : tie.MeasureT-loop
 abbrev parts-of : (s : tie.Start Inv-loop μ-loop) → ℕ → ℤ
 parts-of s k = getD (s .args .parts .now) (19 * s .args .c + k) (pos 0)
 
--- what functions of the cell see
-abbrev scene : (s : tie.Start Inv-loop μ-loop) → Scene
-scene s = boxSight (s .args .flags .now) (s .args .parts .now) [] (s .args .fill .now) (s .args .off .now) (s .args .low) noSettings
+-- what functions of the cell see, under any settings
+abbrev scene : (s : tie.Start Inv-loop μ-loop) → Settings → Scene
+scene s g = boxSight (s .args .flags .now) (s .args .parts .now) [] (s .args .fill .now) (s .args .off .now) (s .args .low) g
 
 body : (s : tie.Start Inv-loop μ-loop) → Body (parts-of s)
 body s = s .pre .0 .body (s .args .c) (s .pre .2 .is-cell) (s .pre .3)
@@ -58,10 +59,10 @@ module _ (c : tie.After-leaning Inv-loop μ-loop) where
   along : (i : ℕ) → i < 19 → getD (c .before .dots .result) i (pos 0) ≡ dot (d3q19 .e i) (vec (c .before .before .flow-of .result))
   along i h = ap (λ (l : List ℤ). getD l i (pos 0)) (c .before .dots .ensures) ∙ getD-tab 19 _ (pos 0) i h
 
-  leans : (i : ℕ) → i < 19 → {x : ℤ} → x ≡ getD (c .leaning .result) i (pos 0) → isPositive x ≡ leansTo (scene start) (start .args .c) i
-  leans i h e =
+  leans : (i : ℕ) → i < 19 → {x : ℤ} → x ≡ getD (c .leaning .result) i (pos 0) → (g : Settings) → isPositive x ≡ leansTo (scene start g) (start .args .c) i
+  leans i h e g =
       ap isPositive (e ∙ ap (λ (l : List ℤ). getD l i (pos 0)) (c .leaning .ensures) ∙ getD-tab 19 _ (pos 0) i h)
-      ∙ leans-is (d3q19 .weight) _ (partOf (start .args .parts .now)) _ _ _ noSettings _ (start .pre .2 .self) i
+      ∙ leans-is (d3q19 .weight) _ (partOf (start .args .parts .now)) _ _ _ g _ (start .pre .2 .self) i
 
 sub-k : tie.Need-sub-k Inv-loop μ-loop
 sub-k c = search needs
@@ -99,7 +100,7 @@ loop-holds c =
       refl,
       omega arith,
       refl,
-      upto-more (pos 0) (streamed (scene s) (s .args .c)) (replicate 19 (pos 0)) 0 _ (omega arith) (upto-zero (pos 0) _ (replicate 19 (pos 0)))
+      λ g. upto-more (pos 0) (streamed (scene s g) (s .args .c)) (replicate 19 (pos 0)) 0 _ (omega arith) (upto-zero (pos 0) _ (replicate 19 (pos 0)))
           (toZ-ofZ (sfits-of {w = w32} (c .f .given)) ∙ ap (λ (n : ℕ). getD (s .args .parts .now) n (pos 0)) (sym (add-zero (19 * s .args .c))) ∙ sym (streamed-rest _ _ _ _ _ _ _ _)),
     )
 
@@ -235,19 +236,19 @@ loop-again c =
       omega (arith, odd),
       omega arith,
       simp length-set (l .loop .inv .2),
-      upto-pair (pos 0) (streamed (scene s) (s .args .c)) (l .loop .f) (l .loop .i) _ _ (omega (arith, l .loop .inv .2)) (l .loop .inv .3)
+      λ g. upto-pair (pos 0) (streamed (scene s g) (s .args .c)) (l .loop .f) (l .loop .i) _ _ (omega (arith, l .loop .inv .2)) (l .loop .inv .3 g)
           (toZ-ofZ (sfits-of {w = w32} (c .arriving2 .ok))
-          ∙ c .arriving2 .ensures (s .args .fill .now) (s .args .off .now) (s .args .low) refl (leans d (l .loop .i + 1) t (toZ-ofZ (sfits-of {w = w32} (c .before .arriving-arg6 .given))))
+          ∙ c .arriving2 .ensures (s .args .fill .now) (s .args .off .now) (s .args .low) g refl (leans d (l .loop .i + 1) t (toZ-ofZ (sfits-of {w = w32} (c .before .arriving-arg6 .given))) g)
           ∙ sym (streamed-odd _ _ _ _ _ _ _ _ (l .loop .i) odd))
           (toZ-ofZ (sfits-of {w = w32} (a .arriving .ok))
-          ∙ a .arriving .ensures (s .args .fill .now) (s .args .off .now) (s .args .low) refl (leans d (l .loop .i) (a .before .before .before .before .loop-test .taken) (toZ-ofZ (sfits-of {w = w32} (a .before .arriving-arg3 .given))))
+          ∙ a .arriving .ensures (s .args .fill .now) (s .args .off .now) (s .args .low) g refl (leans d (l .loop .i) (a .before .before .before .before .loop-test .taken) (toZ-ofZ (sfits-of {w = w32} (a .before .arriving-arg3 .given))) g)
           ∙ sym (streamed-even _ _ _ _ _ _ _ _ (l .loop .i) odd)),
     )
 
 returns : tie.Need-returns Inv-loop μ-loop
-returns c =
+returns c g =
     let e : c .before .loop .i ≡ 19 = omega (arith, c .before .loop .inv .0) in
-    upto-all (pos 0) _ _ 19 (c .before .loop .inv .2) (rw e at (c .before .loop .inv .3))
+    upto-all (pos 0) _ _ 19 (c .before .loop .inv .2) (rw e at (c .before .loop .inv .3 g))
 
 pub streamed-spec : {M : Type 1} → statement M
 streamed-spec =

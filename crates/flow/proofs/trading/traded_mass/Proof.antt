@@ -140,10 +140,10 @@ loop-again c =
     )
 
 returns : tie.Need-returns Inv-loop μ-loop
-returns c =
+returns c g =
     let s = c .before .before .before .before .before .before in
     let e : c .before .loop .i - 1 ≡ 18 = omega arith in
-    c .before .loop .inv .3 ∙ ap (gained (s .args .flags .now) (partOf (s .args .parts .now)) (s .args .mass .now) (s .args .fill .now) (s .args .off .now) (s .args .low) (s .args .c)) e ∙ gained-all (s .args .flags .now) (partOf (s .args .parts .now)) (s .args .mass .now) (s .args .fill .now) (s .args .off .now) (s .args .low) (s .args .c) (d3q19 .weight)
+    c .before .loop .inv .3 ∙ ap (gained (s .args .flags .now) (partOf (s .args .parts .now)) (s .args .mass .now) (s .args .fill .now) (s .args .off .now) (s .args .low) (s .args .c)) e ∙ gained-all (s .args .flags .now) (partOf (s .args .parts .now)) (s .args .mass .now) (s .args .fill .now) (s .args .off .now) (s .args .low) (s .args .c) (d3q19 .weight) g
 
 pub traded-mass-spec : {M : Type 1} → statement M
 traded-mass-spec =
