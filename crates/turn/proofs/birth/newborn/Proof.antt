@@ -2,14 +2,15 @@
 use borrow.Author.Needs.{needs}
 use mathlib.Core.Path.{_≡_, refl, _∙_, ap, ap₂, subst}
 use mathlib.Core.Bool.{Bool, _&&_}
-use mathlib.Core.List.{List}
+use mathlib.Core.List.{List, []}
 use Prim.Native.Nat.{ℕ, _+_, _*_, _-_, _≤_, _<_}
 use native.Mathlib.Omega.{arith}
 use lib.ListN.{length}
 use Rattle.whole.specs.Fold.{all}
 use Rattle.grid.specs.Fill.{partOf}
 use Rattle.grid.specs.Passes.{lowOf}
-use Rattle.turn.specs.Born.{flowSight, newlyBorn, laterFair, Peopled}
+use Rattle.grid.specs.Sight.{boxSight}
+use Rattle.turn.specs.Born.{newlyBorn, laterFair, Peopled}
 use Rattle.turn.proofs.Weighed.{all-none, all-more}
 use Rattle.turn.proofs.Newborns.{Reached, reached-zero, reached-more, reached-past, unborn, visited-fair, visited-size, visited-list, peopled}
 use Rattle.turn.proofs.birth.newborn.Statement.{statement}
@@ -17,8 +18,8 @@ use Rattle.turn.proofs.birth.newborn.Tie as tie
 
 abbrev Inv-loop : tie.InvT-loop
 Inv-loop flags parts fill flags2 parts2₀ g off low fair₀ c₀ parts2 fair c =
-    (c ≤ length flags) × Reached (flowSight flags parts fill off low g) (newlyBorn flags flags2) (partOf parts2₀) (partOf parts2) c
-    × (length parts2 ≡ length parts2₀) × (fair ≡ all c (laterFair (flowSight flags parts fill off low g) (newlyBorn flags flags2)))
+    (c ≤ length flags) × Reached (boxSight flags parts [] fill off low g) (newlyBorn flags flags2) (partOf parts2₀) (partOf parts2) c
+    × (length parts2 ≡ length parts2₀) × (fair ≡ all c (laterFair (boxSight flags parts [] fill off low g) (newlyBorn flags flags2)))
 
 abbrev μ-loop : tie.MeasureT-loop
 μ-loop flags parts fill flags2 parts2₀ g off low fair₀ c₀ parts2 fair c = length flags - c
@@ -32,7 +33,7 @@ low-of-requires c κs = c .before .before .before .before .pre .0
 loop-holds : tie.Need-loop-holds Inv-loop μ-loop
 loop-holds c =
     let a = c .before .before .before .before .before .args in
-    let S = flowSight (a .flags .now) (a .parts .now) (a .fill .now) (c .before .offsets .result) (c .low-of .result) (a .g) in
+    let S = boxSight (a .flags .now) (a .parts .now) [] (a .fill .now) (c .before .offsets .result) (c .low-of .result) (a .g) in
     let w = newlyBorn (a .flags .now) (a .flags2 .now) in
     (omega arith, reached-zero S w (partOf (a .parts2 .now)), refl, all-none (laterFair S w))
 
@@ -61,7 +62,7 @@ loop-again c =
     let s = b .before .before .before .before .before .before .before .before .before .before .before in
     let a = s .args in
     let l = b .before .before .before .before .before .loop in
-    let S = flowSight (a .flags .now) (a .parts .now) (a .fill .now) (b .before .before .before .before .before .before .before .offsets .result) (b .before .before .before .before .before .before .low-of .result) (a .g) in
+    let S = boxSight (a .flags .now) (a .parts .now) [] (a .fill .now) (b .before .before .before .before .before .before .before .offsets .result) (b .before .before .before .before .before .before .low-of .result) (a .g) in
     let w = newlyBorn (a .flags .now) (a .flags2 .now) in
     let h : l .c < length (a .flags .now) = b .before .before .before .before .loop-test .taken in
     let room : 19 * l .c + 19 ≤ length (l .parts2) = omega (arith, l .inv .2, s .pre .2) in
@@ -86,11 +87,11 @@ returns c =
     let o = c .before .before .before .offsets in
     let m = c .before .before .low-of in
     let l = c .before .loop in
-    let S = flowSight (a .flags .now) (a .parts .now) (a .fill .now) (o .result) (m .result) (a .g) in
+    let S = boxSight (a .flags .now) (a .parts .now) [] (a .fill .now) (o .result) (m .result) (a .g) in
     let w = newlyBorn (a .flags .now) (a .flags2 .now) in
     let e : l .c ≡ length (a .flags .now) = omega arith in
-    subst (λ (off : List ℕ). Peopled (flowSight (a .flags .now) (a .parts .now) (a .fill .now) off (lowOf (a .s)) (a .g)) w (length (a .flags .now)) (a .parts2 .now) (l .parts2) (l .fair)) (o .ensures)
-    (subst (λ (low : ℕ). Peopled (flowSight (a .flags .now) (a .parts .now) (a .fill .now) (o .result) low (a .g)) w (length (a .flags .now)) (a .parts2 .now) (l .parts2) (l .fair)) (m .ensures)
+    subst (λ (off : List ℕ). Peopled (boxSight (a .flags .now) (a .parts .now) [] (a .fill .now) off (lowOf (a .s)) (a .g)) w (length (a .flags .now)) (a .parts2 .now) (l .parts2) (l .fair)) (o .ensures)
+    (subst (λ (low : ℕ). Peopled (boxSight (a .flags .now) (a .parts .now) [] (a .fill .now) (o .result) low (a .g)) w (length (a .flags .now)) (a .parts2 .now) (l .parts2) (l .fair)) (m .ensures)
     (peopled S w (a .parts2 .now) (l .parts2) (length (a .flags .now)) (l .fair) (l .inv .2 ∙ s .pre .2) (subst (Reached S w (partOf (a .parts2 .now)) (partOf (l .parts2))) e (l .inv .1))
     (l .inv .3 ∙ ap (λ (n : ℕ). all n (laterFair S w)) e)))
 

@@ -17,7 +17,7 @@ use Rattle.whole.specs.Machine.{Within}
 use Rattle.whole.specs.Tab.{length-tab}
 use Rattle.lattice.specs.Cell.{carryGood}
 use Rattle.grid.specs.Grid.{cellsOf}
-use Rattle.grid.specs.State.{Lent, Scene, stateOf}
+use Rattle.grid.specs.State.{Lent, lent, stateOf}
 use Rattle.grid.specs.Step.{newFlag, newPart, newMass, newCarry}
 use Rattle.grid.specs.Outcome.{sceneOf}
 use Rattle.grid.specs.Between.{movedPart, movedMass, firstMark, gatheredMass}
@@ -30,7 +30,7 @@ use Rattle.turn.proofs.turning.converted.Statement.{statement}
 use Rattle.turn.proofs.turning.converted.Tie as tie
 
 abbrev set-of : tie.Start → Lent
-set-of t = record { flags = t .args .flags .now; parts = t .args .parts .now; masses = t .args .mass .now; fills = t .args .fill .now; carry = t .args .carry .now }
+set-of t = lent (t .args .flags .now) (t .args .parts .now) (t .args .mass .now) (t .args .fill .now) (t .args .carry .now)
 
 -- a number within 10^12 is kept by 64 bits
 kept : (z : ℤ) → Within z 1000000000000 → toZ w64 (ofZ w64 z) ≡ z

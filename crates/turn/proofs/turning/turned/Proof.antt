@@ -7,7 +7,7 @@ use lib.IntN.{ℤ}
 use lib.ListN.{length, length-replicate}
 use Rattle.whole.specs.Tab.{length-tab}
 use Rattle.grid.specs.Grid.{cellsOf}
-use Rattle.grid.specs.State.{Lent, Scene}
+use Rattle.grid.specs.State.{Lent, lent, Scene}
 use Rattle.grid.specs.Step.{newFlag, newPart, newMass}
 use Rattle.grid.specs.Outcome.{sceneOf}
 use Rattle.grid.specs.Between.{movedPart, movedMass, firstMark}
@@ -17,7 +17,7 @@ use Rattle.turn.proofs.turning.turned.Statement.{statement}
 use Rattle.turn.proofs.turning.turned.Tie as tie
 
 abbrev set-of : tie.Start → Lent
-set-of t = record { flags = t .args .flags .now; parts = t .args .parts .now; masses = t .args .mass .now; fills = t .args .fill .now; carry = t .args .carry .now }
+set-of t = lent (t .args .flags .now) (t .args .parts .now) (t .args .mass .now) (t .args .fill .now) (t .args .carry .now)
 
 -- with still true, what pass 1 says of it
 still-moved : (S : Scene) (n : ℕ) (parts masses : List ℤ) (marks : List ℕ) (fair still : Bool) → still ≡ true → Moved S n parts masses marks fair still → Moved S n parts masses marks fair true
