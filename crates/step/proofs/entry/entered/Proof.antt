@@ -7,7 +7,7 @@ use native.Mathlib.Omega.{arith}
 use lib.Dec.{eqb}
 use lib.ListN.{length}
 use Rattle.grid.specs.Grid.{sidesGood, cellsOf}
-use Rattle.grid.specs.State.{Lent}
+use Rattle.grid.specs.State.{Lent, lent}
 use Rattle.grid.specs.Outcome.{lengthsGood, settingsGood}
 use Rattle.flow.proofs.Poise.{few}
 use Rattle.step.proofs.Entrance.{lengths-told, settings-told, refuses-sides, refuses-lengths, refuses-settings, first-good, then-good}
@@ -15,10 +15,10 @@ use Rattle.step.proofs.entry.entered.Statement.{statement}
 use Rattle.step.proofs.entry.entered.Tie as tie
 
 abbrev first : tie.Start → Lent
-first w = record { flags = w .args .flags .now; parts = w .args .parts .now; masses = w .args .mass .now; fills = w .args .fill .now; carry = w .args .carry .now }
+first w = lent (w .args .flags .now) (w .args .parts .now) (w .args .mass .now) (w .args .fill .now) (w .args .carry .now)
 
 abbrev second : tie.Start → Lent
-second w = record { flags = w .args .flags2 .now; parts = w .args .parts2 .now; masses = w .args .mass2 .now; fills = w .args .fill2 .now; carry = w .args .carry2 .now }
+second w = lent (w .args .flags2 .now) (w .args .parts2 .now) (w .args .mass2 .now) (w .args .fill2 .now) (w .args .carry2 .now)
 
 sides-good : (d : tie.Else1) → sidesGood (d .before .before .before .before .before .before .before .args .s) ≡ true
 sides-good d = sym (d .before .good-sides .ensures) ∙ not-false _ (d .if1 .left)

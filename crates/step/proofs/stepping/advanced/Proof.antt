@@ -4,7 +4,7 @@ use mathlib.Core.Path.{sym, ap, _∙_}
 use lib.ListN.{length}
 use Rattle.whole.specs.Tab.{length-tab}
 use Rattle.grid.specs.Grid.{cellsOf}
-use Rattle.grid.specs.State.{Lent}
+use Rattle.grid.specs.State.{Lent, lent}
 use Rattle.grid.specs.Between.{Sized}
 use Rattle.grid.specs.Passes.{openedMark}
 use Rattle.step.proofs.Finishes.{flowable, like-sized, next-lengths, cleared, stopped-tried, finishing, tried-finished}
@@ -12,10 +12,10 @@ use Rattle.step.proofs.stepping.advanced.Statement.{statement}
 use Rattle.step.proofs.stepping.advanced.Tie as tie
 
 abbrev first : tie.Start → Lent
-first w = record { flags = w .args .flags .now; parts = w .args .parts .now; masses = w .args .mass .now; fills = w .args .fill .now; carry = w .args .carry .now }
+first w = lent (w .args .flags .now) (w .args .parts .now) (w .args .mass .now) (w .args .fill .now) (w .args .carry .now)
 
 abbrev second : tie.Start → Lent
-second w = record { flags = w .args .flags2 .now; parts = w .args .parts2 .now; masses = w .args .mass2 .now; fills = w .args .fill2 .now; carry = w .args .carry2 .now }
+second w = lent (w .args .flags2 .now) (w .args .parts2 .now) (w .args .mass2 .now) (w .args .fill2 .now) (w .args .carry2 .now)
 
 -- the second set's lengths at entry
 sized-second : (w : tie.Start) → Sized (cellsOf (w .args .s)) (second w)
