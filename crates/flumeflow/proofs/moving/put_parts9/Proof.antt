@@ -5,7 +5,6 @@ use Prim.Native.Nat.{_+_, _*_, _≤_}
 use native.Mathlib.Omega.{arith}
 use lib.ListN.{length, getD}
 use Rattle.grid.specs.State.{liquid}
-use Rattle.grid.specs.Sight.{noSettings}
 use Rattle.grid.proofs.Lists.{getD-there}
 use Rattle.flow.proofs.Collisions.{told-dry, none}
 use Rattle.flow.proofs.Spans.{bounded-streamed}
@@ -41,7 +40,7 @@ chosen9-requires c κs =
     (p .bodied, p .filled, p .around l, l, p .mirrored, p .sources, p .marked l)
 
 quieted-requires : tie.Need-quieted-requires
-quieted-requires c κs = quiet-streamed _ _ _ _ _ _ _ _ (c .chosen9 .ensures)
+quieted-requires c κs = quiet-streamed _ _ _ _ _ _ _ _ (c .chosen9 .ensures (c .before .before .before .before .before .before .args .g))
 
 shared-slice-read-put-moved9 : tie.Need-shared-slice-read-put-moved9
 shared-slice-read-put-moved9 c = c .before .before .before .before .before .before .before .before .before .pre .is-cell
@@ -50,8 +49,8 @@ put-moved9-requires : tie.Need-put-moved9-requires
 put-moved9-requires c κs =
     let t = c .before .before .before .before in
     let s = t .before .before .before .before .before in
-    let e = c .before .before .quieted .ensures ∙ c .before .before .before .chosen9 .ensures in
-    (bounded-streamed _ light9 _ _ _ _ _ noSettings (s .pre .bodied .bodies) _ (s .pre .around (kind t)) (kind t) _ e _ _ (omega arith) (omega arith), quiet-streamed _ _ _ _ _ _ _ _ e, s .pre .settings, room s, s .pre .keeps)
+    let e = c .before .before .quieted .ensures ∙ c .before .before .before .chosen9 .ensures (s .args .g) in
+    (bounded-streamed _ light9 _ _ _ _ _ (s .args .g) (s .pre .bodied .bodies) _ (s .pre .around (kind t)) (kind t) _ e _ _ (omega arith) (omega arith), quiet-streamed _ _ _ _ _ _ _ _ e, s .pre .settings, room s, s .pre .keeps)
 
 same-length : tie.Need-same-length
 same-length c = search needs
@@ -61,7 +60,7 @@ returns c =
     let t = c .before .before .before .before .before .before in
     let s = t .before .before .before .before .before in
     c .before .put-moved9 .ensures (s .args .flags .now) (s .args .parts .now) (s .args .fill .now) (s .args .off .now) (s .args .low) (kind t)
-    (c .before .before .before .before .quieted .ensures ∙ c .before .before .before .before .before .chosen9 .ensures)
+    (c .before .before .before .before .quieted .ensures ∙ c .before .before .before .before .before .chosen9 .ensures (s .args .g))
 
 dry-out9-requires : tie.Need-dry-out9-requires
 dry-out9-requires c κs = room (c .before .before .before .before .before .before)

@@ -1,7 +1,7 @@
 -- `flumeflow::passing::flowing9`: pass 1. The invariant is Walked: the first c cells have gone through stages 1 to 4. Assumes nothing.
 use mathlib.Core.Path.{_≡_, refl, sym, ap, _∙_, subst}
 use mathlib.Core.Bool.{Bool, true, false, not}
-use mathlib.Core.List.{List}
+use mathlib.Core.List.{List, []}
 use Prim.Native.Nat.{ℕ, _+_, _-_, _≤_, _<_}
 use native.Mathlib.Nat.{le-refl}
 use native.Mathlib.Omega.{arith}
@@ -10,8 +10,7 @@ use borrow.Author.Tests.{not-true, not-false}
 use mir.Syntax.{w32}
 use mir.Facts.{toZ-ofZ}
 use Rattle.whole.specs.Fold.{tab}
-use Rattle.grid.specs.State.{liquid}
-use Rattle.grid.specs.Between.{uncarried}
+use Rattle.grid.specs.State.{lent, liquid}
 use Rattle.grid.specs.Passes.{Amid}
 use Rattle.grid.specs.Sight.{Around}
 use Rattle.grid.proofs.Lists.{getD-there}
@@ -64,7 +63,7 @@ module _ (d : tie.In-loop Inv-loop μ-loop) where
   lowest : low ≡ flumeLow (start .args .s)
   lowest = d .before .before .before .before .low-of .ensures
 
-  poise : FlumePoised (start .args .s) (alongSettings (start .args .g)) (uncarried (start .args .flags .now) (start .args .parts .now) (start .args .mass .now) (start .args .fill .now))
+  poise : FlumePoised (start .args .s) (alongSettings (start .args .g)) (lent (start .args .flags .now) (start .args .parts .now) (start .args .mass .now) (start .args .fill .now) [])
   poise = start .pre .poised
 
   walked : Walked (spreadLattice .weight) (start .args .flags .now) (partOf9 (start .args .parts .now)) (start .args .mass .now) (start .args .fill .now) off low (start .args .g) (start .args .marks .now)
@@ -194,7 +193,7 @@ loop-again c =
           (put-more (t .args .flags .now) (t .args .parts .now) (t .args .fill .now) (off d) (low d) (t .args .g) (l .parts2) (put .last .1 .1 .1 .0) (l .c) (omega (arith, l .inv .1, t .pre .parts-room)) (put .ensures .parts ok))
           (gained .result) _ _ _ _ (mark .result) _ (getD-there (t .args .flags .now) (l .c) 0 3 (d .loop-test .taken))
           (omega (arith, l .inv .2, t .pre .masses-room)) (omega (arith, l .inv .3, t .pre .marks-room))
-          (gained .ensures) (toZ-ofZ {w = w32} (record { sfits = c .before .before .before .before .before .struct-told .given .1 .1 .0 .1 }))
+          (gained .ensures (t .args .g)) (toZ-ofZ {w = w32} (record { sfits = c .before .before .before .before .before .struct-told .given .1 .1 .0 .1 }))
           (toZ-ofZ {w = w32} (record { sfits = gained .ok })) (mark .ensures) (toZ-ofZ {w = w32} (record { sfits = gained .ok }))
           (toZ-ofZ {w = w32} (record { sfits = c .before .before .struct-told2 .given .1 .1 .0 .1 })),
     )

@@ -16,7 +16,7 @@ use Rattle.lattice.specs.Body.{vec}
 use Rattle.lattice.specs.Cell.{isPositive}
 use Rattle.grid.specs.State.{Scene}
 use Rattle.grid.specs.Step.{leansTo, arrives, streamed}
-use Rattle.grid.specs.Sight.{Body, noSettings}
+use Rattle.grid.specs.Sight.{Body}
 use Rattle.flow.specs.Sources.{Flows}
 use Rattle.flow.proofs.Arrivals.{streamed-rest, streamed-odd, streamed-even}
 use Rattle.flow.proofs.Leans.{leans-is}
@@ -27,12 +27,13 @@ use Rattle.nine.proofs.Places.{Filled, filled-zero, filled-more, filled-all}
 use Rattle.flumeflow.specs.Seen.{sight9}
 use Rattle.flumeflow.proofs.Nines.{Paired, paired, part-at, streamed-spread, filled-pair}
 use borrow.Author.Needs.{sfits-of, needs}
+use Rattle.lattice.specs.declared.Settings.{Settings}
 use Rattle.flumeflow.proofs.streaming.streamed9.Statement.{statement}
 use Rattle.flumeflow.proofs.streaming.streamed9.Tie as tie
 
 abbrev Inv-loop : tie.InvT-loop
 Inv-loop flags parts fill off low c b v d n f₀ k₀ f k =
-    (k % 2 ≡ 1) × Filled (λ (j : ℕ). streamed (sight9 flags parts [] fill off low noSettings) c (wide j)) f k
+    (k % 2 ≡ 1) × ((g : Settings) → Filled (λ (j : ℕ). streamed (sight9 flags parts [] fill off low g) c (wide j)) f k)
 
 abbrev μ-loop : tie.MeasureT-loop
 μ-loop flags parts fill off low c b v d n f₀ k₀ f k = 9 - k
@@ -41,13 +42,13 @@ abbrev μ-loop : tie.MeasureT-loop
 abbrev parts-of : (s : tie.Start Inv-loop μ-loop) → ℕ → ℤ
 parts-of s = partOf9 (s .args .parts .now) (s .args .c)
 
--- what functions of the cell see
-abbrev scene : (s : tie.Start Inv-loop μ-loop) → Scene
-scene s = sight9 (s .args .flags .now) (s .args .parts .now) [] (s .args .fill .now) (s .args .off .now) (s .args .low) noSettings
+-- what functions of the cell see, under any settings
+abbrev scene : (s : tie.Start Inv-loop μ-loop) → Settings → Scene
+scene s g = sight9 (s .args .flags .now) (s .args .parts .now) [] (s .args .fill .now) (s .args .off .now) (s .args .low) g
 
 -- what streams in by direction k
-abbrev here : (s : tie.Start Inv-loop μ-loop) → ℕ → ℤ
-here s k = streamed (scene s) (s .args .c) (wide k)
+abbrev here : (s : tie.Start Inv-loop μ-loop) → Settings → ℕ → ℤ
+here s g k = streamed (scene s g) (s .args .c) (wide k)
 
 body : (s : tie.Start Inv-loop μ-loop) → Body (parts-of s)
 body s = s .pre .0 .bodies .body (s .args .c) (s .pre .2 .is-cell) (s .pre .3)
@@ -70,10 +71,10 @@ module _ (c : tie.After-leaning Inv-loop μ-loop) where
   along : (i : ℕ) → i < 19 → getD (c .before .dots .result) i (pos 0) ≡ dot (d3q19 .e i) (vec (c .before .before .flow-of .result))
   along i h = ap (λ (l : List ℤ). getD l i (pos 0)) (c .before .dots .ensures) ∙ getD-tab 19 _ (pos 0) i h
 
-  leans : (i : ℕ) → i < 19 → {x : ℤ} → x ≡ getD (c .leaning .result) i (pos 0) → isPositive x ≡ leansTo (scene start) (start .args .c) i
-  leans i h e =
+  leans : (i : ℕ) → i < 19 → {x : ℤ} → x ≡ getD (c .leaning .result) i (pos 0) → (g : Settings) → isPositive x ≡ leansTo (scene start g) (start .args .c) i
+  leans i h e g =
       ap isPositive (e ∙ ap (λ (l : List ℤ). getD l i (pos 0)) (c .leaning .ensures) ∙ getD-tab 19 _ (pos 0) i h)
-      ∙ leans-is (spreadLattice .weight) _ (partOf9 (start .args .parts .now)) _ _ _ noSettings _ (start .pre .2 .self) i
+      ∙ leans-is (spreadLattice .weight) _ (partOf9 (start .args .parts .now)) _ _ _ g _ (start .pre .2 .self) i
 
 -- the pair of a turn, and the place of its second
 module _ (p : tie.After-place Inv-loop μ-loop) where
@@ -118,7 +119,7 @@ unfolding wide
 loop-holds c =
     let s = start (c .before) in (
       refl,
-      filled-more (here s) (replicate 19 (pos 0)) 0 0 _ (filled-zero (here s)) (omega arith) refl (omega arith)
+      λ g. filled-more (here s g) (replicate 19 (pos 0)) 0 0 _ (filled-zero (here s g)) (omega arith) refl (omega arith)
           (toZ-ofZ (sfits-of {w = w32} (c .f .given)) ∙ ap (λ (n : ℕ). getD (s .args .parts .now) n (pos 0)) (sym (add-zero (9 * s .args .c))) ∙ sym (part-at (s .args .parts .now) (s .args .c) 0 (omega arith)) ∙ sym (streamed-rest _ _ _ _ _ _ _ _)),
     )
 
@@ -262,23 +263,23 @@ loop-again c =
     let odd = l .loop .inv .0 in
     let e = p .place .ensures .0 in (
       omega (arith, odd),
-      filled-pair (here s) (l .loop .f) (l .loop .k) (p .place .result) _ _ (l .loop .inv .1) q (omega (arith, odd, p .before .loop-test .taken)) e
+      λ g. filled-pair (here s g) (l .loop .f) (l .loop .k) (p .place .result) _ _ (l .loop .inv .1 g) q (omega (arith, odd, p .before .loop-test .taken)) e
           (toZ-ofZ (sfits-of {w = w32} (c .arriving92 .ok))
-          ∙ c .arriving92 .ensures (s .args .fill .now) (s .args .off .now) (s .args .low) refl (leans d (p .place .result + 1) (second p) (toZ-ofZ (sfits-of {w = w32} (c .before .arriving9-arg6 .given))))
-          ∙ ap (λ (n : ℕ). arrives (scene s) (s .args .c) (n + 1) (wide (l .loop .k))) e
+          ∙ c .arriving92 .ensures (s .args .fill .now) (s .args .off .now) (s .args .low) g refl (leans d (p .place .result + 1) (second p) (toZ-ofZ (sfits-of {w = w32} (c .before .arriving9-arg6 .given))) g)
+          ∙ ap (λ (n : ℕ). arrives (scene s g) (s .args .c) (n + 1) (wide (l .loop .k))) e
           ∙ sym (streamed-odd _ _ _ _ _ _ _ _ (wide (l .loop .k)) (q .odd)))
           (toZ-ofZ (sfits-of {w = w32} (a .arriving9 .ok))
-          ∙ a .arriving9 .ensures (s .args .fill .now) (s .args .off .now) (s .args .low) refl (leans d (p .place .result) (p .place .ensures .1) (toZ-ofZ (sfits-of {w = w32} (a .before .arriving9-arg3 .given))))
-          ∙ ap₂ (λ (n m : ℕ). arrives (scene s) (s .args .c) n m) e (q .next)
+          ∙ a .arriving9 .ensures (s .args .fill .now) (s .args .off .now) (s .args .low) g refl (leans d (p .place .result) (p .place .ensures .1) (toZ-ofZ (sfits-of {w = w32} (a .before .arriving9-arg3 .given))) g)
+          ∙ ap₂ (λ (n m : ℕ). arrives (scene s g) (s .args .c) n m) e (q .next)
           ∙ sym (streamed-even _ _ _ _ _ _ _ _ (wide (l .loop .k)) (q .odd))
-          ∙ ap (streamed (scene s) (s .args .c)) (sym (q .next))),
+          ∙ ap (streamed (scene s g) (s .args .c)) (sym (q .next))),
     )
 
 returns : tie.Need-returns Inv-loop μ-loop
-returns c =
+returns c g =
     let s = start (c .before .before .before) in
-    let e : c .before .loop .k ≡ 9 = omega (arith, c .before .loop .inv .1 .most, c .before .loop .inv .0) in
-    filled-all _ _ (rw e at (c .before .loop .inv .1)) ∙ streamed-spread _ _ _ _ _ _ _ (here s) (λ k h. refl)
+    let e : c .before .loop .k ≡ 9 = omega (arith, c .before .loop .inv .1 g .most, c .before .loop .inv .0) in
+    filled-all _ _ (rw e at (c .before .loop .inv .1 g)) ∙ streamed-spread _ _ _ _ _ _ _ (here s g) (λ k h. refl)
 
 pub streamed9-spec : {M : Type 1} → statement M
 streamed9-spec =

@@ -165,10 +165,10 @@ loop-again c =
     )
 
 returns : tie.Need-returns Inv-loop μ-loop
-returns c =
+returns c g =
     let s = c .before .before .before .before .before .before in
     let e : c .before .loop .k - 1 ≡ 8 = omega arith in
-    c .before .loop .inv .3 ∙ ap (gained9 (s .args .flags .now) (s .args .parts .now) (s .args .mass .now) (s .args .fill .now) (s .args .off .now) (s .args .low) (s .args .c)) e ∙ gained-all (s .args .flags .now) (s .args .parts .now) (s .args .mass .now) (s .args .fill .now) (s .args .off .now) (s .args .low) (s .args .c)
+    c .before .loop .inv .3 ∙ ap (gained9 (s .args .flags .now) (s .args .parts .now) (s .args .mass .now) (s .args .fill .now) (s .args .off .now) (s .args .low) (s .args .c)) e ∙ gained-all (s .args .flags .now) (s .args .parts .now) (s .args .mass .now) (s .args .fill .now) (s .args .off .now) (s .args .low) (s .args .c) g
 
 pub traded-mass9-spec : {M : Type 1} → statement M
 traded-mass9-spec =
