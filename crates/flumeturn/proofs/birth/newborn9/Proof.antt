@@ -2,6 +2,7 @@
 use borrow.Author.Needs.{needs}
 use mathlib.Core.Path.{_≡_, refl, _∙_, ap, ap₂, subst}
 use mathlib.Core.Bool.{Bool, _&&_}
+use mathlib.Core.List.{[]}
 use Prim.Native.Nat.{ℕ, _+_, _*_, _-_, _≤_, _<_}
 use native.Mathlib.Omega.{arith}
 use lib.ListN.{length}
@@ -10,15 +11,15 @@ use Rattle.turn.specs.Born.{newlyBorn, laterFair}
 use Rattle.turn.proofs.Weighed.{all-none, all-more}
 use Rattle.turn.proofs.Newborns.{Reached, reached-zero, reached-more, reached-past, unborn}
 use Rattle.nine.specs.Cells.{partOf9}
-use Rattle.flumeturn.specs.Born.{flowSight9}
+use Rattle.flumeflow.specs.Seen.{sight9}
 use Rattle.flumeturn.proofs.Newborns.{visited-size, visited-list}
 use Rattle.flumeturn.proofs.birth.newborn9.Statement.{statement}
 use Rattle.flumeturn.proofs.birth.newborn9.Tie as tie
 
 abbrev Inv-loop : tie.InvT-loop
 Inv-loop flags parts fill flags2 parts2₀ off low g fair₀ c₀ parts2 fair c =
-    (c ≤ length flags) × Reached (flowSight9 flags parts fill off low g) (newlyBorn flags flags2) (partOf9 parts2₀) (partOf9 parts2) c
-    × (length parts2 ≡ length parts2₀) × (fair ≡ all c (laterFair (flowSight9 flags parts fill off low g) (newlyBorn flags flags2)))
+    (c ≤ length flags) × Reached (sight9 flags parts [] fill off low g) (newlyBorn flags flags2) (partOf9 parts2₀) (partOf9 parts2) c
+    × (length parts2 ≡ length parts2₀) × (fair ≡ all c (laterFair (sight9 flags parts [] fill off low g) (newlyBorn flags flags2)))
 
 abbrev μ-loop : tie.MeasureT-loop
 μ-loop flags parts fill flags2 parts2₀ off low g fair₀ c₀ parts2 fair c = length flags - c
@@ -26,7 +27,7 @@ abbrev μ-loop : tie.MeasureT-loop
 loop-holds : tie.Need-loop-holds Inv-loop μ-loop
 loop-holds c =
     let a = c .before .before .before .args in
-    let S = flowSight9 (a .flags .now) (a .parts .now) (a .fill .now) (a .off .now) (a .low) (a .g) in
+    let S = sight9 (a .flags .now) (a .parts .now) [] (a .fill .now) (a .off .now) (a .low) (a .g) in
     let w = newlyBorn (a .flags .now) (a .flags2 .now) in
     (omega arith, reached-zero S w (partOf9 (a .parts2 .now)), refl, all-none (laterFair S w))
 
@@ -54,7 +55,7 @@ loop-again c =
     let s = v .before .before .before .before .before .before .before in
     let a = s .args in
     let l = v .before .before .before .loop in
-    let S = flowSight9 (a .flags .now) (a .parts .now) (a .fill .now) (a .off .now) (a .low) (a .g) in
+    let S = sight9 (a .flags .now) (a .parts .now) [] (a .fill .now) (a .off .now) (a .low) (a .g) in
     let w = newlyBorn (a .flags .now) (a .flags2 .now) in
     let h : l .c < length (a .flags .now) = v .before .before .loop-test .taken in
     let room : 9 * l .c + 9 ≤ length (l .parts2) = omega (arith, l .inv .2, s .pre .1) in
@@ -78,7 +79,7 @@ returns c =
     let s = c .before .before .before .before .before in
     let a = s .args in
     let l = c .before .loop in
-    let S = flowSight9 (a .flags .now) (a .parts .now) (a .fill .now) (a .off .now) (a .low) (a .g) in
+    let S = sight9 (a .flags .now) (a .parts .now) [] (a .fill .now) (a .off .now) (a .low) (a .g) in
     let w = newlyBorn (a .flags .now) (a .flags2 .now) in
     let e : l .c ≡ length (a .flags .now) = omega arith in
     record {
