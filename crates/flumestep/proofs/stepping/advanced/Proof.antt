@@ -2,13 +2,13 @@
 use borrow.Author.Needs.{needs}
 use mathlib.Core.Path.{sym, _∙_}
 use Rattle.flume.specs.Flume.{flumeCells}
-use Rattle.grid.specs.State.{Lent}
+use Rattle.grid.specs.State.{Lent, lent}
 use Rattle.flumestep.proofs.Finishes.{flowing, next-lengths, cleared, stopped-tried, finishing, tried-finished}
 use Rattle.flumestep.proofs.stepping.advanced.Statement.{statement}
 use Rattle.flumestep.proofs.stepping.advanced.Tie as tie
 
 abbrev first : tie.Start → Lent
-first w = record { flags = w .args .flags .now; parts = w .args .parts .now; masses = w .args .mass .now; fills = w .args .fill .now; carry = w .args .carry .now }
+first w = lent (w .args .flags .now) (w .args .parts .now) (w .args .mass .now) (w .args .fill .now) (w .args .carry .now)
 
 mark-open-requires : tie.Need-mark-open-requires
 mark-open-requires c κs = let w = c .before .before .before .before .before .before in (w .pre .ready .sides, w .pre .ready .sized .flags, w .pre .marks-room)

@@ -8,7 +8,7 @@ use mir.Syntax.{w64}
 use mir.Facts.{toZ-ofZ}
 use Rattle.lattice.specs.Lattice.{d2q9}
 use Rattle.grid.specs.declared.Answer.the-variants.{Done, Refused}
-use Rattle.grid.specs.State.{Lent, stateOf}
+use Rattle.grid.specs.State.{Lent, lent, stateOf}
 use Rattle.grid.specs.Good.{badRule}
 use Rattle.grid.proofs.Accepted.{skip}
 use Rattle.grid.proofs.Checks.{stop}
@@ -17,7 +17,7 @@ use Rattle.flumestep.proofs.stepping.judged.Statement.{statement}
 use Rattle.flumestep.proofs.stepping.judged.Tie as tie
 
 abbrev second : tie.Start → Lent
-second w = record { flags = w .args .flags2 .now; parts = w .args .parts2 .now; masses = w .args .mass2 .now; fills = w .args .fill2 .now; carry = w .args .carry2 .now }
+second w = lent (w .args .flags2 .now) (w .args .parts2 .now) (w .args .mass2 .now) (w .args .fill2 .now) (w .args .carry2 .now)
 
 abbrev broken : tie.Start → ℕ
 broken w = badRule d2q9 (length (w .args .flags2 .now)) (stateOf 8 (second w))

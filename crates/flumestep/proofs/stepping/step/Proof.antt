@@ -2,7 +2,7 @@
 use borrow.Author.Needs.{needs}
 use mathlib.Core.Path.{refl, _≡_, sym, _∙_}
 use Rattle.grid.specs.declared.Answer.the-variants.{Done}
-use Rattle.grid.specs.State.{Lent}
+use Rattle.grid.specs.State.{Lent, lent}
 use Rattle.flume.specs.Flume.{flumeCells}
 use Rattle.flume.specs.Outcome.{flumeEntry}
 use Rattle.flumegrid.specs.Ready.{FlumeEntered}
@@ -13,10 +13,10 @@ use Rattle.flumestep.proofs.stepping.step.Statement.{statement}
 use Rattle.flumestep.proofs.stepping.step.Tie as tie
 
 abbrev first : tie.Start → Lent
-first w = record { flags = w .args .flags .now; parts = w .args .parts .now; masses = w .args .mass .now; fills = w .args .fill .now; carry = w .args .carry .now }
+first w = lent (w .args .flags .now) (w .args .parts .now) (w .args .mass .now) (w .args .fill .now) (w .args .carry .now)
 
 abbrev second : tie.Start → Lent
-second w = record { flags = w .args .flags2 .now; parts = w .args .parts2 .now; masses = w .args .mass2 .now; fills = w .args .fill2 .now; carry = w .args .carry2 .now }
+second w = lent (w .args .flags2 .now) (w .args .parts2 .now) (w .args .mass2 .now) (w .args .fill2 .now) (w .args .carry2 .now)
 
 -- tests 1 to 6 have passed
 module _ (d : tie.After-enum-told) where
