@@ -66,7 +66,7 @@ fn total(masses: &[i32], carry: i64) -> i64
     0
 }
 
-pub fn line(flags: &[u8], masses: &[i32], carry: i64) -> Line
+pub fn counts(flags: &[u8], masses: &[i32], carry: i64) -> Line
     requires { ⌜ length (now masses) ≤ 862 ⌝ }
     ensures { λ r. ⌜ r ≡ lineWith (now (flags .entry)) (totalBy (now (masses .entry)) carry) carry ⌝ }
 {

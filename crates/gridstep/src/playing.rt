@@ -1,6 +1,6 @@
 // One record read and stepped, in slices that are lent for it, and what is to be told of it.
 use crate::counting::Line;
-use crate::counting::line;
+use crate::counting::counts;
 use console::answers::refused;
 use grid::Answer;
 use grid::Sides;
@@ -69,7 +69,7 @@ fn go(
     ensures { λ r. ⌜ r ≡ steppedBy s g (lent (now (flags .entry)) (now (parts .entry)) (now (masses .entry)) (now (fills .entry)) (getD (now (carry .entry)) 0 (pos 0) ∷ [])) (lent (now (flags2 .entry)) (now (parts2 .entry)) (now (masses2 .entry)) (now (fills2 .entry)) (now (carry2 .entry))) (now (marks .entry)) ⌝ }
 {
     let alone = [carry[0]];
-    let before = line(flags, masses, carry[0]);
+    let before = counts(flags, masses, carry[0]);
     let step = stepping::step(
         flags,
         parts,
@@ -85,7 +85,7 @@ fn go(
         s,
         g,
     );
-    let after = line(flags2, masses2, carry2[0]);
+    let after = counts(flags2, masses2, carry2[0]);
     Told {
         read: Answer::Done,
         before,
