@@ -10,9 +10,9 @@ use playing::Told;
 ghost use mathlib.Core.Path.{_≡_};
 ghost use Rattle.gridstep.specs.Told.{toldOf};
 
-// What is told of the bytes of a record, of any length. There is room for 862 cells, as document 01 fixes it: 65,536 bytes over the 76 of a liquid cell's
-// parts, rounded down. So many liquid cells never fit, for each has a flag too and an interface cell a mass: of interface cells alone 65,536 bytes hold 807
-// (92 + 81N bytes with one number in section 4) or 807 (108 + 81N with three). A record of more than 862 cells is refused with 2, because the reader finds its slices too short.
+// What is told of the bytes of a record, however many. Room for 862 cells, as document 01 fixes it: 65,536 bytes over the 76 of a cell's parts, rounded
+// down. A record that is all interface has 92 + 81N bytes, 108 + 81N with three numbers in section 4, so that 807 cells fit; walls and empty cells take
+// a byte each, and a record of more than 862 cells is refused with 2, because the reader finds its slices too short.
 fn play(rec: &[u8]) -> Told
     ensures { λ r. ⌜ r ≡ toldOf (now (rec .entry)) ⌝ }
 {
