@@ -21,7 +21,6 @@ use Rattle.grid.specs.State.{Lent, lent, Scene, liquid, stateOf}
 use Rattle.grid.specs.Step.{tooFast, collided, newFlag, newPart, newMass, newFill, newCarry}
 use Rattle.grid.specs.Good.{badRule}
 use Rattle.grid.specs.Outcome.{accepted, ifNone, moveAnswer}
-use Rattle.grid.specs.Between.{firstMark}
 use Rattle.grid.specs.Halfway.{Alike}
 use Rattle.grid.specs.Passes.{openedBy}
 use Rattle.grid.proofs.Listed.{lengths-fit}
@@ -214,16 +213,6 @@ went-through {T} {n} {o} {parts} {masses} {marks} u v e (through {fair = x} {sti
     subst (λ (z : Bool). MovedTo T n (partOf9 parts) masses marks z v) (ap was-fair e) (subst (λ (z : Bool). MovedTo T n (partOf9 parts) masses marks x z) (ap was-still e) m)
 
 module _ {s : FlumeSides} {g : FlumeSettings} {a : Lent} where
-  pub finishing-marks : {b : Lent} {marks : List ℕ} {fair still : Bool} → FlumeFinishing s g a b marks fair still → length marks ≡ flumeCells s
-  finishing-marks f = ap length (f .moved .marks-are) ∙ length-tab (flumeCells s) (firstMark (wideScene s (levelSettings g) a))
-
-  pub advanced-lengths : {answer : Answer} {second : Lent} {after : List ℕ} → FlumeReady s g a → FlumeAdvanced s g a answer second after → FlumeSized (flumeCells s) second
-  advanced-lengths r d = go (accepted (moveAnswer (flumeScene s g a))) (d .second-is)
-    where
-      go : (b : Bool) {x : Lent} → x ≡ cond b (flumeNext s g a) a → FlumeSized (flumeCells s) x
-      go true e = next-lengths s g a e
-      go false e = subst (λ (y : Lent). FlumeSized (flumeCells s) y) (sym e) (r .sized)
-
   -- finished; h are the settings as the code has them, with gy = 0
   pub turning : {h : Settings} {b : Lent} {marks : List ℕ} {fair still : Bool} → h ≡ levelSettings g → FlumeFinishing s g a b marks fair still
       → FlumeTurning s h a (b .flags) (b .parts) (b .masses) (b .carry) marks still

@@ -183,18 +183,6 @@ went-through {S} {n} {o} {parts} {masses} {marks} u v e (through {fair = x} {sti
     subst (λ (z : Bool). Moved S n parts masses marks z v) (ap was-fair e) (subst (λ (z : Bool). Moved S n parts masses marks x z) (ap was-still e) m)
 
 module _ {s : Sides} {g : Settings} {a : Lent} where
-  pub finishing-lengths : {b : Lent} {marks : List ℕ} {fair still : Bool} → Finishing s g a b marks fair still → Sized (cellsOf s) b
-  finishing-lengths f = record {
-    flags = f .flags-room;
-    parts = ap length (f .moved .parts-are) ∙ length-tab (19 * cellsOf s) (λ m. movedPart (sceneOf s g a) (m / 19) (m % 19));
-    masses = ap length (f .moved .masses-are) ∙ length-tab (cellsOf s) (movedMass (sceneOf s g a));
-    fills = f .fills-room;
-    carry = f .carry-room;
-  }
-
-  pub finishing-marks : {b : Lent} {marks : List ℕ} {fair still : Bool} → Finishing s g a b marks fair still → length marks ≡ cellsOf s
-  finishing-marks f = ap length (f .moved .marks-are) ∙ length-tab (cellsOf s) (firstMark (sceneOf s g a))
-
   pub advanced-lengths : {answer : Answer} {second : Lent} {after : List ℕ} → Ready s g a → Advanced s g a answer second after → Sized (cellsOf s) second
   advanced-lengths r d = go (accepted (moveAnswer (sceneOf s g a))) (d .second-is)
     where

@@ -20,25 +20,25 @@ shared-slice-read-if1 c = search needs
 
 -- an interface cell, as the code reads it
 interface : (c : tie.Then1) → let s = c .before .before .before .before in getD (s .args .flags .now) (s .args .c) 3 ≡ 1
-interface c = let s = c .before .before .before .before in getD-there (s .args .flags .now) (s .args .c) 3 0 (s .pre .1) ∙ c .if1 .taken
+interface c = let s : tie.Start = search in getD-there (s .args .flags .now) (s .args .c) 3 0 (s .pre .1) ∙ c .if1 .taken
 
 traded-mass-requires : tie.Need-traded-mass-requires
-traded-mass-requires c κs = let s = c .before .before .before .before in (s .pre .0, s .pre .2 (interface c), interface c)
+traded-mass-requires c κs = let s : tie.Start = search in (s .pre .0, s .pre .2 (interface c), interface c)
 
 abbrev mass-of : (c : tie.After-traded-mass) → Val (c .traded-mass .result)
 mass-of c =
-    let s = c .before .before .before .before .before in
+    let s : tie.Start = search in
     inside (mass-within (s .args .flags .now) (partOf (s .args .parts .now)) (s .args .mass .now) (s .args .fill .now) (s .args .off .now) (s .args .low) (s .args .c) (tradingOf (s .pre .0)) (s .pre .2 (interface (c .before))) (interface (c .before)) (d3q19 .weight) _ (c .traded-mass .ensures))
 
 cast-result : tie.Need-cast-result
 cast-result c = let m = mass-of c in does-fit (search machine depth 20) tt
 
 returns : tie.Need-returns
-returns c g = let m = mass-of c in rw (interface (c .before)) (reads-as (search machine depth 20) tt ∙ c .traded-mass .ensures g)
+returns c g = let m = mass-of c in rw (interface (search)) (reads-as (search machine depth 20) tt ∙ c .traded-mass .ensures g)
 
 returns-2 : tie.Need-returns-2
 returns-2 c g =
-    let s = c .before .before .before .before in
+    let s : tie.Start = search in
     toZ-ofZ (s .fits .rho)
     ∙ sym (by-other (getD (s .args .flags .now) (s .args .c) 3) (s .args .rho) (tradedMass (boxSight (s .args .flags .now) (s .args .parts .now) (s .args .mass .now) (s .args .fill .now) (s .args .off .now) (s .args .low) g) (s .args .c))
     (λ e. c .if1 .left (getD-there (s .args .flags .now) (s .args .c) 0 3 (s .pre .1) ∙ e)))

@@ -26,38 +26,38 @@ abbrev μ-loop : tie.MeasureT-loop
 
 loop-holds : tie.Need-loop-holds Inv-loop μ-loop
 loop-holds c =
-    let a = c .before .before .before .args in
+    let start : tie.Start Inv-loop μ-loop = search in let a = start .args in
     let S = sight9 (a .flags .now) (a .parts .now) [] (a .fill .now) (a .off .now) (a .low) (a .g) in
     let w = newlyBorn (a .flags .now) (a .flags2 .now) in
     (omega arith, reached-zero S w (partOf9 (a .parts2 .now)), refl, all-none (laterFair S w))
 
 visit9-requires : tie.Need-visit9-requires Inv-loop μ-loop
 visit9-requires c κs =
-    let s = c .before .before .before .before .before .before in
-    (s .pre .0, c .before .loop-test .taken, c .before .before .loop .inv .2 ∙ s .pre .1)
+    let in-loop : tie.In-loop Inv-loop μ-loop = search in let at-loop : tie.At-loop Inv-loop μ-loop = search in let s : tie.Start Inv-loop μ-loop = search in
+    (s .pre .0, in-loop .loop-test .taken, at-loop .loop .inv .2 ∙ s .pre .1)
 
 add-next-of : tie.Need-add-next-of Inv-loop μ-loop
 add-next-of c = search needs
 
 next-of-requires : tie.Need-next-of-requires Inv-loop μ-loop
 next-of-requires c κs =
-    let s = c .before .before .before .before .before .before .before .before in
-    omega (arith, s .pre .0 .count, c .before .before .before .loop-test .taken)
+    let in-loop : tie.In-loop Inv-loop μ-loop = search in let s : tie.Start Inv-loop μ-loop = search in
+    omega (arith, s .pre .0 .count, in-loop .loop-test .taken)
 
 loop-less : tie.Need-loop-less Inv-loop μ-loop
 loop-less c =
-    let s = c .before .before .before .before .before .before .before .before .before in
-    omega (arith, c .next-of .ensures .least, c .next-of .ensures .most, s .pre .0 .count, c .before .before .before .before .loop-test .taken)
+    let in-loop : tie.In-loop Inv-loop μ-loop = search in let s : tie.Start Inv-loop μ-loop = search in
+    omega (arith, c .next-of .ensures .least, c .next-of .ensures .most, s .pre .0 .count, in-loop .loop-test .taken)
 
 loop-again : tie.Need-loop-again Inv-loop μ-loop
 loop-again c =
-    let v = c .before .before in
-    let s = v .before .before .before .before .before .before .before in
+    let in-loop : tie.In-loop Inv-loop μ-loop = search in let at-loop : tie.At-loop Inv-loop μ-loop = search in let v : tie.After-visit9 Inv-loop μ-loop = search in
+    let s : tie.Start Inv-loop μ-loop = search in
     let a = s .args in
-    let l = v .before .before .before .loop in
+    let l = at-loop .loop in
     let S = sight9 (a .flags .now) (a .parts .now) [] (a .fill .now) (a .off .now) (a .low) (a .g) in
     let w = newlyBorn (a .flags .now) (a .flags2 .now) in
-    let h : l .c < length (a .flags .now) = v .before .before .loop-test .taken in
+    let h : l .c < length (a .flags .now) = in-loop .loop-test .taken in
     let room : 9 * l .c + 9 ≤ length (l .parts2) = omega (arith, l .inv .2, s .pre .1) in
     let n = c .next-of .ensures in
     let m : c .next-of .result ≤ length (a .flags .now) = omega (arith, n .most, s .pre .0 .count) in
@@ -76,7 +76,7 @@ same-length c = c .before .loop .inv .2
 
 returns : tie.Need-returns Inv-loop μ-loop
 returns c =
-    let s = c .before .before .before .before .before in
+    let s : tie.Start Inv-loop μ-loop = search in
     let a = s .args in
     let l = c .before .loop in
     let S = sight9 (a .flags .now) (a .parts .now) [] (a .fill .now) (a .off .now) (a .low) (a .g) in
