@@ -11,7 +11,7 @@ use Rattle.lattice.specs.Lattice.{d3q19}
 use Rattle.lattice.specs.Body.{stillPart}
 use Rattle.lattice.specs.declared.Settings.{Settings}
 use Rattle.grid.specs.declared.Sides.{Sides}
-use Rattle.grid.specs.State.{Lent}
+use Rattle.grid.specs.State.{Lent, lent}
 
 abbrev pub sides : Sides
 sides = record { nx = 3; ny = 3; nz = 3 }
@@ -25,13 +25,7 @@ falling = settings (negsuc 1023)
 
 -- the centre with the parts ps, mass 294,912 and fill 32,768
 abbrev pub single : List ℤ → Lent
-single ps = record {
-  flags = set (replicate 27 3) 13 1;
-  parts = sets (replicate 513 (pos 0)) 247 ps;
-  masses = set (replicate 27 (pos 0)) 13 (pos 294912);
-  fills = set (replicate 27 0) 13 32768;
-  carry = pos 0 ∷ [];
-}
+single ps = lent (set (replicate 27 3) 13 1) (sets (replicate 513 (pos 0)) 247 ps) (set (replicate 27 (pos 0)) 13 (pos 294912)) (set (replicate 27 0) 13 32768) (pos 0 ∷ [])
 
 -- at rest: 196,608, 32,768, 16,384
 abbrev pub rest : List ℤ
@@ -62,7 +56,7 @@ marks = replicate 27 7
 
 -- case T with another flag at its centre
 abbrev pub flagged : ℕ → Lent
-flagged f = record { flags = set (replicate 27 3) 13 f; parts = caseT .parts; masses = caseT .masses; fills = caseT .fills; carry = caseT .carry }
+flagged f = lent (set (replicate 27 3) 13 f) (caseT .parts) (caseT .masses) (caseT .fills) (caseT .carry)
 
 -- ---- P6: without gravity
 
@@ -77,23 +71,21 @@ abbrev still : ℤ → List ℤ
 still ρ = tab 19 (stillPart d3q19 ρ (record { x = pos 0; y = pos 0; z = pos 0 }))
 
 abbrev pub row : Lent
-row = record {
-  flags = sets (replicate 45 3) 21 (1 ∷ 1 ∷ 1 ∷ []);
-  parts = sets (replicate 855 (pos 0)) 399 (still (pos 600000) ++ still (pos 589824) ++ still (pos 580000));
-  masses = sets (replicate 45 (pos 0)) 21 (pos 500000 ∷ pos 300000 ∷ pos 100000 ∷ []);
-  fills = sets (replicate 45 0) 21 (54613 ∷ 33333 ∷ 11299 ∷ []);
-  carry = pos 0 ∷ [];
-}
+row =
+    lent (sets (replicate 45 3) 21 (1 ∷ 1 ∷ 1 ∷ []))
+    (sets (replicate 855 (pos 0)) 399 (still (pos 600000) ++ still (pos 589824) ++ still (pos 580000)))
+    (sets (replicate 45 (pos 0)) 21 (pos 500000 ∷ pos 300000 ∷ pos 100000 ∷ []))
+    (sets (replicate 45 0) 21 (54613 ∷ 33333 ∷ 11299 ∷ []))
+    (pos 0 ∷ [])
 
 -- 4×4×3: cells 21, 22 and 25, 26 interface, at rest as in case T
 abbrev pub poolSides : Sides
 poolSides = record { nx = 4; ny = 4; nz = 3 }
 
 abbrev pub pool : Lent
-pool = record {
-  flags = sets (replicate 48 3) 21 (1 ∷ 1 ∷ 3 ∷ 3 ∷ 1 ∷ 1 ∷ []);
-  parts = sets (replicate 912 (pos 0)) 399 (rest ++ rest ++ replicate 38 (pos 0) ++ rest ++ rest);
-  masses = sets (replicate 48 (pos 0)) 21 (pos 591424 ∷ pos 147456 ∷ pos 0 ∷ pos 0 ∷ pos 442368 ∷ pos 294912 ∷ []);
-  fills = sets (replicate 48 0) 21 (65536 ∷ 16384 ∷ 0 ∷ 0 ∷ 49152 ∷ 32768 ∷ []);
-  carry = pos 0 ∷ [];
-}
+pool =
+    lent (sets (replicate 48 3) 21 (1 ∷ 1 ∷ 3 ∷ 3 ∷ 1 ∷ 1 ∷ []))
+    (sets (replicate 912 (pos 0)) 399 (rest ++ rest ++ replicate 38 (pos 0) ++ rest ++ rest))
+    (sets (replicate 48 (pos 0)) 21 (pos 591424 ∷ pos 147456 ∷ pos 0 ∷ pos 0 ∷ pos 442368 ∷ pos 294912 ∷ []))
+    (sets (replicate 48 0) 21 (65536 ∷ 16384 ∷ 0 ∷ 0 ∷ 49152 ∷ 32768 ∷ []))
+    (pos 0 ∷ [])

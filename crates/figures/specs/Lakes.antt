@@ -9,7 +9,7 @@ use lib.ListN.{replicate, set}
 use lib.Seq.{sets}
 use Rattle.whole.specs.Fold.{tab}
 use Rattle.grid.specs.declared.Sides.{Sides}
-use Rattle.grid.specs.State.{Lent}
+use Rattle.grid.specs.State.{Lent, lent}
 use Rattle.pools.specs.declared.Told.{Told}
 use Rattle.pools.specs.Outcome.{Room, room, toldNumber, toldPlace, toldPools, poolsAnswer, poolsRoom}
 use Rattle.figures.specs.Cases.{rest}
@@ -26,13 +26,12 @@ flagAt between c =
 
 -- masses 1,000 and −7, and 50 between them
 abbrev pub lake : Bool → Lent
-lake between = record {
-  flags = tab 64 (flagAt between);
-  parts = sets (sets (replicate 1216 (pos 0)) 399 (rest ++ cond between rest (replicate 19 (pos 0)))) 798 rest;
-  masses = set (sets (replicate 64 (pos 0)) 21 (pos 1000 ∷ cond between (pos 50) (pos 0) ∷ [])) 42 (negsuc 6);
-  fills = sets (replicate 64 0) 21 (111 ∷ cond between 5 0 ∷ []);
-  carry = pos 0 ∷ pos 0 ∷ pos 0 ∷ [];
-}
+lake between =
+    lent (tab 64 (flagAt between))
+    (sets (sets (replicate 1216 (pos 0)) 399 (rest ++ cond between rest (replicate 19 (pos 0)))) 798 rest)
+    (set (sets (replicate 64 (pos 0)) 21 (pos 1000 ∷ cond between (pos 50) (pos 0) ∷ [])) 42 (negsuc 6))
+    (sets (replicate 64 0) 21 (111 ∷ cond between 5 0 ∷ []))
+    (pos 0 ∷ pos 0 ∷ pos 0 ∷ [])
 
 -- room for so many pools, and what it holds before
 abbrev pub space : ℕ → Room

@@ -8,7 +8,7 @@ use lib.Seq.{sets}
 use Rattle.whole.specs.Fold.{tab}
 use Rattle.grid.specs.declared.Sides.{Sides}
 use Rattle.grid.specs.Grid.{gridOf}
-use Rattle.grid.specs.State.{Lent}
+use Rattle.grid.specs.State.{Lent, lent}
 use Rattle.figures.specs.Cases.{rest}
 
 -- case T's one word
@@ -20,13 +20,12 @@ cube = record { nx = 5; ny = 5; nz = 5 }
 
 -- wall outside, empty inside but for two interface cells with case T's parts and mass
 abbrev pub two : Lent
-two = record {
-  flags = set (set (tab 125 (λ c. cond (gridOf cube .outer c) 3 0)) 31 1) 93 1;
-  parts = sets (sets (replicate 2375 (pos 0)) 589 rest) 1767 rest;
-  masses = set (set (replicate 125 (pos 0)) 31 (pos 294912)) 93 (pos 294912);
-  fills = set (set (replicate 125 0) 31 32768) 93 32768;
-  carry = pos 0 ∷ pos 0 ∷ pos 0 ∷ [];
-}
+two =
+    lent (set (set (tab 125 (λ c. cond (gridOf cube .outer c) 3 0)) 31 1) 93 1)
+    (sets (sets (replicate 2375 (pos 0)) 589 rest) 1767 rest)
+    (set (set (replicate 125 (pos 0)) 31 (pos 294912)) 93 (pos 294912))
+    (set (set (replicate 125 0) 31 32768) 93 32768)
+    (pos 0 ∷ pos 0 ∷ pos 0 ∷ [])
 
 abbrev pub wordsTwo : List ℕ
 wordsTwo = 2147483648 ∷ 536870912 ∷ []

@@ -25,11 +25,11 @@ use Rattle.lattice.proofs.Paired.{paired19}
 use Rattle.collision.specs.Post.{Pulled}
 use Rattle.turbulence.proofs.Laws.{own-cong}
 use Rattle.grid.specs.State.{Scene, byFlag, liquid}
-use Rattle.grid.specs.Step.{seen, normal, oldDensity, oldMomentum, leansTo, rebuilt, rebuild, arrives, streamed, newDensity, newMomentum, tooFast, collidedDir, collided}
+use Rattle.grid.specs.Step.{streamed, newDensity, newMomentum, tooFast, collidedDir, collided}
 use Rattle.grid.specs.Mode.{ownAt, relaxIn, before}
 use Rattle.grid.specs.Between.{movedPart}
 use Rattle.grid.specs.Outcome.{settingsGood}
-use Rattle.grid.specs.Sight.{weighing, noSettings, sight}
+use Rattle.grid.specs.Sight.{weighing, sight}
 use Rattle.grid.specs.Pasted.{pasted}
 use Rattle.grid.proofs.Blocks.{length-pasted}
 use Rattle.grid.proofs.Same.{density-same, momentum-same, body-same}
@@ -45,18 +45,12 @@ by-liquid (suc (suc zero)) d x h = refl
 by-liquid (suc (suc (suc n))) d x h = absurd (false≢true h)
 
 module _ (weights : ℕ → ℕ) (flags : List ℕ) (part : ℕ → ℕ → ℤ) (fills off : List ℕ) (low : ℕ) (g : Settings) (c : ℕ) (f : List ℤ)
-    (e : f ≡ tab 19 (streamed (sight weights flags part [] fills off low noSettings) c)) where
+    (e : f ≡ tab 19 (streamed (sight weights flags part [] fills off low g) c)) where
   abbrev S : Scene
   S = sight weights flags part [] fills off low g
 
-  -- stage 1 turns on no setting
-  unset : (k : ℕ) → streamed (sight weights flags part [] fills off low noSettings) c k ≡ streamed S c k
-  unfolding streamed arrives seen normal leansTo rebuilt rebuild oldDensity oldMomentum sight
-  unset zero = refl
-  unset (suc a) = refl
-
   pub part-is : (k : ℕ) → k ≤ 18 → partsOf f k ≡ streamed S c k
-  part-is k h = ap (λ (x : List ℤ). getD x k (pos 0)) e ∙ getD-tab 19 _ (pos 0) k (omega arith) ∙ unset k
+  part-is k h = ap (λ (x : List ℤ). getD x k (pos 0)) e ∙ getD-tab 19 _ (pos 0) k (omega arith)
 
   pub density-is : density d3q19 (partsOf f) ≡ newDensity S c
   unfolding newDensity sight d3q19 density

@@ -16,7 +16,7 @@ use Rattle.grid.specs.State.{Scene, byFlag, liquid}
 use Rattle.grid.specs.Step.{newDensity, tradedMass, tooFast, collided}
 use Rattle.grid.specs.Between.{movedPart, movedMass, firstMark}
 use Rattle.grid.specs.Mode.{sceneBy}
-use Rattle.grid.specs.Sight.{weighing, noSettings, sight}
+use Rattle.grid.specs.Sight.{weighing, sight}
 use Rattle.flow.proofs.Plain.{axial19, new-density-same, too-fast-same, relax-same, collided-same, traded-mass-same}
 
 -- ---- by cases on the flag alone
@@ -54,7 +54,7 @@ module _ (weights : ℕ → ℕ) (G : Grid) (g : Settings) (flags : List ℕ) (p
   seen = sight weights flags part [] fills off low g
 
   abbrev trader : Scene
-  trader = sight weights flags part masses fills off low noSettings
+  trader = sight weights flags part masses fills off low g
 
   near : liquid (getD flags c 3) ≡ true → (i : ℕ) → i ≤ d3q19 .q → c - low + getD off i 0 ≡ G .near c i
   unfolding d3q19

@@ -1,7 +1,7 @@
 -- From tests 1 to 6 to what a pass asks, and from that to what a function of one cell asks. Assumes nothing.
 use mathlib.Core.Path.{_≡_, refl, sym, ap, _∙_, subst}
 use mathlib.Core.Bool.{Bool, true, false, _&&_, false≢true}
-use mathlib.Core.List.{List}
+use mathlib.Core.List.{List, []}
 use Prim.Native.Nat.{ℕ, zero, suc, _+_, _-_, _*_, _≤_, _<_}
 use native.Mathlib.Omega.{arith}
 use lib.IntN.{ℤ, pos, natAbs}
@@ -12,10 +12,10 @@ use Rattle.lattice.specs.declared.Settings.{Settings}
 use Rattle.lattice.proofs.Fills.{fill-most}
 use Rattle.grid.specs.declared.Sides.{Sides}
 use Rattle.grid.specs.Grid.{cellsOf, sidesGood, gridOf, box}
-use Rattle.grid.specs.State.{Lent, State, byFlag, liquid, stateOf}
+use Rattle.grid.specs.State.{Lent, lent, State, byFlag, liquid, stateOf}
 use Rattle.grid.specs.Step.{fillFor}
 use Rattle.grid.specs.Good.{dryGood, interfaceGood, fluidGood, fillGood, cellGood}
-use Rattle.grid.specs.Between.{Sized, Ready, Poised, uncarried}
+use Rattle.grid.specs.Between.{Sized, Ready, Poised}
 use Rattle.grid.specs.Passes.{Inner}
 use Rattle.grid.specs.Sight.{Body, Bodied}
 use Rattle.grid.proofs.Beside.{Offsets, place-is}
@@ -26,11 +26,11 @@ use Rattle.grid.proofs.Prepared.{ready-sound, ready-cell, cell-body, cell-mass,
 use Rattle.flow.specs.Trade.{Fills}
 
 -- no rule of a cell reads the carry
-alone : (a : Lent) (c : ℕ) → cellGood d3q19 (stateOf 18 a) c ≡ cellGood d3q19 (stateOf 18 (uncarried (a .flags) (a .parts) (a .masses) (a .fills))) c
+alone : (a : Lent) (c : ℕ) → cellGood d3q19 (stateOf 18 a) c ≡ cellGood d3q19 (stateOf 18 (lent (a .flags) (a .parts) (a .masses) (a .fills) [])) c
 unfolding stateOf cellGood dryGood interfaceGood fluidGood fillGood
 alone a c = refl
 
-pub poised : (s : Sides) (g : Settings) (a : Lent) → Ready s g a → Poised s g (uncarried (a .flags) (a .parts) (a .masses) (a .fills))
+pub poised : (s : Sides) (g : Settings) (a : Lent) → Ready s g a → Poised s g (lent (a .flags) (a .parts) (a .masses) (a .fills) [])
 unfolding stateOf gridOf box cellsOf d3q19
 poised s g a r = record {
   sides = r .sides;

@@ -1,6 +1,6 @@
 -- The trade of mass by cases of the neighbour's flag, its bounds, and the same as the stages' definitions over what a cell sees. Assumes nothing.
 use mathlib.Core.Path.{_≡_, refl, sym, ap, _∙_, subst}
-use mathlib.Core.Bool.{Bool, true, cond}
+use mathlib.Core.Bool.{Bool, true, false, cond}
 use mathlib.Core.List.{List}
 use Prim.Native.Nat.{ℕ, zero, suc, _+_, _-_, _*_, _%_, _<_, _≤_}
 use native.Mathlib.Nat.{le-trans, le-of-eq, mul-le-mul-right, div-le-of-le-mul}
@@ -15,11 +15,12 @@ use Rattle.whole.specs.Bounds.{abs-add, abs-sub, abs-mul, abs-quot}
 use Rattle.whole.specs.Machine.{Within}
 use Rattle.lattice.specs.Lattice.{d3q19, pairOpp}
 use Rattle.lattice.specs.Cell.{exchange, over, under}
+use Rattle.lattice.specs.declared.Settings.{Settings}
 use Rattle.lattice.proofs.Paired.{paired19}
 use Rattle.grid.specs.State.{Scene, byFlag, liquid}
 use Rattle.grid.specs.Step.{flagAt, traded, tradedMass, difference, newDensity}
 use Rattle.grid.specs.Between.{movedMass, firstMark}
-use Rattle.grid.specs.Sight.{Bodies, Around, sight, noSettings}
+use Rattle.grid.specs.Sight.{Bodies, Around, sight}
 use Rattle.grid.proofs.Lists.{getD-there}
 use Rattle.flow.specs.Trade.{Fills, Trading, apart, passed, markFor}
 
@@ -135,9 +136,9 @@ module _ (flags : List ℕ) (part : ℕ → ℕ → ℤ) (masses : List ℤ) (fi
   unfoldable pub gain : ℕ → ℤ
   gain i = passed flags part fills c ((c - low) + getD off i 0) i (pairOpp i)
 
-  pub gain-is : (weights : ℕ → ℕ) (i : ℕ) → gain i ≡ traded (sight weights flags part masses fills off low noSettings) c i
+  pub gain-is : (weights : ℕ → ℕ) (g : Settings) (i : ℕ) → gain i ≡ traded (sight weights flags part masses fills off low g) c i
   unfolding gain passed sight traded difference d3q19
-  gain-is weights i = refl
+  gain-is weights g i = refl
 
   -- the mass with what c gains from the first n directions
   unfoldable pub gained : ℕ → ℤ
@@ -147,9 +148,9 @@ module _ (flags : List ℕ) (part : ℕ → ℕ → ℤ) (masses : List ℤ) (fi
   unfolding gained
   gained-none = amassed-none (getD masses c (pos 0)) gain
 
-  pub gained-all : (weights : ℕ → ℕ) → gained 18 ≡ tradedMass (sight weights flags part masses fills off low noSettings) c
+  pub gained-all : (weights : ℕ → ℕ) (g : Settings) → gained 18 ≡ tradedMass (sight weights flags part masses fills off low g) c
   unfolding gained amassed gain passed sight traded tradedMass difference d3q19
-  gained-all weights = refl
+  gained-all weights g = refl
 
   -- as the loop takes them, two directions a turn
   pub first-is : (i : ℕ) → i % 2 ≡ 1 → passed flags part fills c ((c - low) + getD off i 0) i (i + 1) ≡ gain i
@@ -177,8 +178,12 @@ module _ (flags : List ℕ) (part : ℕ → ℕ → ℤ) (masses : List ℤ) (fi
     gained-within n h =
         amassed-within (getD masses c (pos 0)) gain (t .masses-good .low c (a .is-cell) f) n h (λ b k. gain-within (suc b) (omega arith) (omega arith))
 
-    pub mass-within : (weights : ℕ → ℕ) → Within (tradedMass (sight weights flags part masses fills off low noSettings) c) 44826624
-    mass-within weights = subst (λ (z : ℤ). Within z 44826624) (gained-all weights) (gained-within 18 (omega arith))
+    -- a mass that is the traded one under any settings, so under some
+    pub mass-within : (weights : ℕ → ℕ) (m : ℤ) → ((g : Settings) → m ≡ tradedMass (sight weights flags part masses fills off low g) c) → Within m 44826624
+    mass-within weights m e = subst (λ (z : ℤ). Within z 44826624) (gained-all weights some ∙ sym (e some)) (gained-within 18 (omega arith))
+      where
+        some : Settings
+        some = record { p = pos 0; gx = pos 0; gy = pos 0; gz = pos 0; turbulent = false }
 
 -- ---- after stages 1 to 4: with the density of a liquid cell, and 0 for any other, the code's mass and mark are those of the passes
 module _ (S : Scene) (c : ℕ) (ρ : ℤ) (e : ρ ≡ byFlag (flagAt S c) (pos 0) (newDensity S c) (newDensity S c) (pos 0)) where

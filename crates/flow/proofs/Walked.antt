@@ -30,7 +30,7 @@ use Rattle.lattice.specs.Body.{bodyGood}
 use Rattle.grid.specs.Between.{movedPart, movedMass, firstMark}
 use Rattle.grid.specs.Halfway.{Moved}
 use Rattle.grid.specs.Pasted.{pasted}
-use Rattle.grid.specs.Sight.{noSettings, sight}
+use Rattle.grid.specs.Sight.{sight}
 use Rattle.grid.proofs.Blocks.{Blocks, blocks-more, blocks-all}
 use Rattle.grid.proofs.Same.{body-same}
 use Rattle.flow.specs.declared.moving.Put.{Put}
@@ -44,7 +44,7 @@ module _ (weights : ℕ → ℕ) (flags : List ℕ) (part : ℕ → ℕ → ℤ)
   seen = sight weights flags part [] fills off low g
 
   abbrev pub trader : Scene
-  trader = sight weights flags part masses fills off low noSettings
+  trader = sight weights flags part masses fills off low g
 
   -- the density that is handed on, the mass and the mark of a cell
   unfoldable pub rhoOf : ℕ → ℤ

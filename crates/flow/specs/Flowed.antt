@@ -1,7 +1,7 @@
 -- Pass 1 over all cells: what it asks, and what it leaves. Assumes nothing.
 use mathlib.Core.Path.{_≡_}
 use mathlib.Core.Bool.{Bool, true}
-use mathlib.Core.List.{List}
+use mathlib.Core.List.{List, []}
 use Prim.Native.Nat.{ℕ, _*_, _≤_, _<_}
 use lib.IntN.{ℤ}
 use lib.ListN.{length, getD}
@@ -12,17 +12,18 @@ use Rattle.lattice.specs.Body.{bodyGood}
 use Rattle.lattice.specs.declared.Settings.{Settings}
 use Rattle.grid.specs.declared.Sides.{Sides}
 use Rattle.grid.specs.Grid.{cellsOf, gridOf}
-use Rattle.grid.specs.State.{Scene, liquid}
+use Rattle.grid.specs.State.{lent, Scene, liquid}
 use Rattle.grid.specs.Step.{flagAt, tooFast, collided}
 use Rattle.grid.specs.Outcome.{sceneOf}
-use Rattle.grid.specs.Between.{Poised, uncarried, movedPart, movedMass, firstMark}
+use Rattle.grid.specs.Between.{Poised, movedPart, movedMass, firstMark}
 use Rattle.grid.specs.Halfway.{Moved}
 use Rattle.flow.specs.declared.passing.Passed.{Passed}
 use Rattle.flow.specs.declared.passing.Passed.the-variants.{Stopped, Through}
 
--- a set that is poised, room of the right lengths, and pass 0's marks: a liquid cell that is marked is fluid, and all its neighbours are liquid
+-- a set that is poised, room of the right lengths, and pass 0's marks: a liquid cell that is marked is fluid, and all its neighbours are liquid. The pass is not
+-- lent the carry, which no stage before the last sum of stage 6 reads
 pub record Flowable (s : Sides) (g : Settings) (flags : List ℕ) (parts masses : List ℤ) (fills : List ℕ) (parts2 masses2 : List ℤ) (marks : List ℕ) : Type 0 where
-  pub poised : Poised s g (uncarried flags parts masses fills)
+  pub poised : Poised s g (lent flags parts masses fills [])
   pub parts-room : length parts2 ≡ 19 * cellsOf s
   pub masses-room : length masses2 ≡ cellsOf s
   pub marks-room : length marks ≡ cellsOf s
@@ -45,7 +46,7 @@ pub data Went (S : Scene) (n : ℕ) : Passed → List ℤ → List ℤ → List 
   through : {fair still : Bool} {parts masses : List ℤ} {marks : List ℕ} → Moved S n parts masses marks fair still → Went S n (Through fair still) parts masses marks
 
 pub record Flowed (s : Sides) (g : Settings) (flags : List ℕ) (parts masses : List ℤ) (fills : List ℕ) (r : Passed) (parts2 masses2 : List ℤ) (marks : List ℕ) : Type 0 where
-  pub went : Went (sceneOf s g (uncarried flags parts masses fills)) (cellsOf s) r parts2 masses2 marks
+  pub went : Went (sceneOf s g (lent flags parts masses fills [])) (cellsOf s) r parts2 masses2 marks
   pub parts-kept : length parts2 ≡ 19 * cellsOf s
   pub masses-kept : length masses2 ≡ cellsOf s
   pub marks-kept : length marks ≡ cellsOf s

@@ -24,7 +24,7 @@ ghost use Rattle.grid.specs.State.{liquid};
 ghost use Rattle.grid.specs.Step.{streamed};
 ghost use Rattle.grid.specs.Outcome.{settingsGood};
 ghost use Rattle.grid.specs.Pasted.{pasted};
-ghost use Rattle.grid.specs.Sight.{noSettings, boxSight};
+ghost use Rattle.grid.specs.Sight.{boxSight};
 ghost use Rattle.flow.specs.PutAt.{PutAt, Putting};
 
 // Whether a cell passed stage 3's test; if so, whether its new parts keep test 6's rules, and its density.
@@ -59,7 +59,7 @@ fn put_moved(
     surface: bool,
 ) -> Put
     requires { ⌜ Bounded f 1572864 1572864 × (settingsGood g ≡ true) × (19 * c + 19 ≤ length (now parts2)) × Keeps (natAbs (g .p)) keep ⌝ }
-    ensures { λ r. ⌜ ((flags : List ℕ) (parts : List ℤ) (fills off : List ℕ) (low : ℕ) → liquid (getD flags c 3) ≡ true → f ≡ tab 19 (streamed (boxSight flags parts [] fills off low noSettings) c) → PutAt (boxSight flags parts [] fills off low g) c (now (parts2 .entry)) (now (parts2 .exit)) r) ⌝ }
+    ensures { λ r. ⌜ ((flags : List ℕ) (parts : List ℤ) (fills off : List ℕ) (low : ℕ) → liquid (getD flags c 3) ≡ true → f ≡ tab 19 (streamed (boxSight flags parts [] fills off low g) c) → PutAt (boxSight flags parts [] fills off low g) c (now (parts2 .entry)) (now (parts2 .exit)) r) ⌝ }
 {
     let v = pulled(flow_of(f), g);
     if !steady(v) {

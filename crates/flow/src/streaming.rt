@@ -15,9 +15,10 @@ ghost use lib.IntN.{pos};
 ghost use lib.ListN.{length, getD};
 ghost use Rattle.whole.specs.Fold.{tab};
 ghost use Rattle.lattice.specs.Cell.{isPositive};
+ghost use Rattle.lattice.specs.declared.Settings.{Settings};
 ghost use Rattle.grid.specs.State.{liquid};
 ghost use Rattle.grid.specs.Step.{leansTo, arrives, streamed};
-ghost use Rattle.grid.specs.Sight.{noSettings, boxSight, Bodied, Around};
+ghost use Rattle.grid.specs.Sight.{boxSight, Bodied, Around};
 ghost use Rattle.flow.specs.Sources.{Mirrored, sourceOf, Immersed, leanAt, Beside};
 ghost use Rattle.flow.specs.Trade.{Fills};
 
@@ -73,7 +74,7 @@ fn arriving(
     lean: i32,
 ) -> i32
     requires { ⌜ Beside (now flags) (now parts) c b i k v d ⌝ }
-    ensures { λ r. ⌜ ((fills off : List ℕ) (low : ℕ) → b ≡ (c - low) + getD off i 0 → isPositive lean ≡ leansTo (boxSight (now (flags .entry)) (now (parts .entry)) [] fills off low noSettings) c i → r ≡ arrives (boxSight (now (flags .entry)) (now (parts .entry)) [] fills off low noSettings) c i k) ⌝ }
+    ensures { λ r. ⌜ ((fills off : List ℕ) (low : ℕ) (g : Settings) → b ≡ (c - low) + getD off i 0 → isPositive lean ≡ leansTo (boxSight (now (flags .entry)) (now (parts .entry)) [] fills off low g) c i → r ≡ arrives (boxSight (now (flags .entry)) (now (parts .entry)) [] fills off low g) c i k) ⌝ }
 {
     let f = flags[b];
     if f > 2 {
@@ -95,7 +96,7 @@ pub fn streamed(
     c: usize,
 ) -> [i32; 19]
     requires { ⌜ Bodied (now flags) (now parts) × Fills (now flags) (now fill) × Around (length (now flags)) (now off) low c × (liquid (getD (now flags) c 3) ≡ true) ⌝ }
-    ensures { λ r. ⌜ r ≡ tab 19 (streamed (boxSight (now (flags .entry)) (now (parts .entry)) [] (now (fill .entry)) (now (off .entry)) low noSettings) c) ⌝ }
+    ensures { λ r. ⌜ ((g : Settings) → r ≡ tab 19 (streamed (boxSight (now (flags .entry)) (now (parts .entry)) [] (now (fill .entry)) (now (off .entry)) low g) c)) ⌝ }
 {
     let k = c - low;
     let v = flow_of(own(parts, c));
@@ -134,7 +135,7 @@ pub(crate) fn chosen(
     c: usize,
 ) -> [i32; 19]
     requires { ⌜ Bodied (now flags) (now parts) × Fills (now flags) (now fill) × Around (length (now flags)) (now off) low c × (liquid (getD (now flags) c 3) ≡ true) × Mirrored (now off) low × (now from ≡ tab 19 (sourceOf (now off))) × (mark ≡ 1 → Immersed (now flags) (now off) low c) ⌝ }
-    ensures { λ r. ⌜ r ≡ tab 19 (streamed (boxSight (now (flags .entry)) (now (parts .entry)) [] (now (fill .entry)) (now (off .entry)) low noSettings) c) ⌝ }
+    ensures { λ r. ⌜ ((g : Settings) → r ≡ tab 19 (streamed (boxSight (now (flags .entry)) (now (parts .entry)) [] (now (fill .entry)) (now (off .entry)) low g) c)) ⌝ }
 {
     if mark == 1 {
         return streamed_open(parts, from, 19 * (c - low));

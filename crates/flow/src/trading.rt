@@ -4,9 +4,10 @@ ghost use mathlib.Core.Path.{_≡_};
 ghost use Prim.Native.Nat.{_+_, _<_};
 ghost use lib.IntN.{pos, _-ℤ_};
 ghost use lib.ListN.{length, getD};
+ghost use Rattle.lattice.specs.declared.Settings.{Settings};
 ghost use Rattle.grid.specs.State.{byFlag};
 ghost use Rattle.grid.specs.Fill.{partOf};
-ghost use Rattle.grid.specs.Sight.{Bodied, Around, boxSight, noSettings};
+ghost use Rattle.grid.specs.Sight.{Bodied, Around, boxSight};
 ghost use Rattle.grid.specs.Step.{tradedMass};
 ghost use Rattle.flow.specs.Trade.{Fills, Traders, passed, markFor};
 
@@ -50,7 +51,7 @@ fn traded_mass(
     c: usize,
 ) -> i64
     requires { ⌜ Traders (now flags) (now parts) (now mass) (now fill) × Around (length (now flags)) (now off) low c × (getD (now flags) c 3 ≡ 1) ⌝ }
-    ensures { λ r. ⌜ r ≡ tradedMass (boxSight (now (flags .entry)) (now (parts .entry)) (now (mass .entry)) (now (fill .entry)) (now (off .entry)) low noSettings) c ⌝ }
+    ensures { λ r. ⌜ ((g : Settings) → r ≡ tradedMass (boxSight (now (flags .entry)) (now (parts .entry)) (now (mass .entry)) (now (fill .entry)) (now (off .entry)) low g) c) ⌝ }
 {
     let k = c - low;
     let mut m = wide(mass[c]);
@@ -75,7 +76,7 @@ pub(crate) fn new_mass(
     rho: i32,
 ) -> i32
     requires { ⌜ Traders (now flags) (now parts) (now mass) (now fill) × (c < length (now flags)) × (getD (now flags) c 3 ≡ 1 → Around (length (now flags)) (now off) low c) ⌝ }
-    ensures { λ r. ⌜ r ≡ byFlag (getD (now (flags .entry)) c 3) rho (tradedMass (boxSight (now (flags .entry)) (now (parts .entry)) (now (mass .entry)) (now (fill .entry)) (now (off .entry)) low noSettings) c) rho rho ⌝ }
+    ensures { λ r. ⌜ ((g : Settings) → r ≡ byFlag (getD (now (flags .entry)) c 3) rho (tradedMass (boxSight (now (flags .entry)) (now (parts .entry)) (now (mass .entry)) (now (fill .entry)) (now (off .entry)) low g) c) rho rho) ⌝ }
 {
     if flags[c] == 1 {
         return traded_mass(flags, parts, mass, fill, off, low, c) as i32;

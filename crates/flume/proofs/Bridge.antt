@@ -20,7 +20,7 @@ use Rattle.lattice.proofs.Paired.{Paired, paired19, paired9}
 use Rattle.grid.specs.declared.Answer.{Answer}
 use Rattle.grid.specs.declared.Answer.the-variants.{Done}
 use Rattle.grid.specs.Grid.{Grid, cellAt, toward}
-use Rattle.grid.specs.State.{State, Scene, byFlag, liquid, lentOf}
+use Rattle.grid.specs.State.{lent, State, Scene, byFlag, liquid, lentOf}
 use Rattle.grid.specs.Step.{newDensity, newMomentum, tooFast, newFlag, newPart, newMass, newFill, newCarry, fillFor, next}
 use Rattle.grid.specs.Good.{flagGood, badFlag, openFluid, badFluid, dryGood, interfaceGood, fluidGood, fillGood, cellGood, badRule}
 use Rattle.grid.specs.Outcome.{orRefuse, ifNone, goodAnswer, moveAnswer}
@@ -194,21 +194,13 @@ module _ (S : Scene) where
 
   -- the next state as a set of nine parts a cell, read from the nineteen places
   pub next-lent : Outside → S .grid .cells ≤ first (S .grid .cells) (tooFast P) → (n : ℕ)
-      → lentOf 8 n (next P) ≡ record {
-        flags = tab n (newFlag T);
-        parts = tab (9 * n) (λ m. newPart T (m / 9) (wide (m % 9)));
-        masses = tab n (newMass T);
-        fills = tab n (newFill T);
-        carry = newCarry T ∷ [];
-      }
+      → lentOf 8 n (next P) ≡ lent (tab n (newFlag T)) (tab (9 * n) (λ m. newPart T (m / 9) (wide (m % 9)))) (tab n (newMass T)) (tab n (newFill T)) (newCarry T ∷ [])
   unfolding lentOf next
   next-lent o e n j =
       let z = next-spreads S (steady o e) in
-      record {
-        flags = tab-cong n (newFlag P) (newFlag T) 0 (λ c k. sym (z .flags c)) j;
-        parts = tab-cong (9 * n) (λ m. newPart P (m / 9) (m % 9)) (λ m. newPart T (m / 9) (wide (m % 9))) (pos 0)
-            (λ m k. sym (z .parts (m / 9) .at (m % 9) (le-of-suc-le-suc (mod-lt m (omega arith))))) j;
-        masses = tab-cong n (newMass P) (newMass T) (pos 0) (λ c k. sym (z .masses c)) j;
-        fills = tab-cong n (newFill P) (newFill T) 0 (λ c k. sym (z .fills c)) j;
-        carry = sym (z .carries) j ∷ [];
-      }
+      lent (tab-cong n (newFlag P) (newFlag T) 0 (λ c k. sym (z .flags c)) j)
+      (tab-cong (9 * n) (λ m. newPart P (m / 9) (m % 9)) (λ m. newPart T (m / 9) (wide (m % 9))) (pos 0)
+      (λ m k. sym (z .parts (m / 9) .at (m % 9) (le-of-suc-le-suc (mod-lt m (omega arith))))) j)
+      (tab-cong n (newMass P) (newMass T) (pos 0) (λ c k. sym (z .masses c)) j)
+      (tab-cong n (newFill P) (newFill T) 0 (λ c k. sym (z .fills c)) j)
+      (sym (z .carries) j ∷ [])

@@ -7,7 +7,7 @@ use Rattle.whole.specs.Fold.{tab, first}
 use Rattle.lattice.specs.Lattice.{d2q9}
 use Rattle.grid.specs.declared.Answer.{Answer}
 use Rattle.grid.specs.Grid.{flume}
-use Rattle.grid.specs.State.{Lent, Scene, stateOf}
+use Rattle.grid.specs.State.{Lent, lent, Scene, stateOf}
 use Rattle.grid.specs.Step.{tooFast, newFlag, newPart, newMass, newFill, newCarry}
 use Rattle.grid.specs.Outcome.{goodAnswer, moveAnswer}
 use Rattle.flume.specs.declared.FlumeSides.{FlumeSides}
@@ -42,12 +42,7 @@ module _ (s : FlumeSides) (g : FlumeSettings) (a : Lent) where
       unfolding flumeScene flumeGrid flumeCells flume
       slow-enough = subst (λ (n : ℕ). flumeCells s ≤ n) (fast-same (flumeScene s g a)) e
 
-      pub flume-next : flumeNext s g a ≡ record {
-        flags = tab (flumeCells s) (newFlag T);
-        parts = tab (9 * flumeCells s) (λ m. newPart T (m / 9) (wide (m % 9)));
-        masses = tab (flumeCells s) (newMass T);
-        fills = tab (flumeCells s) (newFill T);
-        carry = newCarry T ∷ [];
-      }
+      pub flume-next : flumeNext s g a
+          ≡ lent (tab (flumeCells s) (newFlag T)) (tab (9 * flumeCells s) (λ m. newPart T (m / 9) (wide (m % 9)))) (tab (flumeCells s) (newMass T)) (tab (flumeCells s) (newFill T)) (newCarry T ∷ [])
       unfolding flumeScene flumeNext
       flume-next = next-lent (flumeScene s g a) outside slow-enough (flumeCells s)

@@ -6,7 +6,7 @@ use mathlib.Core.List.{List, [], _∷_, _++_}
 use lib.IntN.{ℤ, pos, negsuc}
 use lib.ListN.{replicate, set}
 use lib.Seq.{sets}
-use Rattle.grid.specs.State.{Lent}
+use Rattle.grid.specs.State.{Lent, lent}
 use Rattle.flume.specs.declared.FlumeSides.{FlumeSides}
 use Rattle.flume.specs.declared.FlumeSettings.{FlumeSettings}
 
@@ -37,13 +37,7 @@ fallen = pos 262141 ∷ pos 65536 ∷ pos 65536 ∷ pos 65345 ∷ pos 65728 ∷ 
 
 -- the centre with these parts, mass 294,912 and fill 32,768
 abbrev pub single : List ℤ → Lent
-single ps = record {
-  flags = set (replicate 9 3) 4 1;
-  parts = sets (replicate 81 (pos 0)) 36 ps;
-  masses = set (replicate 9 (pos 0)) 4 (pos 294912);
-  fills = set (replicate 9 0) 4 32768;
-  carry = pos 0 ∷ [];
-}
+single ps = lent (set (replicate 9 3) 4 1) (sets (replicate 81 (pos 0)) 36 ps) (set (replicate 9 (pos 0)) 4 (pos 294912)) (set (replicate 9 0) 4 32768) (pos 0 ∷ [])
 
 abbrev pub caseF : Lent
 caseF = single rest
@@ -61,18 +55,17 @@ marks = replicate 9 7
 
 -- case F with another flag at its centre
 abbrev pub flagged : ℕ → Lent
-flagged f = record { flags = set (replicate 9 3) 4 f; parts = caseF .parts; masses = caseF .masses; fills = caseF .fills; carry = caseF .carry }
+flagged f = lent (set (replicate 9 3) 4 f) (caseF .parts) (caseF .masses) (caseF .fills) (caseF .carry)
 
 -- no slices at all
 abbrev pub nothing : Lent
-nothing = record { flags = []; parts = []; masses = []; fills = []; carry = [] }
+nothing = lent [] [] [] [] []
 
 -- 4×4: cells 5, 6, 9, 10 interface at rest
 abbrev pub pool : Lent
-pool = record {
-  flags = sets (replicate 16 3) 5 (1 ∷ 1 ∷ 3 ∷ 3 ∷ 1 ∷ 1 ∷ []);
-  parts = sets (replicate 144 (pos 0)) 45 (rest ++ rest ++ replicate 18 (pos 0) ++ rest ++ rest);
-  masses = sets (replicate 16 (pos 0)) 5 (pos 591424 ∷ pos 147456 ∷ pos 0 ∷ pos 0 ∷ pos 442368 ∷ pos 294912 ∷ []);
-  fills = sets (replicate 16 0) 5 (65536 ∷ 16384 ∷ 0 ∷ 0 ∷ 49152 ∷ 32768 ∷ []);
-  carry = pos 0 ∷ [];
-}
+pool =
+    lent (sets (replicate 16 3) 5 (1 ∷ 1 ∷ 3 ∷ 3 ∷ 1 ∷ 1 ∷ []))
+    (sets (replicate 144 (pos 0)) 45 (rest ++ rest ++ replicate 18 (pos 0) ++ rest ++ rest))
+    (sets (replicate 16 (pos 0)) 5 (pos 591424 ∷ pos 147456 ∷ pos 0 ∷ pos 0 ∷ pos 442368 ∷ pos 294912 ∷ []))
+    (sets (replicate 16 0) 5 (65536 ∷ 16384 ∷ 0 ∷ 0 ∷ 49152 ∷ 32768 ∷ []))
+    (pos 0 ∷ [])

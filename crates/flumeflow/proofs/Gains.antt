@@ -9,8 +9,9 @@ use lib.IntN.{ℤ, pos, _+ℤ_}
 use lib.ListN.{length, getD}
 use Rattle.whole.specs.Machine.{Within}
 use Rattle.lattice.specs.Lattice.{pairOpp, d3q19}
+use Rattle.lattice.specs.declared.Settings.{Settings}
 use Rattle.grid.specs.Step.{traded, tradedMass}
-use Rattle.grid.specs.Sight.{sight, noSettings, Around}
+use Rattle.grid.specs.Sight.{sight, Around}
 use Rattle.flow.specs.Trade.{Trading, passed}
 use Rattle.flow.proofs.Arrivals.{odd-opposite, even-opposite}
 use Rattle.flow.proofs.Trades.{amassed, amassed-within, gain, gain-is}
@@ -40,11 +41,11 @@ module _ (flags : List ℕ) (parts masses : List ℤ) (fills off : List ℕ) (lo
   second-is k p =
       ap₂ (λ (i m : ℕ). passed flags (partOf9 parts) fills c ((c - low) + getD off i 0) (wide (k + 1)) m) (sym (p .next)) (sym (even-opposite (wide k) (p .odd)) ∙ ap pairOpp (sym (p .next)))
 
-  pub gained-all : gained9 8 ≡ tradedMass (sight9 flags parts masses fills off low noSettings) c
+  pub gained-all : (g : Settings) → gained9 8 ≡ tradedMass (sight9 flags parts masses fills off low g) c
   unfolding gained9 amassed gain9 gain passed tradedMass sight d3q19
-  gained-all =
+  gained-all g =
       ap (λ (z : ℤ). getD masses c (pos 0) +ℤ z)
-      (sym (dirs-same (traded (sight9 flags parts masses fills off low noSettings) c) gain9 (λ k d. sym (gain-is flags (partOf9 parts) masses fills off low c (spreadLattice .weight) (wide k)))
+      (sym (dirs-same (traded (sight9 flags parts masses fills off low g) c) gain9 (λ k d. sym (gain-is flags (partOf9 parts) masses fills off low c (spreadLattice .weight) g (wide k)))
       (λ i n. traded-none _ _ _ _ (part-none parts) c i n)))
 
   -- ---- the bounds of an interface cell
@@ -60,5 +61,5 @@ module _ (flags : List ℕ) (parts masses : List ℤ) (fills off : List ℕ) (lo
     gained-within n h =
         amassed-within (getD masses c (pos 0)) gain9 (t .masses-good .low c (a .is-cell) f) n (omega arith) (λ b k. gain-within (suc b) (omega arith) (omega arith))
 
-    pub mass-within : Within (tradedMass (sight9 flags parts masses fills off low noSettings) c) 44826624
+    pub mass-within : (m : ℤ) → ((g : Settings) → m ≡ tradedMass (sight9 flags parts masses fills off low g) c) → Within m 44826624
     mass-within = trades.mass-within flags (partOf9 parts) masses fills off low c t a f (spreadLattice .weight)

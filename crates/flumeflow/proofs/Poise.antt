@@ -1,7 +1,7 @@
 -- From what pass 1 asks of a flume's set to what a function of one cell asks, and from the step's grid to offsets. Assumes nothing.
 use mathlib.Core.Path.{_≡_, refl, sym, ap, ap₂, _∙_, subst}
 use mathlib.Core.Bool.{true, false, false≢true}
-use mathlib.Core.List.{List}
+use mathlib.Core.List.{List, []}
 use Prim.Native.Nat.{ℕ, _+_, _-_, _*_, _≤_, _<_}
 use native.Mathlib.Omega.{arith}
 use lib.IntN.{ℤ, pos}
@@ -11,11 +11,11 @@ use Rattle.whole.specs.Search.{Dir}
 use Rattle.lattice.specs.Lattice.{pairOpp, d3q19, density, momentum}
 use Rattle.lattice.specs.Body.{bodyGood}
 use Rattle.lattice.specs.declared.Settings.{Settings}
-use Rattle.grid.specs.State.{State, liquid, stateOf}
+use Rattle.grid.specs.State.{Lent, lent, State, liquid, stateOf}
 use Rattle.grid.specs.Good.{dryGood, interfaceGood, fluidGood, fillGood, cellGood}
-use Rattle.grid.specs.Between.{uncarried}
 use Rattle.grid.specs.Grid.{flume}
 use Rattle.grid.specs.Outcome.{settingsGood}
+use Rattle.grid.specs.Ground.{sceneOn}
 use Rattle.grid.specs.Passes.{Amid}
 use Rattle.grid.specs.Sight.{Around}
 use Rattle.grid.proofs.Laid.{inner}
@@ -24,9 +24,8 @@ use Rattle.flow.specs.Sources.{Mirrored, Immersed}
 use Rattle.flow.proofs.Poise.{fill-cases}
 use Rattle.flume.specs.declared.FlumeSides.{FlumeSides}
 use Rattle.flume.specs.declared.FlumeSettings.{FlumeSettings}
-use Rattle.flume.specs.Flume.{flumeCells, flumeGrid, levelSettings}
+use Rattle.flume.specs.Flume.{flumeCells, flumeGrid, flumeGround}
 use Rattle.flume.specs.Offsets.{flumeLow, flumeOffset}
-use Rattle.flume.specs.Outcome.{flumeScene}
 use Rattle.flume.specs.Spread.{spreadLattice, spreadGrid, spreadScene, SpreadOf}
 use Rattle.flume.proofs.Bridge.{cell-good-same}
 use Rattle.flume.proofs.Places.{at-places, spread-at, spread-none}
@@ -41,15 +40,14 @@ use Rattle.flumeflow.proofs.Nines.{part-at, part-none}
 use Rattle.flumeflow.proofs.Spread.{scene-spread}
 
 -- the box's settings with gy = 0
-pub settings-good : (s : FlumeSides) (g : Settings) {flags : List ℕ} {parts masses : List ℤ} {fills : List ℕ} → FlumePoised s (alongSettings g) (uncarried flags parts masses fills) → g .gy ≡ pos 0
+pub settings-good : (s : FlumeSides) (g : Settings) {flags : List ℕ} {parts masses : List ℤ} {fills : List ℕ} → FlumePoised s (alongSettings g) (lent flags parts masses fills []) → g .gy ≡ pos 0
     → settingsGood g ≡ true
 settings-good s g r e = ap (λ (y : ℤ). settingsGood (record { p = g .p; gx = g .gx; gy = y; gz = g .gz; turbulent = g .turbulent })) e ∙ r .settings
 
--- the scene of pass 1 is the flume's own, spread
-pub wide-scene : (s : FlumeSides) (h : FlumeSettings) (flags : List ℕ) (parts masses : List ℤ) (fills : List ℕ)
-    → wideScene s (levelSettings h) flags parts masses fills ≡ spreadScene (flumeScene s h (uncarried flags parts masses fills))
-unfolding flumeScene stateOf partOf9
-wide-scene s h flags parts masses fills = scene-spread s (levelSettings h) (uncarried flags parts masses fills)
+-- the scene of the passes is the flume's own, spread
+pub wide-scene : (s : FlumeSides) (g : Settings) (a : Lent) → wideScene s g a ≡ spreadScene (sceneOn (flumeGround s) g a)
+unfolding stateOf partOf9
+wide-scene s g a = scene-spread s g a
 
 -- no rule of a cell reads a weight
 unweighed : (t : State) (c : ℕ) → cellGood d3q19 t c ≡ cellGood spreadLattice t c
@@ -57,12 +55,12 @@ unfolding cellGood dryGood interfaceGood fluidGood fillGood bodyGood density mom
 unweighed t c = refl
 
 -- ---- one cell of a set that is poised
-module _ (s : FlumeSides) (h : FlumeSettings) (flags : List ℕ) (parts masses : List ℤ) (fills : List ℕ) (r : FlumePoised s h (uncarried flags parts masses fills)) where
+module _ (s : FlumeSides) (h : FlumeSettings) (flags : List ℕ) (parts masses : List ℤ) (fills : List ℕ) (r : FlumePoised s h (lent flags parts masses fills [])) where
   -- its state among the nineteen places
   abbrev wideState : State
   wideState = record { flag = λ c. getD flags c 3; part = partOf9 parts; mass = λ c. getD masses c (pos 0); fill = λ c. getD fills c 0; carry = pos 0 }
 
-  spread-it : SpreadOf (stateOf 8 (uncarried flags parts masses fills)) wideState
+  spread-it : SpreadOf (stateOf 8 (lent flags parts masses fills [])) wideState
   unfolding stateOf
   spread-it = record {
     flags = λ c. refl;
@@ -73,7 +71,7 @@ module _ (s : FlumeSides) (h : FlumeSettings) (flags : List ℕ) (parts masses :
   }
 
   good : (c : ℕ) → c < flumeCells s → cellGood d3q19 wideState c ≡ true
-  good c l = unweighed wideState c ∙ cell-good-same (stateOf 8 (uncarried flags parts masses fills)) wideState spread-it c ∙ r .cells c l
+  good c l = unweighed wideState c ∙ cell-good-same (stateOf 8 (lent flags parts masses fills [])) wideState spread-it c ∙ r .cells c l
 
   is-cell : {c : ℕ} → c < length flags → c < flumeCells s
   is-cell {c} l = subst (λ (n : ℕ). c < n) (r .flags) l
@@ -100,7 +98,7 @@ module _ (s : FlumeSides) (h : FlumeSettings) (flags : List ℕ) (parts masses :
   -- a liquid cell is inner
   pub liquid-inner : (c : ℕ) → c < flumeCells s → liquid (getD flags c 3) ≡ true → Amid (flumeCells s) (flumeLow s) c
   unfolding stateOf flumeGrid flume flumeCells
-  liquid-inner c l w = inner-of s (r .sides) c l (inner (flumeGrid s) (stateOf 8 (uncarried flags parts masses fills) .flag) (r .walled) c l (λ e. false≢true (sym (ap liquid e) ∙ w)))
+  liquid-inner c l w = inner-of s (r .sides) c l (inner (flumeGrid s) (stateOf 8 (lent flags parts masses fills []) .flag) (r .walled) c l (λ e. false≢true (sym (ap liquid e) ∙ w)))
 
 -- ---- the offsets that the code lists
 module _ (s : FlumeSides) (off : List ℕ) (low : ℕ) (t : off ≡ tab 19 (flumeOffset s)) (o : low ≡ flumeLow s) where

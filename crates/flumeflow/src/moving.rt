@@ -27,7 +27,6 @@ ghost use Rattle.turbulence.specs.Post.{Keeps};
 ghost use Rattle.grid.specs.State.{liquid};
 ghost use Rattle.grid.specs.Step.{streamed};
 ghost use Rattle.grid.specs.Outcome.{settingsGood};
-ghost use Rattle.grid.specs.Sight.{noSettings};
 ghost use Rattle.nine.specs.Cells.{Quiet, pasted9};
 ghost use Rattle.flumeflow.specs.Seen.{sight9};
 ghost use Rattle.flumeflow.specs.PutAt.{PutAt9, Putting9, atDensity};
@@ -63,7 +62,7 @@ fn put_moved9(
     surface: bool,
 ) -> Put
     requires { ⌜ Bounded f 1572864 1441792 × Quiet f × (settingsGood g ≡ true) × (9 * c + 9 ≤ length (now parts2)) × Keeps (natAbs (g .p)) keep ⌝ }
-    ensures { λ r. ⌜ ((flags : List ℕ) (parts : List ℤ) (fills off : List ℕ) (low : ℕ) → liquid (getD flags c 3) ≡ true → f ≡ tab 19 (streamed (sight9 flags parts [] fills off low noSettings) c) → PutAt9 (sight9 flags parts [] fills off low g) c (now (parts2 .entry)) (now (parts2 .exit)) r) ⌝ }
+    ensures { λ r. ⌜ ((flags : List ℕ) (parts : List ℤ) (fills off : List ℕ) (low : ℕ) → liquid (getD flags c 3) ≡ true → f ≡ tab 19 (streamed (sight9 flags parts [] fills off low g) c) → PutAt9 (sight9 flags parts [] fills off low g) c (now (parts2 .entry)) (now (parts2 .exit)) r) ⌝ }
 {
     let v = pulled(flow_of(f), g);
     if !steady(v) {

@@ -16,9 +16,10 @@ ghost use lib.IntN.{pos};
 ghost use lib.ListN.{length, getD};
 ghost use Rattle.whole.specs.Fold.{tab};
 ghost use Rattle.lattice.specs.Cell.{isPositive};
+ghost use Rattle.lattice.specs.declared.Settings.{Settings};
 ghost use Rattle.grid.specs.State.{liquid};
 ghost use Rattle.grid.specs.Step.{leansTo, arrives, streamed};
-ghost use Rattle.grid.specs.Sight.{noSettings, Around};
+ghost use Rattle.grid.specs.Sight.{Around};
 ghost use Rattle.flow.specs.Sources.{Mirrored, Immersed};
 ghost use Rattle.flow.specs.Trade.{Fills};
 ghost use Rattle.flume.specs.Spread.{wide, spread};
@@ -67,7 +68,7 @@ fn arriving9(
     lean: i32,
 ) -> i32
     requires { ⌜ Beside9 (now flags) (now parts) c b i k m v d ⌝ }
-    ensures { λ r. ⌜ ((fills off : List ℕ) (low : ℕ) → b ≡ (c - low) + getD off i 0 → isPositive lean ≡ leansTo (sight9 (now (flags .entry)) (now (parts .entry)) [] fills off low noSettings) c i → r ≡ arrives (sight9 (now (flags .entry)) (now (parts .entry)) [] fills off low noSettings) c i (wide m)) ⌝ }
+    ensures { λ r. ⌜ ((fills off : List ℕ) (low : ℕ) (g : Settings) → b ≡ (c - low) + getD off i 0 → isPositive lean ≡ leansTo (sight9 (now (flags .entry)) (now (parts .entry)) [] fills off low g) c i → r ≡ arrives (sight9 (now (flags .entry)) (now (parts .entry)) [] fills off low g) c i (wide m)) ⌝ }
 {
     let f = flags[b];
     if f > 2 {
@@ -89,7 +90,7 @@ pub fn streamed9(
     c: usize,
 ) -> [i32; 19]
     requires { ⌜ Bodied9 (now flags) (now parts) × Fills (now flags) (now fill) × Around (length (now flags)) (now off) low c × (liquid (getD (now flags) c 3) ≡ true) ⌝ }
-    ensures { λ r. ⌜ r ≡ tab 19 (streamed (sight9 (now (flags .entry)) (now (parts .entry)) [] (now (fill .entry)) (now (off .entry)) low noSettings) c) ⌝ }
+    ensures { λ r. ⌜ ((g : Settings) → r ≡ tab 19 (streamed (sight9 (now (flags .entry)) (now (parts .entry)) [] (now (fill .entry)) (now (off .entry)) low g) c)) ⌝ }
 {
     let b = c - low;
     let v = flow_of(own9(parts, c));
@@ -130,7 +131,7 @@ pub(crate) fn chosen9(
     c: usize,
 ) -> [i32; 19]
     requires { ⌜ Bodied9 (now flags) (now parts) × Fills (now flags) (now fill) × Around (length (now flags)) (now off) low c × (liquid (getD (now flags) c 3) ≡ true) × Mirrored (now off) low × (now from ≡ tab 9 (sourceOf9 (now off))) × (mark ≡ 1 → Immersed (now flags) (now off) low c) ⌝ }
-    ensures { λ r. ⌜ r ≡ tab 19 (streamed (sight9 (now (flags .entry)) (now (parts .entry)) [] (now (fill .entry)) (now (off .entry)) low noSettings) c) ⌝ }
+    ensures { λ r. ⌜ ((g : Settings) → r ≡ tab 19 (streamed (sight9 (now (flags .entry)) (now (parts .entry)) [] (now (fill .entry)) (now (off .entry)) low g) c)) ⌝ }
 {
     if mark == 1 {
         return streamed_open9(parts, from, 9 * (c - low));

@@ -7,8 +7,9 @@ use whole::wide;
 ghost use mathlib.Core.Path.{_≡_};
 ghost use Prim.Native.Nat.{_<_};
 ghost use lib.ListN.{length, getD};
+ghost use Rattle.lattice.specs.declared.Settings.{Settings};
 ghost use Rattle.grid.specs.State.{byFlag};
-ghost use Rattle.grid.specs.Sight.{Around, noSettings};
+ghost use Rattle.grid.specs.Sight.{Around};
 ghost use Rattle.grid.specs.Step.{tradedMass};
 ghost use Rattle.flow.specs.Trade.{Fills, passed};
 ghost use Rattle.flume.specs.Spread.{wide};
@@ -42,7 +43,7 @@ fn traded_mass9(
     c: usize,
 ) -> i64
     requires { ⌜ Traders9 (now flags) (now parts) (now mass) (now fill) × Around (length (now flags)) (now off) low c × (getD (now flags) c 3 ≡ 1) ⌝ }
-    ensures { λ r. ⌜ r ≡ tradedMass (sight9 (now (flags .entry)) (now (parts .entry)) (now (mass .entry)) (now (fill .entry)) (now (off .entry)) low noSettings) c ⌝ }
+    ensures { λ r. ⌜ ((g : Settings) → r ≡ tradedMass (sight9 (now (flags .entry)) (now (parts .entry)) (now (mass .entry)) (now (fill .entry)) (now (off .entry)) low g) c) ⌝ }
 {
     let b = c - low;
     let mut m = wide(mass[c]);
@@ -68,7 +69,7 @@ pub(crate) fn new_mass9(
     rho: i32,
 ) -> i32
     requires { ⌜ Traders9 (now flags) (now parts) (now mass) (now fill) × (c < length (now flags)) × (getD (now flags) c 3 ≡ 1 → Around (length (now flags)) (now off) low c) ⌝ }
-    ensures { λ r. ⌜ r ≡ byFlag (getD (now (flags .entry)) c 3) rho (tradedMass (sight9 (now (flags .entry)) (now (parts .entry)) (now (mass .entry)) (now (fill .entry)) (now (off .entry)) low noSettings) c) rho rho ⌝ }
+    ensures { λ r. ⌜ ((g : Settings) → r ≡ byFlag (getD (now (flags .entry)) c 3) rho (tradedMass (sight9 (now (flags .entry)) (now (parts .entry)) (now (mass .entry)) (now (fill .entry)) (now (off .entry)) low g) c) rho rho) ⌝ }
 {
     if flags[c] == 1 {
         return traded_mass9(flags, parts, mass, fill, off, low, c) as i32;

@@ -14,7 +14,7 @@ use Rattle.lattice.specs.Lattice.{Lattice, d2q9}
 use Rattle.grid.specs.declared.Answer.{Answer}
 use Rattle.grid.specs.declared.Answer.the-variants.{Done, Refused}
 use Rattle.grid.specs.Grid.{Grid}
-use Rattle.grid.specs.State.{Lent, State, stateOf}
+use Rattle.grid.specs.State.{Lent, lent, State, stateOf}
 use Rattle.grid.specs.Good.{badFlag, badFluid, badRule, cellGood, dryGood, interfaceGood, fluidGood, fillGood}
 use Rattle.grid.specs.Outcome.{ifNone, goodAnswer}
 use Rattle.grid.proofs.Accepted.{skip}
@@ -68,14 +68,14 @@ module _ (L : Lattice) (G : Grid) (t : State) where
 
 -- test 6 looks at the carry's one number
 same : (n : ℕ) (a : Lent)
-    → badRule d2q9 n (stateOf 8 (record { flags = a .flags; parts = a .parts; masses = a .masses; fills = a .fills; carry = getD (a .carry) 0 (pos 0) ∷ [] })) ≡ badRule d2q9 n (stateOf 8 a)
+    → badRule d2q9 n (stateOf 8 (lent (a .flags) (a .parts) (a .masses) (a .fills) (getD (a .carry) 0 (pos 0) ∷ []))) ≡ badRule d2q9 n (stateOf 8 a)
 unfolding badRule cellGood dryGood interfaceGood fluidGood fillGood stateOf
 same n a = refl
 
 pub one-carry : (n : ℕ) (a : Lent) (z : ℤ) → z ≡ getD (a .carry) 0 (pos 0)
-    → badRule d2q9 n (stateOf 8 (record { flags = a .flags; parts = a .parts; masses = a .masses; fills = a .fills; carry = z ∷ [] })) ≡ badRule d2q9 n (stateOf 8 a)
+    → badRule d2q9 n (stateOf 8 (lent (a .flags) (a .parts) (a .masses) (a .fills) (z ∷ []))) ≡ badRule d2q9 n (stateOf 8 a)
 one-carry n a z e =
-    ap (λ (y : ℤ). badRule d2q9 n (stateOf 8 (record { flags = a .flags; parts = a .parts; masses = a .masses; fills = a .fills; carry = y ∷ [] }))) e ∙ same n a
+    ap (λ (y : ℤ). badRule d2q9 n (stateOf 8 (lent (a .flags) (a .parts) (a .masses) (a .fills) (y ∷ [])))) e ∙ same n a
 
 -- ---- tests 1 and 2 before them
 

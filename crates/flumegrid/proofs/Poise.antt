@@ -1,6 +1,7 @@
 -- From tests 1 to 6 of a flume to what a pass asks, and from that to what a law over the nineteen places asks of a cell. Assumes nothing.
 use mathlib.Core.Path.{_≡_, refl, sym, ap, _∙_}
 use mathlib.Core.Bool.{Bool, true, not, cond, false≢true}
+use mathlib.Core.List.{[]}
 use Prim.Native.Nat.{ℕ, zero, suc, _≤_, _<_}
 use native.Mathlib.Nat.{lt-suc-self}
 use native.Mathlib.Omega.{arith}
@@ -16,12 +17,11 @@ use Rattle.lattice.specs.Body.{bodyGood}
 use Rattle.lattice.proofs.Fills.{fill-most}
 use Rattle.grid.specs.declared.Answer.the-variants.{Done}
 use Rattle.grid.specs.Grid.{flume}
-use Rattle.grid.specs.State.{Lent, State, liquid, stateOf}
+use Rattle.grid.specs.State.{Lent, lent, State, liquid, stateOf}
 use Rattle.grid.specs.Step.{fillFor}
 use Rattle.grid.specs.Good.{dryGood, interfaceGood, fluidGood, fillGood, cellGood, badRule}
 use Rattle.grid.specs.Outcome.{goodAnswer}
 use Rattle.grid.specs.Demands.{Closed}
-use Rattle.grid.specs.Between.{uncarried}
 use Rattle.grid.specs.Passes.{Amid}
 use Rattle.grid.specs.Sight.{Body}
 use Rattle.grid.proofs.Accepted.{Sound, sound, none-found, cell-good}
@@ -60,11 +60,11 @@ module _ (s : FlumeSides) (g : FlumeSettings) (a : Lent) (r : FlumeReady s g a) 
       ∙ first-none (suc (flumeCells s)) (λ c. cond (eqb c (flumeCells s)) (not (carryGood (getD (a .carry) 0 (pos 0)))) (not (cellGood d2q9 (stateOf 8 a) c))) rules (flumeCells s) (lt-suc-self (flumeCells s)))
 
   -- no rule of a cell reads the carry
-  alone : (c : ℕ) → cellGood d2q9 (stateOf 8 a) c ≡ cellGood d2q9 (stateOf 8 (uncarried (a .flags) (a .parts) (a .masses) (a .fills))) c
+  alone : (c : ℕ) → cellGood d2q9 (stateOf 8 a) c ≡ cellGood d2q9 (stateOf 8 (lent (a .flags) (a .parts) (a .masses) (a .fills) [])) c
   unfolding stateOf cellGood dryGood interfaceGood fluidGood fillGood
   alone c = refl
 
-  pub poised : FlumePoised s g (uncarried (a .flags) (a .parts) (a .masses) (a .fills))
+  pub poised : FlumePoised s g (lent (a .flags) (a .parts) (a .masses) (a .fills) [])
   unfolding stateOf flumeGrid flume flumeCells d2q9
   poised = record {
     sides = r .sides;

@@ -20,9 +20,8 @@ use Rattle.whole.specs.Search.{first-is, first-all}
 use Rattle.lattice.specs.Lattice.{Lattice, d3q19, d2q9, density, momentum}
 use Rattle.lattice.specs.Cell.{carryGood}
 use Rattle.lattice.specs.Body.{partsOf, bodyGood, goodFluid, goodInterface, eqZ}
-use Rattle.grid.specs.State.{State, stateOf, liquid}
+use Rattle.grid.specs.State.{lent, State, stateOf, liquid}
 use Rattle.grid.specs.Good.{dryGood, interfaceGood, fluidGood, fillGood, cellGood, badRule}
-use Rattle.grid.specs.Passes.{carryless}
 use Rattle.grid.specs.Demands.{Same}
 use Rattle.grid.proofs.Lists.{getD-there}
 use Rattle.grid.proofs.Same.{cell-same}
@@ -64,9 +63,9 @@ module _ (L : Lattice) (n : ℕ) (s : State) where
 -- a flume's set whose cells below c keep the rules, which do not look at the carry
 module _ (flags : List ℕ) (parts masses : List ℤ) (fills : List ℕ) (carry : ℤ) where
   abbrev S : State
-  S = stateOf 8 (record { flags = flags; parts = parts; masses = masses; fills = fills; carry = carry ∷ [] })
+  S = stateOf 8 (lent flags parts masses fills (carry ∷ []))
 
-  same-cell : (c : ℕ) → cellGood d2q9 S c ≡ cellGood d2q9 (stateOf 8 (carryless flags parts masses fills)) c
+  same-cell : (c : ℕ) → cellGood d2q9 S c ≡ cellGood d2q9 (stateOf 8 (lent flags parts masses fills (pos 0 ∷ []))) c
   unfolding cellGood dryGood interfaceGood fluidGood fillGood stateOf
   same-cell c = refl
 
@@ -74,11 +73,11 @@ module _ (flags : List ℕ) (parts masses : List ℤ) (fills : List ℕ) (carry 
   unfolding stateOf
   same-carry = refl
 
-  module _ (c : ℕ) (good : (j : ℕ) → j < c → cellGood d2q9 (stateOf 8 (carryless flags parts masses fills)) j ≡ true) where
+  module _ (c : ℕ) (good : (j : ℕ) → j < c → cellGood d2q9 (stateOf 8 (lent flags parts masses fills (pos 0 ∷ []))) j ≡ true) where
     abbrev goods : (j : ℕ) → j < c → cellGood d2q9 S j ≡ true
     goods j k = same-cell j ∙ good j k
 
-    pub nine-cell : c < length flags → cellGood d2q9 (stateOf 8 (carryless flags parts masses fills)) c ≡ false → c ≡ badRule d2q9 (length flags) S
+    pub nine-cell : c < length flags → cellGood d2q9 (stateOf 8 (lent flags parts masses fills (pos 0 ∷ []))) c ≡ false → c ≡ badRule d2q9 (length flags) S
     nine-cell h e = bad-cell d2q9 (length flags) S c goods h (same-cell c ∙ e)
 
     pub nine-carry : c ≡ length flags → carryGood carry ≡ false → c ≡ badRule d2q9 (length flags) S
@@ -91,7 +90,7 @@ module _ (flags : List ℕ) (parts masses : List ℤ) (fills : List ℕ) (carry 
 module _ (flags : List ℕ) (parts masses : List ℤ) (fills : List ℕ) (c : ℕ) (there : c < length flags) (v : List ℤ)
     (own : v ≡ tab 19 (spread (pos 0) (λ k. getD parts (9 * c + k) (pos 0)))) where
   abbrev T : State
-  T = stateOf 8 (carryless flags parts masses fills)
+  T = stateOf 8 (lent flags parts masses fills (pos 0 ∷ []))
 
   abbrev f : ℕ
   f = getD flags c 0
@@ -104,7 +103,7 @@ module _ (flags : List ℕ) (parts masses : List ℤ) (fills : List ℕ) (c : �
 
   -- the cell alone, its parts among the nineteen places, as a set and as functions
   abbrev alone : State
-  alone = stateOf 18 (carryless (f ∷ []) v (m ∷ []) (φ ∷ []))
+  alone = stateOf 18 (lent (f ∷ []) v (m ∷ []) (φ ∷ []) (pos 0 ∷ []))
 
   abbrev everywhere : State
   everywhere = record { flag = λ j. T .flag c; part = λ j. spreadState T .part c; mass = λ j. T .mass c; fill = λ j. T .fill c; carry = pos 0 }

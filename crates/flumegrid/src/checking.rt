@@ -13,20 +13,20 @@ ghost use mathlib.Core.Path.{_≡_};
 ghost use mathlib.Core.Bool.{true};
 ghost use mathlib.Core.List.{[], _∷_};
 ghost use Prim.Native.Nat.{_<_};
+ghost use lib.IntN.{pos};
 ghost use lib.ListN.{length};
 ghost use Rattle.lattice.specs.Lattice.{d2q9};
-ghost use Rattle.grid.specs.State.{stateOf};
+ghost use Rattle.grid.specs.State.{lent, stateOf};
 ghost use Rattle.grid.specs.Good.{cellGood, badRule};
 ghost use Rattle.grid.specs.Outcome.{goodAnswer};
-ghost use Rattle.grid.specs.Passes.{carryless};
 ghost use Rattle.flume.specs.Flume.{flumeSidesGood, flumeCells, flumeGrid};
 ghost use Rattle.flume.specs.Outcome.{flumeCheck};
 ghost use Rattle.flumegrid.specs.Ready.{FlumeSized};
 
 // Whether cell c keeps test 6's rules: those of its nine parts at their places, since an idle place holds 0.
 fn good_cell9(flags: &[u8], parts: &[i32], masses: &[i32], fills: &[u32], c: usize) -> bool
-    requires { ⌜ (c < length (now flags)) × FlumeSized (length (now flags)) (carryless (now flags) (now parts) (now masses) (now fills)) ⌝ }
-    ensures { λ r. ⌜ r ≡ cellGood d2q9 (stateOf 8 (carryless (now (flags .entry)) (now (parts .entry)) (now (masses .entry)) (now (fills .entry)))) c ⌝ }
+    requires { ⌜ (c < length (now flags)) × FlumeSized (length (now flags)) (lent (now flags) (now parts) (now masses) (now fills) (pos 0 ∷ [])) ⌝ }
+    ensures { λ r. ⌜ r ≡ cellGood d2q9 (stateOf 8 (lent (now (flags .entry)) (now (parts .entry)) (now (masses .entry)) (now (fills .entry)) (pos 0 ∷ []))) c ⌝ }
 {
     let f = flags[c];
     let v = cells::own9(parts, c);
@@ -38,8 +38,8 @@ fn good_cell9(flags: &[u8], parts: &[i32], masses: &[i32], fills: &[u32], c: usi
 
 // Test 6, and test 8: the lowest cell that breaks a rule, N for the carry alone, N + 1 if nothing is broken.
 pub fn first_bad9(flags: &[u8], parts: &[i32], masses: &[i32], fills: &[u32], carry: i64) -> usize
-    requires { ⌜ FlumeSized (length (now flags)) (record { flags = now flags; parts = now parts; masses = now masses; fills = now fills; carry = carry ∷ [] }) ⌝ }
-    ensures { λ r. ⌜ r ≡ badRule d2q9 (length (now (flags .entry))) (stateOf 8 (record { flags = now (flags .entry); parts = now (parts .entry); masses = now (masses .entry); fills = now (fills .entry); carry = carry ∷ [] })) ⌝ }
+    requires { ⌜ FlumeSized (length (now flags)) (lent (now flags) (now parts) (now masses) (now fills) (carry ∷ [])) ⌝ }
+    ensures { λ r. ⌜ r ≡ badRule d2q9 (length (now (flags .entry))) (stateOf 8 (lent (now (flags .entry)) (now (parts .entry)) (now (masses .entry)) (now (fills .entry)) (carry ∷ []))) ⌝ }
 {
     let mut c = 0;
     while c < flags.len() {
@@ -63,8 +63,8 @@ pub fn checked9(
     carry: &[i64],
     s: FlumeSides,
 ) -> Answer
-    requires { ⌜ (flumeSidesGood s ≡ true) × FlumeSized (flumeCells s) (record { flags = now flags; parts = now parts; masses = now masses; fills = now fills; carry = now carry }) ⌝ }
-    ensures { λ r. ⌜ r ≡ goodAnswer d2q9 (flumeGrid s) (stateOf 8 (record { flags = now (flags .entry); parts = now (parts .entry); masses = now (masses .entry); fills = now (fills .entry); carry = now (carry .entry) })) Answer.Done ⌝ }
+    requires { ⌜ (flumeSidesGood s ≡ true) × FlumeSized (flumeCells s) (lent (now flags) (now parts) (now masses) (now fills) (now carry)) ⌝ }
+    ensures { λ r. ⌜ r ≡ goodAnswer d2q9 (flumeGrid s) (stateOf 8 (lent (now (flags .entry)) (now (parts .entry)) (now (masses .entry)) (now (fills .entry)) (now (carry .entry)))) Answer.Done ⌝ }
 {
     let n = flags.len();
     let flagged = layer::first_bad_flag(flags, s);
@@ -91,7 +91,7 @@ pub fn check(
     carry: &[i64],
     s: FlumeSides,
 ) -> Answer
-    ensures { λ r. ⌜ r ≡ flumeCheck s (record { flags = now (flags .entry); parts = now (parts .entry); masses = now (masses .entry); fills = now (fills .entry); carry = now (carry .entry) }) ⌝ }
+    ensures { λ r. ⌜ r ≡ flumeCheck s (lent (now (flags .entry)) (now (parts .entry)) (now (masses .entry)) (now (fills .entry)) (now (carry .entry))) ⌝ }
 {
     if !extent::good_sides(s) {
         return Answer::Refused(1, 0);

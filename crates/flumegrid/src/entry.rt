@@ -8,6 +8,7 @@ use grid::Answer;
 use lattice::Settings;
 use lattice::limits;
 ghost use mathlib.Core.Path.{_≡_};
+ghost use Rattle.grid.specs.State.{lent};
 ghost use Rattle.grid.specs.Outcome.{settingsGood};
 ghost use Rattle.flume.specs.Flume.{levelSettings};
 ghost use Rattle.flume.specs.Outcome.{flumeEntry};
@@ -41,7 +42,7 @@ pub fn entered(
     s: FlumeSides,
     g: FlumeSettings,
 ) -> Answer
-    ensures { λ r. ⌜ r ≡ flumeEntry s g (record { flags = now (flags .entry); parts = now (parts .entry); masses = now (mass .entry); fills = now (fill .entry); carry = now (carry .entry) }) (record { flags = now (flags2 .entry); parts = now (parts2 .entry); masses = now (mass2 .entry); fills = now (fill2 .entry); carry = now (carry2 .entry) }) (now (marks .entry)) Answer.Done ⌝ }
+    ensures { λ r. ⌜ r ≡ flumeEntry s g (lent (now (flags .entry)) (now (parts .entry)) (now (mass .entry)) (now (fill .entry)) (now (carry .entry))) (lent (now (flags2 .entry)) (now (parts2 .entry)) (now (mass2 .entry)) (now (fill2 .entry)) (now (carry2 .entry))) (now (marks .entry)) Answer.Done ⌝ }
 {
     if !extent::good_sides(s) {
         return Answer::Refused(1, 0);

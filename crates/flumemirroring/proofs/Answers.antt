@@ -1,7 +1,7 @@
 -- The chain of tests as the code goes through it, what it leaves of an accepted mirror, and the second set by either answer. Assumes nothing.
 use mathlib.Core.Path.{_≡_, refl, sym, ap, ap₂, _∙_}
 use mathlib.Core.Bool.{Bool, true, false, _&&_}
-use mathlib.Core.List.{List, []}
+use mathlib.Core.List.{List}
 use Prim.Native.Nat.{ℕ, suc, _*_, _≤_}
 use native.Mathlib.Omega.{arith}
 use lib.Dec.{eqb}
@@ -25,14 +25,11 @@ use Rattle.flumegrid.proofs.GoodSides.{few}
 use Rattle.mirror.specs.Mirror.{mirrored, mirroredSet}
 use Rattle.mirroring.specs.Turned.{turnedSet}
 use Rattle.mirroring.specs.Between.{dirIn, tableMirror, Celled, Turnable}
+use Rattle.mirroring.proofs.Answers.{bare}
 use Rattle.flumemirroring.specs.Turned.{flumeTurned}
 use Rattle.flumemirroring.specs.Outcome.{flumeAxis, flumeMirrorAnswer, ifDone, flumeMirrorSecond}
 use Rattle.flumemirroring.specs.Promise.{FlumeMirrored}
 use Rattle.flumemirroring.proofs.Reflected.{flume-directed, layerOf, layer-cells, layer-turned}
-
--- a set without its carry
-abbrev pub bare : Lent → Lent
-bare a = lent (a .flags) (a .parts) (a .masses) (a .fills) []
 
 module _ (s : FlumeSides) (axis : ℕ) (a b : Lent) where
   abbrev pub lengths : Bool

@@ -3,7 +3,8 @@ use crate::reader::read;
 use flumerecord::FlumeLoaded;
 use flumerecord::flags::flags_of;
 ghost use mathlib.Core.Path.{_≡_};
-ghost use Rattle.record.specs.Promise.{flagless};
+ghost use mathlib.Core.List.{[]};
+ghost use Rattle.grid.specs.State.{lent};
 ghost use Rattle.flumerecord.specs.Promise.{FlumeRead, FlumeHanded};
 
 pub fn load<'a>(
@@ -13,7 +14,7 @@ pub fn load<'a>(
     fills: &mut [u32],
     carry: &mut [i64],
 ) -> FlumeLoaded<'a>
-    ensures { λ r. ⌜ FlumeRead (now (rec .entry)) (flagless (now (parts .entry)) (now (masses .entry)) (now (fills .entry)) (now (carry .entry))) (r .head) (now (parts .exit)) (now (masses .exit)) (now (fills .exit)) (now (carry .exit)) × FlumeHanded (rec .entry) (flagless (now (parts .entry)) (now (masses .entry)) (now (fills .entry)) (now (carry .entry))) (r .flags) ⌝ }
+    ensures { λ r. ⌜ FlumeRead (now (rec .entry)) (lent [] (now (parts .entry)) (now (masses .entry)) (now (fills .entry)) (now (carry .entry))) (r .head) (now (parts .exit)) (now (masses .exit)) (now (fills .exit)) (now (carry .exit)) × FlumeHanded (rec .entry) (lent [] (now (parts .entry)) (now (masses .entry)) (now (fills .entry)) (now (carry .entry))) (r .flags) ⌝ }
 {
     let h = read(rec, parts, masses, fills, carry);
     let f = flags_of(rec, h);

@@ -13,8 +13,9 @@ use flumerecord::given::site_in;
 use grid::Answer;
 use record::section::passed;
 ghost use mathlib.Core.Path.{_≡_};
+ghost use mathlib.Core.List.{[]};
 ghost use lib.IntN.{pos};
-ghost use Rattle.record.specs.Promise.{flagless};
+ghost use Rattle.grid.specs.State.{lent};
 ghost use Rattle.flumerecord.specs.Promise.{FlumeRead};
 ghost use Rattle.flumerecord.specs.Reading.{flumeRefusedHead};
 
@@ -50,7 +51,7 @@ pub fn read(
     fills: &mut [u32],
     carry: &mut [i64],
 ) -> FlumeHead
-    ensures { λ r. ⌜ FlumeRead (now (rec .entry)) (flagless (now (parts .entry)) (now (masses .entry)) (now (fills .entry)) (now (carry .entry))) r (now (parts .exit)) (now (masses .exit)) (now (fills .exit)) (now (carry .exit)) ⌝ }
+    ensures { λ r. ⌜ FlumeRead (now (rec .entry)) (lent [] (now (parts .entry)) (now (masses .entry)) (now (fills .entry)) (now (carry .entry))) r (now (parts .exit)) (now (masses .exit)) (now (fills .exit)) (now (carry .exit)) ⌝ }
 {
     let shaped = shape(rec, parts.len(), masses.len(), fills.len(), carry.len());
     if !passed(shaped) {

@@ -2,7 +2,7 @@
 -- record. The one idea: each number of the record is the part of r that it was read from, and parts that follow each other join. Assumes nothing.
 use mathlib.Core.Path.{_≡_, refl, sym, ap, _∙_}
 use mathlib.Core.Bool.{Bool, true}
-use mathlib.Core.List.{List, [], _∷_, _++_}
+use mathlib.Core.List.{List, _∷_, _++_}
 use Prim.Native.Nat.{ℕ, _+_, _*_, _≤_, _<_}
 use native.Mathlib.Omega.{arith}
 use lib.IntN.{ℤ, pos}
@@ -10,7 +10,7 @@ use lib.ListN.{length}
 use Rattle.lattice.specs.Lattice.{d2q9, density}
 use Rattle.grid.specs.declared.Answer.the-variants.{Done}
 use Rattle.grid.specs.Outcome.{accepted}
-use Rattle.grid.specs.State.{Lent, stateOf, lentOf, byFlag}
+use Rattle.grid.specs.State.{Lent, lent, stateOf, lentOf, byFlag}
 use Rattle.grid.specs.Passes.{flagOf}
 use Rattle.grid.proofs.Accepted.{done-accepted}
 use Rattle.grid.proofs.Listed.{same-listed}
@@ -29,7 +29,7 @@ use Rattle.flumerecord.proofs.Shaped.{sound, shape-accepted}
 
 -- the set that the reader hands back
 abbrev pub gridRead : List ℕ → Lent → Lent
-gridRead r b = record { flags = flumeReadFlags r b; parts = flumeReadSet r b .parts; masses = flumeReadSet r b .masses; fills = flumeReadSet r b .fills; carry = flumeReadSet r b .carry }
+gridRead r b = lent (flumeReadFlags r b) (flumeReadSet r b .parts) (flumeReadSet r b .masses) (flumeReadSet r b .fills) (flumeReadSet r b .carry)
 
 -- the claim
 abbrev pub Claim : Type 0

@@ -16,7 +16,7 @@ use Rattle.grid.specs.Grid.{flume}
 use Rattle.grid.specs.Good.{badFlag, badFluid, badRule}
 use Rattle.grid.specs.Demands.{Same}
 use Rattle.grid.specs.Outcome.{accepted, orRefuse, ifNone, goodAnswer}
-use Rattle.grid.specs.State.{Lent, State, stateOf, lentOf}
+use Rattle.grid.specs.State.{Lent, lent, State, stateOf, lentOf}
 use Rattle.grid.proofs.Accepted.{done-accepted, passed, none-found, skip}
 use Rattle.grid.proofs.Listed.{same-listed, lengths-fit}
 use Rattle.grid.proofs.Same.{bad-rule-same}
@@ -42,7 +42,7 @@ Claim =
 
 -- the set read, its flags the caller's own
 abbrev taken : List ℕ → Lent
-taken r = let l = flumeSetIn r in record { flags = flumeFlagsIn r; parts = l .parts; masses = l .masses; fills = l .fills; carry = l .carry }
+taken r = let l = flumeSetIn r in lent (flumeFlagsIn r) (l .parts) (l .masses) (l .fills) (l .carry)
 
 module _ (r : List ℕ) (k : FlumeSound r) (content : flumeContent r ≡ Done) where
   flags-all : length (flumeFlagsIn r) ≡ flumeCellsIn r

@@ -7,7 +7,7 @@ use lib.IntN.{ℤ, pos}
 use lib.ListN.{length, take, replicate}
 use Rattle.grid.specs.declared.Answer.{Answer}
 use Rattle.grid.specs.Outcome.{numberOf, placeOf}
-use Rattle.grid.specs.State.{Lent}
+use Rattle.grid.specs.State.{Lent, lent}
 use Rattle.flume.specs.Cases.{square, falling, caseF}
 use Rattle.record.specs.Bytes.{u32At}
 use Rattle.record.specs.Places.{settingsFrom, originFrom, totalsFrom, cellsFrom, massesFrom, partsFrom}
@@ -25,7 +25,7 @@ recordF = flumeRecordOf (square 3) falling plain caseF
 
 -- slices for nine cells
 abbrev pub slices : Lent
-slices = record { flags = []; parts = replicate 81 (pos 0); masses = replicate 9 (pos 0); fills = replicate 9 0; carry = pos 0 ∷ [] }
+slices = lent [] (replicate 81 (pos 0)) (replicate 9 (pos 0)) (replicate 9 0) (pos 0 ∷ [])
 
 -- where the counts stand, and the end
 abbrev pub places : List ℕ

@@ -17,11 +17,10 @@ use Rattle.lattice.specs.Body.{bodyGood}
 use Rattle.lattice.specs.declared.Settings.{Settings}
 use Rattle.grid.specs.declared.Answer.{Answer}
 use Rattle.grid.specs.declared.Answer.the-variants.{Done, Refused}
-use Rattle.grid.specs.State.{Lent, Scene, liquid, stateOf}
+use Rattle.grid.specs.State.{Lent, lent, Scene, liquid, stateOf}
 use Rattle.grid.specs.Step.{tooFast, collided, newFlag, newPart, newMass, newFill, newCarry}
 use Rattle.grid.specs.Good.{badRule}
 use Rattle.grid.specs.Outcome.{accepted, ifNone, moveAnswer}
-use Rattle.grid.specs.Between.{firstMark}
 use Rattle.grid.specs.Halfway.{Alike}
 use Rattle.grid.specs.Passes.{openedBy}
 use Rattle.grid.proofs.Listed.{lengths-fit}
@@ -50,7 +49,7 @@ use Rattle.flumegrid.proofs.Poise.{poised}
 use Rattle.flumeflow.specs.Flowed.{wideScene, FlumeFlowable, FlumeWent, stopped, through, FlumeFlowed}
 use Rattle.flumeflow.proofs.Nines.{part-at, place-low}
 use Rattle.flumeturn.specs.Filled.{Fillable9}
-use Rattle.flumeturn.specs.Turned.{turnScene, FlumeTurning, FlumeTurned}
+use Rattle.flumeturn.specs.Turned.{FlumeTurning, FlumeTurned}
 use Rattle.flumeturn.proofs.Flumes.{flumeField, flume-scene, flume-sound}
 use Rattle.flumestep.specs.Finished.{FlumeFinishing, FlumeFinished, FlumeTried, FlumeAdvanced}
 
@@ -111,7 +110,7 @@ module _ (s : FlumeSides) (g : FlumeSettings) (a : Lent) where
   S = sceneIn F
 
   abbrev U : Scene
-  U = wideScene s (levelSettings g) (a .flags) (a .parts) (a .masses) (a .fills)
+  U = wideScene s (levelSettings g) (lent (a .flags) (a .parts) (a .masses) (a .fills) [])
 
   -- ---- pass 1
   pub moved-carried : {part : ℕ → ℕ → ℤ} {masses : List ℤ} {marks : List ℕ} {fair still : Bool} → MovedTo U n part masses marks fair still → MovedTo S n part masses marks fair still
@@ -163,17 +162,11 @@ module _ (s : FlumeSides) (g : FlumeSettings) (a : Lent) where
       -- after the fills: the next state
       module _ {fills2 : List ℕ} {weighed : Bool} (f : Refilled flags2 (partOf9 parts2) masses2 fills2 weighed) where
         abbrev second : Lent
-        second = record { flags = flags2; parts = parts2; masses = masses2; fills = fills2; carry = carry2 }
+        second = lent flags2 parts2 masses2 fills2 carry2
 
         -- the next state of a scene among the nineteen places, as a set of nine parts a cell
         abbrev listed : Scene → Lent
-        listed T = record {
-          flags = tab n (newFlag T);
-          parts = tab (9 * n) (λ m. newPart T (m / 9) (wide (m % 9)));
-          masses = tab n (newMass T);
-          fills = tab n (newFill T);
-          carry = newCarry T ∷ [];
-        }
+        listed T = lent (tab n (newFlag T)) (tab (9 * n) (λ m. newPart T (m / 9) (wide (m % 9)))) (tab n (newMass T)) (tab n (newFill T)) (newCarry T ∷ [])
 
         fills-are : fills2 ≡ tab n (newFill S)
         fills-are = Tests.fills-are F (field .stands) t (w .turned) f
@@ -184,7 +177,7 @@ module _ (s : FlumeSides) (g : FlumeSettings) (a : Lent) where
         pub second-next : second ≡ flumeNext s g a
         unfolding flumeScene stateOf partOf9
         second-next =
-            (λ i. record { flags = w .turned .flags-are i; parts = parts-are i; masses = w .turned .masses-are i; fills = fills-are i; carry = w .turned .carry-is i })
+            (λ i. lent (w .turned .flags-are i) (parts-are i) (w .turned .masses-are i) (fills-are i) (w .turned .carry-is i))
             ∙ (λ i. listed (flume-scene s g a i))
             ∙ sym (flume-next s g a (r .sized .flags) (subst (λ (T : Scene). n ≤ first n (tooFast T)) (flume-scene s g a) t))
 
@@ -220,16 +213,6 @@ went-through {T} {n} {o} {parts} {masses} {marks} u v e (through {fair = x} {sti
     subst (λ (z : Bool). MovedTo T n (partOf9 parts) masses marks z v) (ap was-fair e) (subst (λ (z : Bool). MovedTo T n (partOf9 parts) masses marks x z) (ap was-still e) m)
 
 module _ {s : FlumeSides} {g : FlumeSettings} {a : Lent} where
-  pub finishing-marks : {b : Lent} {marks : List ℕ} {fair still : Bool} → FlumeFinishing s g a b marks fair still → length marks ≡ flumeCells s
-  finishing-marks f = ap length (f .moved .marks-are) ∙ length-tab (flumeCells s) (firstMark (turnScene s (levelSettings g) a))
-
-  pub advanced-lengths : {answer : Answer} {second : Lent} {after : List ℕ} → FlumeReady s g a → FlumeAdvanced s g a answer second after → FlumeSized (flumeCells s) second
-  advanced-lengths r d = go (accepted (moveAnswer (flumeScene s g a))) (d .second-is)
-    where
-      go : (b : Bool) {x : Lent} → x ≡ cond b (flumeNext s g a) a → FlumeSized (flumeCells s) x
-      go true e = next-lengths s g a e
-      go false e = subst (λ (y : Lent). FlumeSized (flumeCells s) y) (sym e) (r .sized)
-
   -- finished; h are the settings as the code has them, with gy = 0
   pub turning : {h : Settings} {b : Lent} {marks : List ℕ} {fair still : Bool} → h ≡ levelSettings g → FlumeFinishing s g a b marks fair still
       → FlumeTurning s h a (b .flags) (b .parts) (b .masses) (b .carry) marks still
@@ -259,14 +242,14 @@ module _ {s : FlumeSides} {g : FlumeSettings} {a : Lent} where
   module _ {b : Lent} {before : List ℕ} {fair still : Bool} (f : FlumeFinishing s g a b before fair still) {flags2 : List ℕ} {parts2 masses2 carry2 : List ℤ} {marks : List ℕ} {turned : Bool}
       (w : FlumeTurned s (levelSettings g) a flags2 parts2 masses2 carry2 marks turned) where
     pub flags-count : length flags2 ≡ flumeCells s
-    flags-count = ap length (w .turned .flags-are) ∙ length-tab (flumeCells s) (newFlag (turnScene s (levelSettings g) a))
+    flags-count = ap length (w .turned .flags-are) ∙ length-tab (flumeCells s) (newFlag (wideScene s (levelSettings g) a))
 
     pub filling : Fillable9 flags2 parts2 masses2 × (length (b .fills) ≡ length flags2)
     filling = (fills-asked s g a (f .ready) (f .moved .steady) w, f .second .fills ∙ sym flags-count)
 
     module _ {fills2 : List ℕ} {weighed : Bool} (r : Refilled flags2 (partOf9 parts2) masses2 fills2 weighed) where
       abbrev set : Lent
-      set = record { flags = flags2; parts = parts2; masses = masses2; fills = fills2; carry = carry2 }
+      set = lent flags2 parts2 masses2 fills2 carry2
 
       pub set-next : set ≡ flumeNext s g a
       set-next = second-next s g a (f .ready) (f .moved .steady) w r
@@ -299,7 +282,7 @@ module _ {s : FlumeSides} {g : FlumeSettings} {a : Lent} where
       w = subst (λ (k : Settings). FlumeFlowed s k (a .flags) (a .parts) (a .masses) (a .fills) o parts2 masses2 marks2) eh v
 
       abbrev flowed : Lent
-      flowed = record { flags = b .flags; parts = parts2; masses = masses2; fills = b .fills; carry = b .carry }
+      flowed = lent (b .flags) parts2 masses2 (b .fills) (b .carry)
 
       flowed-sized : FlumeSized (flumeCells s) flowed
       flowed-sized = record { flags = f .second .flags; parts = w .parts-kept; masses = w .masses-kept; fills = f .second .fills; carry = f .second .carry }

@@ -15,12 +15,12 @@ use Rattle.flume.specs.Flume.{flumeCells, levelSettings}
 use Rattle.flume.specs.Outcome.{flumeScene, flumeNext}
 use Rattle.nine.specs.Cells.{partOf9}
 use Rattle.flumegrid.specs.Ready.{FlumeSized, FlumeReady}
-use Rattle.flumeturn.specs.Turned.{turnScene}
+use Rattle.flumeflow.specs.Flowed.{wideScene}
 
 -- stages 1 to 4 are made in the second set, whose slices are of their lengths
 pub record FlumeFinishing (s : FlumeSides) (g : FlumeSettings) (a b : Lent) (marks : List ℕ) (fair still : Bool) : Type 0 where
   pub ready : FlumeReady s g a
-  pub moved : MovedTo (turnScene s (levelSettings g) a) (flumeCells s) (partOf9 (b .parts)) (b .masses) marks fair still
+  pub moved : MovedTo (wideScene s (levelSettings g) a) (flumeCells s) (partOf9 (b .parts)) (b .masses) marks fair still
   pub second : FlumeSized (flumeCells s) b
 
 -- the next state, whether or not test 8 refuses it

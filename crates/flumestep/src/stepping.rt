@@ -15,7 +15,7 @@ ghost use mathlib.Core.Path.{_≡_};
 ghost use Prim.Native.Nat.{suc};
 ghost use lib.ListN.{length};
 ghost use Rattle.lattice.specs.Lattice.{d2q9};
-ghost use Rattle.grid.specs.State.{stateOf};
+ghost use Rattle.grid.specs.State.{lent, stateOf};
 ghost use Rattle.grid.specs.Good.{badRule};
 ghost use Rattle.grid.specs.Outcome.{ifNone};
 ghost use Rattle.flume.specs.Promise.{FlumeStepped};
@@ -24,8 +24,8 @@ ghost use Rattle.flumestep.specs.Finished.{FlumeFinishing, FlumeFinished
 
 // Test 8 where something is not fair: test 6's own scan of the second set.
 fn judged(flags2: &[u8], parts2: &[i32], mass2: &[i32], fill2: &[u32], carry2: &[i64]) -> Answer
-    requires { ⌜ FlumeSized (length (now flags2)) (record { flags = now flags2; parts = now parts2; masses = now mass2; fills = now fill2; carry = now carry2 }) ⌝ }
-    ensures { λ r. ⌜ r ≡ ifNone (suc (length (now (flags2 .entry)))) 8 (badRule d2q9 (length (now (flags2 .entry))) (stateOf 8 (record { flags = now (flags2 .entry); parts = now (parts2 .entry); masses = now (mass2 .entry); fills = now (fill2 .entry); carry = now (carry2 .entry) }))) Answer.Done ⌝ }
+    requires { ⌜ FlumeSized (length (now flags2)) (lent (now flags2) (now parts2) (now mass2) (now fill2) (now carry2)) ⌝ }
+    ensures { λ r. ⌜ r ≡ ifNone (suc (length (now (flags2 .entry)))) 8 (badRule d2q9 (length (now (flags2 .entry))) (stateOf 8 (lent (now (flags2 .entry)) (now (parts2 .entry)) (now (mass2 .entry)) (now (fill2 .entry)) (now (carry2 .entry))))) Answer.Done ⌝ }
 {
     let d = checking::first_bad9(flags2, parts2, mass2, fill2, carry2[0]);
     if d <= flags2.len() {
@@ -52,8 +52,8 @@ fn finished(
     s: FlumeSides,
     g: FlumeSettings,
 ) -> Answer
-    requires { ⌜ FlumeFinishing s g (record { flags = now flags; parts = now parts; masses = now mass; fills = now fill; carry = now carry }) (record { flags = now flags2; parts = now parts2; masses = now mass2; fills = now fill2; carry = now carry2 }) (now marks) fair still ⌝ }
-    ensures { λ r. ⌜ FlumeFinished s g (record { flags = now (flags .entry); parts = now (parts .entry); masses = now (mass .entry); fills = now (fill .entry); carry = now (carry .entry) }) r (record { flags = now (flags2 .exit); parts = now (parts2 .exit); masses = now (mass2 .exit); fills = now (fill2 .exit); carry = now (carry2 .exit) }) (now (marks .exit)) ⌝ }
+    requires { ⌜ FlumeFinishing s g (lent (now flags) (now parts) (now mass) (now fill) (now carry)) (lent (now flags2) (now parts2) (now mass2) (now fill2) (now carry2)) (now marks) fair still ⌝ }
+    ensures { λ r. ⌜ FlumeFinished s g (lent (now (flags .entry)) (now (parts .entry)) (now (mass .entry)) (now (fill .entry)) (now (carry .entry))) r (lent (now (flags2 .exit)) (now (parts2 .exit)) (now (mass2 .exit)) (now (fill2 .exit)) (now (carry2 .exit))) (now (marks .exit)) ⌝ }
 {
     let h = marking::level(g);
     let a = turning::turned9(
@@ -94,8 +94,8 @@ fn advanced(
     s: FlumeSides,
     g: FlumeSettings,
 ) -> Answer
-    requires { ⌜ FlumeEntered s g (record { flags = now flags; parts = now parts; masses = now mass; fills = now fill; carry = now carry }) (record { flags = now flags2; parts = now parts2; masses = now mass2; fills = now fill2; carry = now carry2 }) (now marks) ⌝ }
-    ensures { λ r. ⌜ FlumeTried s g (record { flags = now (flags .entry); parts = now (parts .entry); masses = now (mass .entry); fills = now (fill .entry); carry = now (carry .entry) }) r (record { flags = now (flags2 .exit); parts = now (parts2 .exit); masses = now (mass2 .exit); fills = now (fill2 .exit); carry = now (carry2 .exit) }) (now (marks .exit)) ⌝ }
+    requires { ⌜ FlumeEntered s g (lent (now flags) (now parts) (now mass) (now fill) (now carry)) (lent (now flags2) (now parts2) (now mass2) (now fill2) (now carry2)) (now marks) ⌝ }
+    ensures { λ r. ⌜ FlumeTried s g (lent (now (flags .entry)) (now (parts .entry)) (now (mass .entry)) (now (fill .entry)) (now (carry .entry))) r (lent (now (flags2 .exit)) (now (parts2 .exit)) (now (mass2 .exit)) (now (fill2 .exit)) (now (carry2 .exit))) (now (marks .exit)) ⌝ }
 {
     marking::mark_open(flags, marks, s);
     let h = marking::level(g);
@@ -138,8 +138,8 @@ pub fn stepped(
     s: FlumeSides,
     g: FlumeSettings,
 ) -> Answer
-    requires { ⌜ FlumeEntered s g (record { flags = now flags; parts = now parts; masses = now mass; fills = now fill; carry = now carry }) (record { flags = now flags2; parts = now parts2; masses = now mass2; fills = now fill2; carry = now carry2 }) (now marks) ⌝ }
-    ensures { λ r. ⌜ FlumeAdvanced s g (record { flags = now (flags .entry); parts = now (parts .entry); masses = now (mass .entry); fills = now (fill .entry); carry = now (carry .entry) }) r (record { flags = now (flags2 .exit); parts = now (parts2 .exit); masses = now (mass2 .exit); fills = now (fill2 .exit); carry = now (carry2 .exit) }) (now (marks .exit)) ⌝ }
+    requires { ⌜ FlumeEntered s g (lent (now flags) (now parts) (now mass) (now fill) (now carry)) (lent (now flags2) (now parts2) (now mass2) (now fill2) (now carry2)) (now marks) ⌝ }
+    ensures { λ r. ⌜ FlumeAdvanced s g (lent (now (flags .entry)) (now (parts .entry)) (now (mass .entry)) (now (fill .entry)) (now (carry .entry))) r (lent (now (flags2 .exit)) (now (parts2 .exit)) (now (mass2 .exit)) (now (fill2 .exit)) (now (carry2 .exit))) (now (marks .exit)) ⌝ }
 {
     let a = advanced(
         flags,
@@ -191,7 +191,7 @@ pub fn step(
     s: FlumeSides,
     g: FlumeSettings,
 ) -> Answer
-    ensures { λ r. ⌜ FlumeStepped s g (record { flags = now (flags .entry); parts = now (parts .entry); masses = now (mass .entry); fills = now (fill .entry); carry = now (carry .entry) }) (record { flags = now (flags2 .entry); parts = now (parts2 .entry); masses = now (mass2 .entry); fills = now (fill2 .entry); carry = now (carry2 .entry) }) (now (marks .entry)) r (record { flags = now (flags2 .exit); parts = now (parts2 .exit); masses = now (mass2 .exit); fills = now (fill2 .exit); carry = now (carry2 .exit) }) (now (marks .exit)) ⌝ }
+    ensures { λ r. ⌜ FlumeStepped s g (lent (now (flags .entry)) (now (parts .entry)) (now (mass .entry)) (now (fill .entry)) (now (carry .entry))) (lent (now (flags2 .entry)) (now (parts2 .entry)) (now (mass2 .entry)) (now (fill2 .entry)) (now (carry2 .entry))) (now (marks .entry)) r (lent (now (flags2 .exit)) (now (parts2 .exit)) (now (mass2 .exit)) (now (fill2 .exit)) (now (carry2 .exit))) (now (marks .exit)) ⌝ }
 {
     let a = entry::entered(
         flags,

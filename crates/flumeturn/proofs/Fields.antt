@@ -7,23 +7,15 @@ use lib.IntN.{ℤ, pos}
 use lib.ListN.{getD}
 use Rattle.whole.specs.Fold.{tab}
 use Rattle.lattice.specs.declared.Settings.{Settings}
-use Rattle.grid.specs.Ground.{sceneOn}
-use Rattle.grid.specs.State.{Lent, stateOf}
+use Rattle.grid.specs.State.{Lent}
 use Rattle.turn.proofs.Field.{Field, Sound}
 use Rattle.flume.specs.declared.FlumeSides.{FlumeSides}
-use Rattle.flume.specs.Flume.{flumeCells, flumeGrid, flumeGround}
+use Rattle.flume.specs.Flume.{flumeCells, flumeGrid}
 use Rattle.flume.specs.Offsets.{flumeLow, flumeOffset}
-use Rattle.flume.specs.Spread.{spreadLattice, spreadGrid, spreadScene}
+use Rattle.flume.specs.Spread.{spreadLattice, spreadGrid}
 use Rattle.nine.specs.Cells.{partOf9}
 use Rattle.flumegrid.specs.Ready.{FlumeReady}
-use Rattle.flumeflow.proofs.Spread.{scene-spread}
-use Rattle.flumeturn.specs.Turned.{turnScene}
 use Rattle.flumeturn.proofs.Flumes as flumes
-
--- the step's scene is the flume's own, spread
-pub turn-scene-is : (s : FlumeSides) (g : Settings) (a : Lent) → turnScene s g a ≡ spreadScene (sceneOn (flumeGround s) g a)
-unfolding stateOf partOf9
-turn-scene-is s g a = scene-spread s g a
 
 abbrev pub flumeField : FlumeSides → Settings → Lent → List ℕ → ℕ → Field
 flumeField s g a off low = record {

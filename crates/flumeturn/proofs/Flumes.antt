@@ -1,12 +1,12 @@
 -- The flume is a field: its nine directions among the nineteen places, its offsets, its stored parts at their places. A set that is ready is a sound one, and
 -- the field's scene is the flume's own, spread. So the laws of a field serve the flume. Assumes nothing.
 use mathlib.Core.Path.{_≡_, refl}
+use mathlib.Core.List.{[]}
 use lib.IntN.{pos}
 use lib.ListN.{getD}
 use Rattle.whole.specs.Fold.{tab}
 use Rattle.grid.specs.Grid.{flume}
-use Rattle.grid.specs.State.{Lent, stateOf}
-use Rattle.grid.specs.Between.{uncarried}
+use Rattle.grid.specs.State.{Lent, lent, stateOf}
 use Rattle.flume.specs.declared.FlumeSides.{FlumeSides}
 use Rattle.flume.specs.declared.FlumeSettings.{FlumeSettings}
 use Rattle.flume.specs.Flume.{flumeCells, flumeGrid, levelSettings}
@@ -43,7 +43,7 @@ flume-scene s g a = scene-spread s (levelSettings g) a
 
 module _ (s : FlumeSides) (g : FlumeSettings) (a : Lent) where
   -- whatever the carry: no rule of a cell reads it
-  pub flume-standing : FlumePoised s g (uncarried (a .flags) (a .parts) (a .masses) (a .fills)) → Standing (flumeField s g a)
+  pub flume-standing : FlumePoised s g (lent (a .flags) (a .parts) (a .masses) (a .fills) []) → Standing (flumeField s g a)
   unfolding flumeGrid flume flumeCells
   flume-standing p = record {
     light = light9;
@@ -52,10 +52,10 @@ module _ (s : FlumeSides) (g : FlumeSettings) (a : Lent) where
     few = few s (p .sides);
     count = p .flags;
     fills-count = p .fills;
-    walled = walled s g (uncarried (a .flags) (a .parts) (a .masses) (a .fills)) p;
-    body = body s g (uncarried (a .flags) (a .parts) (a .masses) (a .fills)) p;
-    mass = mass s g (uncarried (a .flags) (a .parts) (a .masses) (a .fills)) p;
-    fill = fill s g (uncarried (a .flags) (a .parts) (a .masses) (a .fills)) p;
+    walled = walled s g (lent (a .flags) (a .parts) (a .masses) (a .fills) []) p;
+    body = body s g (lent (a .flags) (a .parts) (a .masses) (a .fills) []) p;
+    mass = mass s g (lent (a .flags) (a .parts) (a .masses) (a .fills) []) p;
+    fill = fill s g (lent (a .flags) (a .parts) (a .masses) (a .fills) []) p;
     inner = λ c h o. inner-of s (p .sides) c h o;
     place = place-is s;
     near-low = near-low s;
@@ -69,7 +69,7 @@ module _ (s : FlumeSides) (g : FlumeSettings) (a : Lent) where
       record {
         stands = flume-standing p;
         room = reaching s (r .sides) .room;
-        flagged = flagged s g (uncarried (a .flags) (a .parts) (a .masses) (a .fills)) p;
-        closed = closed s g (uncarried (a .flags) (a .parts) (a .masses) (a .fills)) p;
+        flagged = flagged s g (lent (a .flags) (a .parts) (a .masses) (a .fills) []) p;
+        closed = closed s g (lent (a .flags) (a .parts) (a .masses) (a .fills) []) p;
         carry-good = ready-carry s g a r;
       }

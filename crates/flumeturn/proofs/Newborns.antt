@@ -2,7 +2,7 @@
 -- the box's, over any parts. Assumes nothing.
 use mathlib.Core.Path.{_≡_, refl, sym, ap, _∙_}
 use mathlib.Core.Bool.{Bool, true, false, cond}
-use mathlib.Core.List.{List}
+use mathlib.Core.List.{List, []}
 use Prim.Native.Nat.{ℕ, zero, suc, _+_, _*_, _≤_, _<_}
 use native.Mathlib.Omega.{arith}
 use lib.IntN.{ℤ, pos}
@@ -24,7 +24,8 @@ use Rattle.flume.proofs.Places.{spread-none, idle-dir}
 use Rattle.flume.proofs.Turning.{still-none}
 use Rattle.nine.specs.Cells.{partOf9, pasted9, Quiet}
 use Rattle.nine.proofs.Pasted.{length-pasted9, pasted-here, pasted-other}
-use Rattle.flumeturn.specs.Born.{flowSight9, Placed9, Visited9}
+use Rattle.flumeflow.specs.Seen.{sight9}
+use Rattle.flumeturn.specs.Born.{Placed9, Visited9}
 
 -- ---- one visit
 module _ {S : Scene} {w : ℕ → Bool} {c : ℕ} {before after : List ℤ} {fair : Bool} where
@@ -45,7 +46,7 @@ visited-no {S} {w} {c} before e = record {
 -- ---- a new cell begins with nothing at an idle place
 module _ (flags : List ℕ) (parts : List ℤ) (fills off : List ℕ) (low : ℕ) (g : Settings) (w : ℕ → Bool) where
   abbrev S : Scene
-  S = flowSight9 flags parts fills off low g
+  S = sight9 flags parts [] fills off low g
 
   idle-born : (c i : ℕ) → Idle i → born S c i ≡ pos 0
   unfolding born bornDir sight

@@ -31,9 +31,11 @@ use Rattle.flume.specs.declared.FlumeSides.{FlumeSides}
 use Rattle.flume.specs.Flume.{flumeCells}
 use Rattle.flume.specs.Offsets.{flumeLow, flumeOffset}
 use Rattle.nine.specs.Cells.{partOf9}
+use Rattle.flumeflow.specs.Seen.{sight9}
+use Rattle.flumeflow.specs.Flowed.{wideScene}
 use Rattle.flumeexcess.specs.Gathered.{roomOf9, Gathering, Straying, Settling, Settled}
-use Rattle.flumeturn.specs.Born.{flowSight9, Fertile9, Peopled9}
-use Rattle.flumeturn.specs.Turned.{turnScene, FlumeTurning, FlumeTurned}
+use Rattle.flumeturn.specs.Born.{Fertile9, Peopled9}
+use Rattle.flumeturn.specs.Turned.{FlumeTurning, FlumeTurned}
 use Rattle.flumeturn.proofs.Fields.{flumeField, flume-sound}
 
 -- ---- what the passes of stage 6 ask, in a list of nine parts a cell
@@ -79,7 +81,7 @@ module _ {s : FlumeSides} {g : Settings} {a : Lent} {flags0 : List ℕ} {parts0 
   n = flumeCells s
 
   abbrev S : Scene
-  S = turnScene s g a
+  S = wideScene s g a
 
   -- ---- where nothing converts
   pub still-turned : still ≡ true → {flags : List ℕ} {carry : List ℤ} → flags ≡ a .flags → carry ≡ a .carry → FlumeTurned s g a flags parts0 masses0 carry marks0 true
@@ -153,7 +155,7 @@ module _ {s : FlumeSides} {g : Settings} {a : Lent} {flags0 : List ℕ} {parts0 
         flags-long = ap length ef ∙ length-tab n (newFlag S)
 
         -- pass 4 has given new interface cells their parts
-        module _ {parts1 : List ℤ} {fair : Bool} (kp : Peopled9 (flowSight9 (a .flags) (a .parts) (a .fills) off low g) (newlyBorn (a .flags) flags1) (length (a .flags)) parts0 parts1 fair) where
+        module _ {parts1 : List ℤ} {fair : Bool} (kp : Peopled9 (sight9 (a .flags) (a .parts) [] (a .fills) off low g) (newlyBorn (a .flags) flags1) (length (a .flags)) parts0 parts1 fair) where
           in-set : {c : ℕ} → c < n → c < length (a .flags)
           in-set {c} h = subst (λ (m : ℕ). c < m) (sym (t .ready .sized .flags)) h
 

@@ -19,10 +19,6 @@ use Rattle.flume.specs.Spread.{spreadLattice}
 use Rattle.nine.specs.Cells.{partOf9, pasted9}
 use Rattle.flumeflow.specs.Seen.{sight9}
 
--- the flume's scene of flags, parts and fills under settings g
-abbrev pub flowSight9 : List ℕ → List ℤ → List ℕ → List ℕ → ℕ → Settings → Scene
-flowSight9 flags parts fills off low g = sight9 flags parts [] fills off low g
-
 -- stage 3 has passed: every liquid cell's ρ' and j' are in their ranges; and whatever is no wall has all its neighbours
 pub record Tested9 (flags : List ℕ) (parts : List ℤ) (fills off : List ℕ) (low : ℕ) (g : Settings) : Type 0 where
   pub count : length parts ≡ 9 * length flags
@@ -34,7 +30,7 @@ pub record Tested9 (flags : List ℕ) (parts : List ℤ) (fills off : List ℕ) 
 pub record Fertile9 (flags : List ℕ) (parts : List ℤ) (fills off : List ℕ) (low : ℕ) (g : Settings) (flags2 : List ℕ) : Type 0 where
   pub tested : Tested9 flags parts fills off low g
   pub count : length flags2 ≡ length flags
-  pub fed : (c : ℕ) → c < length flags → newlyBorn flags flags2 c ≡ true → 0 < liquidNear (flowSight9 flags parts fills off low g) c
+  pub fed : (c : ℕ) → c < length flags → newlyBorn flags flags2 c ≡ true → 0 < liquidNear (sight9 flags parts [] fills off low g) c
 
 -- cell c's parts are written, and fair says whether they keep a liquid cell's rules
 pub record Placed9 (S : Scene) (c : ℕ) (before after : List ℤ) (fair : Bool) : Type 0 where

@@ -4,29 +4,22 @@ use mathlib.Core.Bool.{Bool, false}
 use mathlib.Core.List.{List}
 use Prim.Native.Nat.{ℕ, _*_}
 use lib.IntN.{ℤ, pos}
-use lib.ListN.{length, getD}
+use lib.ListN.{length}
 use Rattle.lattice.specs.declared.Settings.{Settings}
-use Rattle.grid.specs.State.{Lent, Scene}
-use Rattle.grid.specs.Mode.{sceneBy}
+use Rattle.grid.specs.State.{Lent}
 use Rattle.flow.specs.Flowed.{MovedTo}
 use Rattle.turn.specs.Turned.{TurnedTo}
 use Rattle.flume.specs.declared.FlumeSides.{FlumeSides}
-use Rattle.flume.specs.Flume.{flumeCells, flumeGrid}
-use Rattle.flume.specs.Spread.{spreadLattice, spreadGrid}
+use Rattle.flume.specs.Flume.{flumeCells}
 use Rattle.nine.specs.Cells.{partOf9}
 use Rattle.flumegrid.specs.Ready.{FlumeReady}
-
--- the step's scene of a set among the nineteen places: the flume's own scene, spread (proofs/Fields.antt)
-abbrev pub turnScene : FlumeSides → Settings → Lent → Scene
-turnScene s g a =
-    sceneBy spreadLattice (spreadGrid (flumeGrid s))
-    (record { flag = λ c. getD (a .flags) c 3; part = partOf9 (a .parts); mass = λ c. getD (a .masses) c (pos 0); fill = λ c. getD (a .fills) c 0; carry = getD (a .carry) 0 (pos 0) }) g
+use Rattle.flumeflow.specs.Flowed.{wideScene}
 
 -- what the conversion asks: a set that is ready under settings with gy = 0, stages 1 to 4 made, and room for flags and carry
 pub record FlumeTurning (s : FlumeSides) (g : Settings) (a : Lent) (flags : List ℕ) (parts masses carry : List ℤ) (marks : List ℕ) (still : Bool) : Type 0 where
   pub ready : FlumeReady s (record { p = g .p; gx = g .gx; gz = g .gz; turbulent = g .turbulent }) a
   pub level : g .gy ≡ pos 0
-  pub moved : MovedTo (turnScene s g a) (flumeCells s) (partOf9 parts) masses marks false still
+  pub moved : MovedTo (wideScene s g a) (flumeCells s) (partOf9 parts) masses marks false still
   pub flags-room : length flags ≡ flumeCells s
   pub parts-room : length parts ≡ 9 * flumeCells s
   pub carry-room : length carry ≡ 1
@@ -34,4 +27,4 @@ pub record FlumeTurning (s : FlumeSides) (g : Settings) (a : Lent) (flags : List
 -- the conversion is made: flags, parts, masses and carry are the next state's, and no mark is left
 pub record FlumeTurned (s : FlumeSides) (g : Settings) (a : Lent) (flags : List ℕ) (parts masses carry : List ℤ) (marks : List ℕ) (fair : Bool) : Type 0 where
   pub parts-there : length parts ≡ 9 * flumeCells s
-  pub turned : TurnedTo (turnScene s g a) (flumeCells s) flags (partOf9 parts) masses carry marks fair
+  pub turned : TurnedTo (wideScene s g a) (flumeCells s) flags (partOf9 parts) masses carry marks fair

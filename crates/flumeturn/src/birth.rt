@@ -16,13 +16,15 @@ use turn::birth::joined;
 use turn::birth::mean;
 ghost use mathlib.Core.Path.{_≡_};
 ghost use mathlib.Core.Bool.{true};
+ghost use mathlib.Core.List.{[]};
 ghost use Prim.Native.Nat.{_+_, _*_, _<_, _≤_};
 ghost use lib.ListN.{length, getD};
 ghost use Rattle.grid.specs.State.{liquid};
 ghost use Rattle.grid.specs.Step.{liquidNear};
 ghost use Rattle.grid.specs.Sight.{Around};
 ghost use Rattle.turn.specs.Born.{Roomy, NewFlow, Added, Begins, newlyBorn};
-ghost use Rattle.flumeturn.specs.Born.{flowSight9, Tested9, Fertile9, Placed9, Visited9, Peopled9};
+ghost use Rattle.flumeflow.specs.Seen.{sight9};
+ghost use Rattle.flumeturn.specs.Born.{Tested9, Fertile9, Placed9, Visited9, Peopled9};
 
 // The flow of liquid cell b after stage 3.
 fn flow_at9(
@@ -35,7 +37,7 @@ fn flow_at9(
     g: Settings,
 ) -> Flow
     requires { ⌜ Tested9 (now flags) (now parts) (now fill) (now off) low g × (b < length (now flags)) × (liquid (getD (now flags) b 3) ≡ true) ⌝ }
-    ensures { λ r. ⌜ NewFlow (flowSight9 (now (flags .entry)) (now (parts .entry)) (now (fill .entry)) (now (off .entry)) low g) b r ⌝ }
+    ensures { λ r. ⌜ NewFlow (sight9 (now (flags .entry)) (now (parts .entry)) [] (now (fill .entry)) (now (off .entry)) low g) b r ⌝ }
 {
     pulled(flow_of(streamed9(flags, parts, fill, off, low, b)), g)
 }
@@ -52,7 +54,7 @@ fn with_cell9(
     g: Settings,
 ) -> Sum
     requires { ⌜ Tested9 (now flags) (now parts) (now fill) (now off) low g × (b < length (now flags)) × Roomy t ⌝ }
-    ensures { λ r. ⌜ Added (flowSight9 (now (flags .entry)) (now (parts .entry)) (now (fill .entry)) (now (off .entry)) low g) t b r ⌝ }
+    ensures { λ r. ⌜ Added (sight9 (now (flags .entry)) (now (parts .entry)) [] (now (fill .entry)) (now (off .entry)) low g) t b r ⌝ }
 {
     if is_liquid(flags[b]) {
         return joined(t, flow_at9(flags, parts, fill, off, low, b, g));
@@ -70,8 +72,8 @@ fn mean_flow9(
     c: usize,
     g: Settings,
 ) -> Flow
-    requires { ⌜ Tested9 (now flags) (now parts) (now fill) (now off) low g × Around (length (now flags)) (now off) low c × (0 < liquidNear (flowSight9 (now flags) (now parts) (now fill) (now off) low g) c) ⌝ }
-    ensures { λ r. ⌜ Begins (flowSight9 (now (flags .entry)) (now (parts .entry)) (now (fill .entry)) (now (off .entry)) low g) c r ⌝ }
+    requires { ⌜ Tested9 (now flags) (now parts) (now fill) (now off) low g × Around (length (now flags)) (now off) low c × (0 < liquidNear (sight9 (now flags) (now parts) [] (now fill) (now off) low g) c) ⌝ }
+    ensures { λ r. ⌜ Begins (sight9 (now (flags .entry)) (now (parts .entry)) [] (now (fill .entry)) (now (off .entry)) low g) c r ⌝ }
 {
     let k = c - low;
     let mut t = Sum {
@@ -100,8 +102,8 @@ fn put_born9(
     c: usize,
     g: Settings,
 ) -> bool
-    requires { ⌜ Tested9 (now flags) (now parts) (now fill) (now off) low g × Around (length (now flags)) (now off) low c × (0 < liquidNear (flowSight9 (now flags) (now parts) (now fill) (now off) low g) c) × (9 * c + 9 ≤ length (now parts2)) ⌝ }
-    ensures { λ r. ⌜ Placed9 (flowSight9 (now (flags .entry)) (now (parts .entry)) (now (fill .entry)) (now (off .entry)) low g) c (now (parts2 .entry)) (now (parts2 .exit)) r ⌝ }
+    requires { ⌜ Tested9 (now flags) (now parts) (now fill) (now off) low g × Around (length (now flags)) (now off) low c × (0 < liquidNear (sight9 (now flags) (now parts) [] (now fill) (now off) low g) c) × (9 * c + 9 ≤ length (now parts2)) ⌝ }
+    ensures { λ r. ⌜ Placed9 (sight9 (now (flags .entry)) (now (parts .entry)) [] (now (fill .entry)) (now (off .entry)) low g) c (now (parts2 .entry)) (now (parts2 .exit)) r ⌝ }
 {
     let v = equilibrium9(mean_flow9(flags, parts, fill, off, low, c, g));
     paste9(parts2, c, v);
@@ -121,7 +123,7 @@ fn visit9(
     g: Settings,
 ) -> bool
     requires { ⌜ Fertile9 (now flags) (now parts) (now fill) (now off) low g (now flags2) × (c < length (now flags)) × (length (now parts2) ≡ 9 * length (now flags)) ⌝ }
-    ensures { λ r. ⌜ Visited9 (flowSight9 (now (flags .entry)) (now (parts .entry)) (now (fill .entry)) (now (off .entry)) low g) (newlyBorn (now (flags .entry)) (now (flags2 .entry))) c (now (parts2 .entry)) (now (parts2 .exit)) r ⌝ }
+    ensures { λ r. ⌜ Visited9 (sight9 (now (flags .entry)) (now (parts .entry)) [] (now (fill .entry)) (now (off .entry)) low g) (newlyBorn (now (flags .entry)) (now (flags2 .entry))) c (now (parts2 .entry)) (now (parts2 .exit)) r ⌝ }
 {
     if is_newborn(flags[c], flags2[c]) {
         return put_born9(flags, parts, fill, parts2, off, low, c, g);
@@ -141,7 +143,7 @@ pub fn newborn9(
     g: Settings,
 ) -> bool
     requires { ⌜ Fertile9 (now flags) (now parts) (now fill) (now off) low g (now flags2) × (length (now parts2) ≡ 9 * length (now flags)) ⌝ }
-    ensures { λ r. ⌜ Peopled9 (flowSight9 (now (flags .entry)) (now (parts .entry)) (now (fill .entry)) (now (off .entry)) low g) (newlyBorn (now (flags .entry)) (now (flags2 .entry))) (length (now (flags .entry))) (now (parts2 .entry)) (now (parts2 .exit)) r ⌝ }
+    ensures { λ r. ⌜ Peopled9 (sight9 (now (flags .entry)) (now (parts .entry)) [] (now (fill .entry)) (now (off .entry)) low g) (newlyBorn (now (flags .entry)) (now (flags2 .entry))) (length (now (flags .entry))) (now (parts2 .entry)) (now (parts2 .exit)) r ⌝ }
 {
     let mut fair = true;
     let mut c = 0;

@@ -12,6 +12,7 @@ use lattice::Settings;
 use lattice::limits::fair_carry;
 ghost use mathlib.Core.Path.{_≡_};
 ghost use mathlib.Core.Bool.{false};
+ghost use Rattle.grid.specs.State.{lent};
 ghost use Rattle.flumeturn.specs.Turned.{FlumeTurning, FlumeTurned};
 
 // Passes 2 to 7. The flags are a copy of the old ones, of which pass 3 changes those that turn.
@@ -29,8 +30,8 @@ fn converted9(
     s: FlumeSides,
     g: Settings,
 ) -> bool
-    requires { ⌜ FlumeTurning s g (record { flags = now flags; parts = now parts; masses = now mass; fills = now fill; carry = now carry }) (now flags2) (now parts2) (now mass2) (now carry2) (now marks) false × (now flags2 ≡ now flags) ⌝ }
-    ensures { λ r. ⌜ FlumeTurned s g (record { flags = now (flags .entry); parts = now (parts .entry); masses = now (mass .entry); fills = now (fill .entry); carry = now (carry .entry) }) (now (flags2 .exit)) (now (parts2 .exit)) (now (mass2 .exit)) (now (carry2 .exit)) (now (marks .exit)) r ⌝ }
+    requires { ⌜ FlumeTurning s g (lent (now flags) (now parts) (now mass) (now fill) (now carry)) (now flags2) (now parts2) (now mass2) (now carry2) (now marks) false × (now flags2 ≡ now flags) ⌝ }
+    ensures { λ r. ⌜ FlumeTurned s g (lent (now (flags .entry)) (now (parts .entry)) (now (mass .entry)) (now (fill .entry)) (now (carry .entry))) (now (flags2 .exit)) (now (parts2 .exit)) (now (mass2 .exit)) (now (carry2 .exit)) (now (marks .exit)) r ⌝ }
 {
     let off = neighbours::offsets(s);
     let low = neighbours::low_of(s);
@@ -60,8 +61,8 @@ pub fn turned9(
     s: FlumeSides,
     g: Settings,
 ) -> bool
-    requires { ⌜ FlumeTurning s g (record { flags = now flags; parts = now parts; masses = now mass; fills = now fill; carry = now carry }) (now flags2) (now parts2) (now mass2) (now carry2) (now marks) still ⌝ }
-    ensures { λ r. ⌜ FlumeTurned s g (record { flags = now (flags .entry); parts = now (parts .entry); masses = now (mass .entry); fills = now (fill .entry); carry = now (carry .entry) }) (now (flags2 .exit)) (now (parts2 .exit)) (now (mass2 .exit)) (now (carry2 .exit)) (now (marks .exit)) r ⌝ }
+    requires { ⌜ FlumeTurning s g (lent (now flags) (now parts) (now mass) (now fill) (now carry)) (now flags2) (now parts2) (now mass2) (now carry2) (now marks) still ⌝ }
+    ensures { λ r. ⌜ FlumeTurned s g (lent (now (flags .entry)) (now (parts .entry)) (now (mass .entry)) (now (fill .entry)) (now (carry .entry))) (now (flags2 .exit)) (now (parts2 .exit)) (now (mass2 .exit)) (now (carry2 .exit)) (now (marks .exit)) r ⌝ }
 {
     copying::copy_u8(flags, flags2);
     copying::copy_i64(carry, carry2);

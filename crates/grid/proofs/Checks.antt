@@ -14,7 +14,7 @@ use Rattle.grid.specs.declared.Sides.{Sides}
 use Rattle.grid.specs.declared.Answer.{Answer}
 use Rattle.grid.specs.declared.Answer.the-variants.{Done, Refused}
 use Rattle.grid.specs.Grid.{cellsOf, gridOf, box, sidesGood}
-use Rattle.grid.specs.State.{Lent, stateOf}
+use Rattle.grid.specs.State.{Lent, lent, stateOf}
 use Rattle.grid.specs.Good.{badFlag, badFluid, badRule, cellGood, dryGood, interfaceGood, fluidGood, fillGood}
 use Rattle.grid.specs.Outcome.{orRefuse, ifNone, goodAnswer, lengthsGood, checkAnswer}
 use Rattle.grid.specs.Passes.{flagOf}
@@ -69,15 +69,15 @@ module _ (s : Sides) (a : Lent) where
         goes-through h = sym (third ∙ skip (suc n) 6 broken Done (omega arith))
 
 same : (n : ℕ) (a : Lent)
-    → badRule d3q19 n (stateOf 18 (record { flags = a .flags; parts = a .parts; masses = a .masses; fills = a .fills; carry = getD (a .carry) 0 (pos 0) ∷ [] })) ≡ badRule d3q19 n (stateOf 18 a)
+    → badRule d3q19 n (stateOf 18 (lent (a .flags) (a .parts) (a .masses) (a .fills) (getD (a .carry) 0 (pos 0) ∷ []))) ≡ badRule d3q19 n (stateOf 18 a)
 unfolding badRule cellGood dryGood interfaceGood fluidGood fillGood stateOf
 same n a = refl
 
 -- test 6 looks at the carry's one number
 pub one-carry : (n : ℕ) (a : Lent) (z : ℤ) → z ≡ getD (a .carry) 0 (pos 0)
-    → badRule d3q19 n (stateOf 18 (record { flags = a .flags; parts = a .parts; masses = a .masses; fills = a .fills; carry = z ∷ [] })) ≡ badRule d3q19 n (stateOf 18 a)
+    → badRule d3q19 n (stateOf 18 (lent (a .flags) (a .parts) (a .masses) (a .fills) (z ∷ []))) ≡ badRule d3q19 n (stateOf 18 a)
 one-carry n a z e =
-    ap (λ (y : ℤ). badRule d3q19 n (stateOf 18 (record { flags = a .flags; parts = a .parts; masses = a .masses; fills = a .fills; carry = y ∷ [] }))) e ∙ same n a
+    ap (λ (y : ℤ). badRule d3q19 n (stateOf 18 (lent (a .flags) (a .parts) (a .masses) (a .fills) (y ∷ [])))) e ∙ same n a
 
 -- ---- tests 1 and 2 before them
 

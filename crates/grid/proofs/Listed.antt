@@ -1,4 +1,5 @@
--- A state tabulated as a lent set, and read back, is the same on the grid's cells; and the set's slices are of their exact lengths. Assumes nothing.
+-- A state tabulated as a lent set, and read back, is the same on the grid's cells; and the set's slices are of their exact lengths. Equal lists make
+-- an equal set. Assumes nothing.
 use mathlib.Core.Path.{_≡_, refl, sym, ap, ap₂, _∙_, subst}
 use mathlib.Core.Bool.{Bool, true, _&&_}
 use mathlib.Core.List.{List, [], _∷_}
@@ -12,9 +13,13 @@ use lib.ListN.{length, getD}
 use borrow.Author.Tests.{eq-eqb}
 use Rattle.whole.specs.Fold.{tab}
 use Rattle.whole.specs.Tab.{length-tab, getD-tab}
-use Rattle.grid.specs.State.{Lent, State, stateOf, lentOf}
+use Rattle.grid.specs.State.{Lent, lent, State, stateOf, lentOf}
 use Rattle.grid.specs.Outcome.{lengthsFit, lengthsGood}
 use Rattle.grid.specs.Demands.{Same}
+
+-- equal lists make an equal set
+pub same-lent : {a b : Lent} → a .flags ≡ b .flags → a .parts ≡ b .parts → a .masses ≡ b .masses → a .fills ≡ b .fills → a .carry ≡ b .carry → a ≡ b
+same-lent f p m l c i = lent (f i) (p i) (m i) (l i) (c i)
 
 -- part k of cell c stands at (q + 1)c + k
 module _ (q n c k : ℕ) (hc : c < n) (hk : k ≤ q) where

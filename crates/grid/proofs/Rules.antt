@@ -20,23 +20,22 @@ use Rattle.whole.specs.Search.{first-is, first-all}
 use Rattle.lattice.specs.Lattice.{d3q19, density}
 use Rattle.lattice.specs.Cell.{carryGood, massGood, fillOf}
 use Rattle.lattice.specs.Body.{partsOf, bodyGood, goodFluid, goodInterface, eqZ}
-use Rattle.grid.specs.State.{State, stateOf, liquid, byFlag}
+use Rattle.grid.specs.State.{lent, State, stateOf, liquid, byFlag}
 use Rattle.grid.specs.Step.{fillFor}
 use Rattle.grid.specs.Good.{dryGood, interfaceGood, fluidGood, fillGood, cellGood, badRule}
-use Rattle.grid.specs.Passes.{carryless}
 use Rattle.lattice.proofs.Equal.{eqZ-true}
 use Rattle.grid.proofs.Lists.{getD-there}
 use Rattle.grid.proofs.Same.{body-same, density-same, zeros-same}
 
 module _ (flags : List ℕ) (parts masses : List ℤ) (fills : List ℕ) (carry : ℤ) where
   abbrev S : State
-  S = stateOf 18 (record { flags = flags; parts = parts; masses = masses; fills = fills; carry = carry ∷ [] })
+  S = stateOf 18 (lent flags parts masses fills (carry ∷ []))
 
   abbrev n : ℕ
   n = length flags
 
   -- a cell's rules do not look at the carry
-  same-cell : (c : ℕ) → cellGood d3q19 S c ≡ cellGood d3q19 (stateOf 18 (carryless flags parts masses fills)) c
+  same-cell : (c : ℕ) → cellGood d3q19 S c ≡ cellGood d3q19 (stateOf 18 (lent flags parts masses fills (pos 0 ∷ []))) c
   unfolding cellGood dryGood interfaceGood fluidGood fillGood stateOf
   same-cell c = refl
 
@@ -47,7 +46,7 @@ module _ (flags : List ℕ) (parts masses : List ℤ) (fills : List ℕ) (carry 
   abbrev broken : ℕ → Bool
   broken c = cond (eqb c n) (not (carryGood (S .carry))) (not (cellGood d3q19 S c))
 
-  at-cell : (c : ℕ) (b : Bool) → c < n → cellGood d3q19 (stateOf 18 (carryless flags parts masses fills)) c ≡ b → broken c ≡ not b
+  at-cell : (c : ℕ) (b : Bool) → c < n → cellGood d3q19 (stateOf 18 (lent flags parts masses fills (pos 0 ∷ []))) c ≡ b → broken c ≡ not b
   at-cell c b h e =
       cond-no (not (carryGood (S .carry))) (not (cellGood d3q19 S c)) (ne-eqb c n (λ p. absurd (omega arith))) ∙ ap not (same-cell c ∙ e)
 
@@ -55,8 +54,8 @@ module _ (flags : List ℕ) (parts masses : List ℤ) (fills : List ℕ) (carry 
   at-carry c b h e =
       cond-yes (not (carryGood (S .carry))) (not (cellGood d3q19 S c)) (eq-eqb c n h) ∙ ap not (ap carryGood same-carry ∙ e)
 
-  module _ (c : ℕ) (good : (j : ℕ) → j < c → cellGood d3q19 (stateOf 18 (carryless flags parts masses fills)) j ≡ true) where
-    pub bad-cell : c < n → cellGood d3q19 (stateOf 18 (carryless flags parts masses fills)) c ≡ false → c ≡ badRule d3q19 n S
+  module _ (c : ℕ) (good : (j : ℕ) → j < c → cellGood d3q19 (stateOf 18 (lent flags parts masses fills (pos 0 ∷ []))) j ≡ true) where
+    pub bad-cell : c < n → cellGood d3q19 (stateOf 18 (lent flags parts masses fills (pos 0 ∷ []))) c ≡ false → c ≡ badRule d3q19 n S
     unfolding badRule
     bad-cell h e =
         sym (first-is (suc n) broken c (omega arith) (λ j k. at-cell j true (omega arith) (good j k)) (at-cell c false h e))
@@ -111,7 +110,7 @@ dry-cases (suc (suc (suc n))) none zeros interface fluid m ρ φ l = ap (λ (b :
 
 module _ (flags : List ℕ) (parts masses : List ℤ) (fills : List ℕ) (c : ℕ) (there : c < length flags) (v : List ℤ) (own : v ≡ tab 19 (λ k. getD parts (19 * c + k) (pos 0))) where
   abbrev T : State
-  T = stateOf 18 (carryless flags parts masses fills)
+  T = stateOf 18 (lent flags parts masses fills (pos 0 ∷ []))
 
   abbrev read : ℕ → ℤ
   read k = getD v k (pos 0)

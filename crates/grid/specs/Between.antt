@@ -1,7 +1,6 @@
 -- What the passes of a step ask, and what they hold on the way, in terms of the stages' definitions. Assumes nothing.
 use mathlib.Core.Path.{_≡_}
 use mathlib.Core.Bool.{Bool, true, cond}
-use mathlib.Core.List.{List, []}
 use Prim.Native.Nat.{ℕ, _*_, _<_}
 use lib.IntN.{ℤ, pos, _+ℤ_}
 use lib.Dec.{eqb}
@@ -32,13 +31,6 @@ pub record Ready (s : Sides) (g : Settings) (a : Lent) : Type 0 where
   pub sized : Sized (cellsOf s) a
   pub settings : settingsGood g ≡ true
   pub good : goodAnswer d3q19 (gridOf s) (stateOf 18 a) Done ≡ Done
-
--- a set of lists, and one with no carry, for a pass that is not lent one: no stage but the last sum of stage 6 reads it
-abbrev pub carried : List ℕ → List ℤ → List ℤ → List ℕ → List ℤ → Lent
-carried flags parts masses fills carry = record { flags = flags; parts = parts; masses = masses; fills = fills; carry = carry }
-
-abbrev pub uncarried : List ℕ → List ℤ → List ℤ → List ℕ → Lent
-uncarried flags parts masses fills = carried flags parts masses fills []
 
 -- the same as Ready, cell by cell and without the carry: what a pass over all cells asks
 pub record Poised (s : Sides) (g : Settings) (a : Lent) : Type 0 where

@@ -3,7 +3,7 @@
 use Prim.Native.Nat.{ℕ, _+_, _-_, _<_, _≤_}
 use mathlib.Core.Path.{_≡_}
 use mathlib.Core.Bool.{Bool, true, false, _&&_, _||_, not, cond}
-use mathlib.Core.List.{List, [], _∷_}
+use mathlib.Core.List.{List}
 use lib.IntN.{ℤ, pos, _-ℤ_}
 use lib.Dec.{leb, ltb, eqb}
 use lib.ListN.{length, getD}
@@ -12,7 +12,7 @@ use Rattle.lattice.specs.Lattice.{V3, d3q19}
 use Rattle.grid.specs.declared.Sides.{Sides}
 use Rattle.grid.specs.declared.layer.Place.{Place}
 use Rattle.grid.specs.Grid.{cellAt, atEnd, toward, cellsOf, sidesGood, gridOf}
-use Rattle.grid.specs.State.{Lent, byFlag}
+use Rattle.grid.specs.State.{byFlag}
 use Rattle.grid.specs.Step.{flagAfter}
 use Rattle.grid.specs.Good.{flagGood, badFlag}
 
@@ -219,12 +219,6 @@ pub record Marked (s : Sides) (flags marks : List ℕ) : Type 0 where
   pub flagged : Flagged s flags
   pub count : length marks ≡ cellsOf s
   pub only : (c : ℕ) → c < length marks → (getD flags c 0 ≡ 1 → ⊥) → getD marks c 0 ≡ 0
-
--- ---- test 6 of one cell
-
--- the set that a function of one cell is lent, which has no carry to look at
-abbrev pub carryless : List ℕ → List ℤ → List ℤ → List ℕ → Lent
-carryless flags parts masses fills = record { flags = flags; parts = parts; masses = masses; fills = fills; carry = pos 0 ∷ [] }
 
 -- names every definition of this file: whoever unfolds this computes with all of them
 unfoldable pub open-passes : Unit {0}

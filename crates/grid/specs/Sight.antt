@@ -30,11 +30,8 @@ weighing w = record {
   zm = d3q19 .zm;
 }
 
--- no gravity, for a function that is lent no settings
-abbrev pub noSettings : Settings
-noSettings = record { p = pos 0; gx = pos 0; gy = pos 0; gz = pos 0; turbulent = false }
-
--- the scene: neighbour i of cell c is (c − low) + off[i]; masses are [] for a function that is lent none, and none is lent the carry
+-- the scene: neighbour i of cell c is (c − low) + off[i]; masses are [] for a function that is lent none, and none is lent the carry;
+-- a function that is lent no settings promises for any
 unfoldable pub sight : (ℕ → ℕ) → List ℕ → (ℕ → ℕ → ℤ) → List ℤ → List ℕ → List ℕ → ℕ → Settings → Scene
 sight w flags part masses fills off low g =
     sceneBy (weighing w) (record { cells = length flags; near = λ c i. (c - low) + getD off i 0; outer = λ c. false })

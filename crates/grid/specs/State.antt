@@ -38,13 +38,7 @@ stateOf q a = record {
 }
 
 unfoldable pub lentOf : ℕ → ℕ → State → Lent
-lentOf q n s = record {
-  flags = tab n (s .flag);
-  parts = tab (suc q * n) (λ m. s .part (m / suc q) (m % suc q));
-  masses = tab n (s .mass);
-  fills = tab n (s .fill);
-  carry = s .carry ∷ [];
-}
+lentOf q n s = lent (tab n (s .flag)) (tab (suc q * n) (λ m. s .part (m / suc q) (m % suc q))) (tab n (s .mass)) (tab n (s .fill)) (s .carry ∷ [])
 
 -- what goes by a flag: 0 empty, 1 interface, 2 fluid, 3 wall
 module _ {ℓ} {A : Type ℓ} where

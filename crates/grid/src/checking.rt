@@ -13,19 +13,19 @@ ghost use mathlib.Core.Path.{_≡_};
 ghost use mathlib.Core.Bool.{true};
 ghost use mathlib.Core.List.{[], _∷_};
 ghost use Prim.Native.Nat.{_<_};
+ghost use lib.IntN.{pos};
 ghost use lib.ListN.{length};
 ghost use Rattle.lattice.specs.Lattice.{d3q19};
 ghost use Rattle.grid.specs.Grid.{sidesGood, cellsOf, gridOf};
-ghost use Rattle.grid.specs.State.{stateOf};
+ghost use Rattle.grid.specs.State.{lent, stateOf};
 ghost use Rattle.grid.specs.Good.{cellGood, badRule};
 ghost use Rattle.grid.specs.Outcome.{goodAnswer, checkAnswer};
 ghost use Rattle.grid.specs.Between.{Sized};
-ghost use Rattle.grid.specs.Passes.{carryless};
 
 // Whether cell c keeps test 6's rules.
 fn good_cell(flags: &[u8], parts: &[i32], masses: &[i32], fills: &[u32], c: usize) -> bool
-    requires { ⌜ (c < length (now flags)) × Sized (length (now flags)) (carryless (now flags) (now parts) (now masses) (now fills)) ⌝ }
-    ensures { λ r. ⌜ r ≡ cellGood d3q19 (stateOf 18 (carryless (now (flags .entry)) (now (parts .entry)) (now (masses .entry)) (now (fills .entry)))) c ⌝ }
+    requires { ⌜ (c < length (now flags)) × Sized (length (now flags)) (lent (now flags) (now parts) (now masses) (now fills) (pos 0 ∷ [])) ⌝ }
+    ensures { λ r. ⌜ r ≡ cellGood d3q19 (stateOf 18 (lent (now (flags .entry)) (now (parts .entry)) (now (masses .entry)) (now (fills .entry)) (pos 0 ∷ []))) c ⌝ }
 {
     let f = flags[c];
     let v = cells::own(parts, c);
@@ -37,8 +37,8 @@ fn good_cell(flags: &[u8], parts: &[i32], masses: &[i32], fills: &[u32], c: usiz
 
 // Test 6, and test 8: the lowest cell that breaks a rule, N for the carry alone, N + 1 if nothing is broken.
 pub fn first_bad(flags: &[u8], parts: &[i32], masses: &[i32], fills: &[u32], carry: i64) -> usize
-    requires { ⌜ Sized (length (now flags)) (record { flags = now flags; parts = now parts; masses = now masses; fills = now fills; carry = carry ∷ [] }) ⌝ }
-    ensures { λ r. ⌜ r ≡ badRule d3q19 (length (now (flags .entry))) (stateOf 18 (record { flags = now (flags .entry); parts = now (parts .entry); masses = now (masses .entry); fills = now (fills .entry); carry = carry ∷ [] })) ⌝ }
+    requires { ⌜ Sized (length (now flags)) (lent (now flags) (now parts) (now masses) (now fills) (carry ∷ [])) ⌝ }
+    ensures { λ r. ⌜ r ≡ badRule d3q19 (length (now (flags .entry))) (stateOf 18 (lent (now (flags .entry)) (now (parts .entry)) (now (masses .entry)) (now (fills .entry)) (carry ∷ []))) ⌝ }
 {
     let mut c = 0;
     while c < flags.len() {
@@ -62,8 +62,8 @@ pub fn checked(
     carry: &[i64],
     s: Sides,
 ) -> Answer
-    requires { ⌜ (sidesGood s ≡ true) × Sized (cellsOf s) (record { flags = now flags; parts = now parts; masses = now masses; fills = now fills; carry = now carry }) ⌝ }
-    ensures { λ r. ⌜ r ≡ goodAnswer d3q19 (gridOf s) (stateOf 18 (record { flags = now (flags .entry); parts = now (parts .entry); masses = now (masses .entry); fills = now (fills .entry); carry = now (carry .entry) })) Answer.Done ⌝ }
+    requires { ⌜ (sidesGood s ≡ true) × Sized (cellsOf s) (lent (now flags) (now parts) (now masses) (now fills) (now carry)) ⌝ }
+    ensures { λ r. ⌜ r ≡ goodAnswer d3q19 (gridOf s) (stateOf 18 (lent (now (flags .entry)) (now (parts .entry)) (now (masses .entry)) (now (fills .entry)) (now (carry .entry)))) Answer.Done ⌝ }
 {
     let n = flags.len();
     let flagged = layer::first_bad_flag(flags, s);
@@ -90,7 +90,7 @@ pub fn check(
     carry: &[i64],
     s: Sides,
 ) -> Answer
-    ensures { λ r. ⌜ r ≡ checkAnswer s (record { flags = now (flags .entry); parts = now (parts .entry); masses = now (masses .entry); fills = now (fills .entry); carry = now (carry .entry) }) ⌝ }
+    ensures { λ r. ⌜ r ≡ checkAnswer s (lent (now (flags .entry)) (now (parts .entry)) (now (masses .entry)) (now (fills .entry)) (now (carry .entry))) ⌝ }
 {
     if !extent::good_sides(s) {
         return Answer::Refused(1, 0);

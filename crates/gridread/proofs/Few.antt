@@ -15,10 +15,9 @@ use Rattle.tunnel.specs.declared.CellPoint.{CellPoint}
 use Rattle.tunnel.specs.declared.Depth.{Depth}
 use Rattle.tunnel.specs.declared.Depth.the-variants.{Deep}
 use Rattle.tunnel.specs.Refusal.{orElse}
-use Rattle.tunnel.specs.Exact.{Exactly, Parts}
+use Rattle.tunnel.specs.Exact.{Parts}
 use Rattle.tunnel.specs.Point.{WholePoint, PointIs, refused, centreOf, pointOf}
-use Rattle.tunnel.specs.Depth.{Reading, DepthIs, is-refused, is-solid, is-dry, is-deep, depthOf}
-use Rattle.tunnel.specs.Kinds.{readingSum}
+use Rattle.tunnel.specs.Depth.{DepthIs, depthOf}
 use Rattle.tunnel.proofs.Cells.{coordinates}
 use Rattle.tunnel.proofs.Few.{few-depth}
 
@@ -68,13 +67,8 @@ point-parts s fills c i =
     }
 
 -- ---- depth
-deep-parts : {r : Depth} {w : Reading} (d : Float) → readingSum w < 16777216 → DepthIs r w → r ≡ Deep d → Parts d 65536
-deep-parts d f is-refused e = absurd (let z : _≡_ {A = ℕ} 0 1 = cc in omega arith)
-deep-parts d f is-solid e = absurd (let z : _≡_ {A = ℕ} 0 1 = cc in omega arith)
-deep-parts d f is-dry e = absurd (let z : _≡_ {A = ℕ} 0 1 = cc in omega arith)
-deep-parts d f (is-deep {depth = x} {sum = n} h) e =
-    let i : x ≡ d = cc in
-    record { count = n; few = f; is = subst (λ (y : Float). Exactly y n 65536) i h }
-
 pub depth-parts : (s : Sides) (flags fills : List ℕ) (x y : ℕ) {r : Depth} (d : Float) → DepthIs r (depthOf s flags fills x y) → r ≡ Deep d → Parts d 65536
-depth-parts s flags fills x y d i e = deep-parts d (few-depth s flags fills x y) i e
+depth-parts s flags fills x y d i e =
+    let w = depthOf s flags fills x y in
+    let deep : DepthIs (Deep d) w = subst (λ (a : Depth). DepthIs a w) e i in
+    record { count = w .sum; few = few-depth s flags fills x y; is = deep .told .value-is }

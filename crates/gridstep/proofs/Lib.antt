@@ -1,1 +1,6 @@
 pub mod Addends
+pub mod Rooms
+pub mod Stepping
+pub mod Lines
+pub mod Going
+pub mod Demands

@@ -1,14 +1,24 @@
-// What a state's line counts: the cells of a kind, and the masses together.
+// What a state's line counts: the cells of each kind, the masses with the carry, and the carry.
 use lattice::limits::fair_carry;
 use whole::wide;
 ghost use mathlib.Core.Path.{_≡_};
 ghost use mathlib.Core.Bool.{cond};
 ghost use Prim.Native.Nat.{_≤_};
 ghost use lib.Dec.{eqb};
-ghost use lib.IntN.{pos, natAbs, _+ℤ_};
+ghost use lib.IntN.{natAbs};
 ghost use lib.ListN.{length};
-ghost use Rattle.lattice.specs.Cell.{carryGood};
-ghost use Rattle.gridstep.specs.Counts.{cellsWith, massSum};
+ghost use Rattle.gridstep.specs.Counts.{cellsWith, massSum, lineWith};
+ghost use Rattle.gridstep.specs.Playing.{totalBy};
+
+// A line's numbers, as document 01 orders them.
+pub struct Line {
+    pub fluid: usize,
+    pub interface: usize,
+    pub empty: usize,
+    pub wall: usize,
+    pub total: i64,
+    pub carry: i64,
+}
 
 fn one(flag: u8, wanted: u8) -> usize
     ensures { λ r. ⌜ r ≡ cond (eqb flag wanted) 1 0 ⌝ }
@@ -19,7 +29,7 @@ fn one(flag: u8, wanted: u8) -> usize
     0
 }
 
-pub fn cells_with(flags: &[u8], wanted: u8) -> usize
+fn cells_with(flags: &[u8], wanted: u8) -> usize
     ensures { λ r. ⌜ r ≡ cellsWith wanted (now (flags .entry)) ⌝ }
 {
     let mut found = 0;
@@ -46,12 +56,26 @@ fn mass_sum(masses: &[i32]) -> i64
 }
 
 // The masses and the carry together. A carry that no accepted record and no step gives is told as no total.
-pub fn total(masses: &[i32], carry: i64) -> i64
+fn total(masses: &[i32], carry: i64) -> i64
     requires { ⌜ length (now masses) ≤ 862 ⌝ }
-    ensures { λ r. ⌜ r ≡ cond (carryGood carry) (massSum (now (masses .entry)) +ℤ carry) (pos 0) ⌝ }
+    ensures { λ r. ⌜ r ≡ totalBy (now (masses .entry)) carry ⌝ }
 {
     if fair_carry(carry) {
         return mass_sum(masses) + carry;
     }
     0
+}
+
+pub fn counts(flags: &[u8], masses: &[i32], carry: i64) -> Line
+    requires { ⌜ length (now masses) ≤ 862 ⌝ }
+    ensures { λ r. ⌜ r ≡ lineWith (now (flags .entry)) (totalBy (now (masses .entry)) carry) carry ⌝ }
+{
+    Line {
+        fluid: cells_with(flags, 2),
+        interface: cells_with(flags, 1),
+        empty: cells_with(flags, 0),
+        wall: cells_with(flags, 3),
+        total: total(masses, carry),
+        carry,
+    }
 }

@@ -3,12 +3,22 @@ mod counting;
 mod playing;
 mod telling;
 
-use console::line;
 use console::room::room;
+use grid::Answer;
 use libc::STDIN_FILENO;
+use playing::Told;
+ghost use mathlib.Core.Path.{_≡_};
+ghost use Rattle.gridstep.specs.Told.{toldOf};
 
-// Room for 862 cells, as document 01 fixes it; a record of more is refused with 2, because the reader finds its slices too short.
-fn play(rec: &[u8]) {
+// What is told of the bytes of a record, however many. Room for 862 cells, as document 01 fixes it: 65,536 bytes over the 76 of a cell's parts, rounded
+// down. A record that is all interface has 92 + 81N bytes, 108 + 81N with three numbers in section 4, so that 807 cells fit; walls and empty cells take
+// a byte each, and a record of more than 862 cells is refused with 2, because the reader finds its slices too short.
+fn play(rec: &[u8]) -> Told
+    ensures { λ r. ⌜ r ≡ toldOf (now (rec .entry)) ⌝ }
+{
+    if rec.len() > 65536 {
+        return playing::refuse(Answer::Refused(10, 65536));
+    }
     let n = room(rec, 862);
     let mut parts = [0i32; 16378];
     let mut masses = [0i32; 862];
@@ -32,16 +42,12 @@ fn play(rec: &[u8]) {
         &mut fills2[..n],
         &mut carry2,
         &mut marks[..n],
-    );
+    )
 }
 
 // One byte more than a record may have is read, so that one too long is known.
 fn main() {
     let mut bytes = [0u8; 65537];
     let got = io::read_full(STDIN_FILENO, &mut bytes);
-    if got > 65536 {
-        line::answer(b"record", 10, 65536);
-        return;
-    }
-    play(&bytes[..got]);
+    telling::tell(play(&bytes[..got]));
 }

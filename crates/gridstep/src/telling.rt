@@ -1,28 +1,31 @@
-// The line of a state: its cells by kind, the total with the carry, and the carry.
-use crate::counting::cells_with;
-use crate::counting::total;
+// The program's text: the line of a refused record, or the lines of a state, of its step, and of the state after it.
+use crate::counting::Line;
+use crate::playing::Told;
+use console::answers::answered;
+use console::answers::refused;
 use console::line;
-ghost use Prim.Native.Nat.{_≤_};
-ghost use lib.ListN.{length};
 
-// Fluid, interface, empty and wall cells, as document 01 orders them.
-fn tell_cells(flags: &[u8]) {
-    line::count(cells_with(flags, 2));
-    line::count(cells_with(flags, 1));
-    line::count(cells_with(flags, 0));
-    line::count(cells_with(flags, 3));
+fn state(text: &[u8], l: Line) {
+    line::word(text);
+    line::count(l.fluid);
+    line::count(l.interface);
+    line::count(l.empty);
+    line::count(l.wall);
+    line::amount(l.total);
+    line::amount(l.carry);
+    line::word(b"\n");
 }
 
-pub fn tell(text: &[u8], flags: &[u8], masses: &[i32], carry: &[i64])
-    requires { ⌜ length (now masses) ≤ 862 ⌝ }
-{
-    if carry.len() == 0 {
+pub fn tell(t: Told) {
+    let read = t.read;
+    if refused(read) {
+        answered(b"record", read);
         return;
     }
-    let kept = carry[0];
-    line::word(text);
-    tell_cells(flags);
-    line::amount(total(masses, kept));
-    line::amount(kept);
-    line::word(b"\n");
+    let before = t.before;
+    let step = t.step;
+    let after = t.after;
+    state(b"before", before);
+    answered(b"step", step);
+    state(b"after", after);
 }

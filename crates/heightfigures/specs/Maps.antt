@@ -9,7 +9,7 @@ use Rattle.whole.specs.Fold.{tab}
 use Rattle.lattice.specs.Cell.{fillOf}
 use Rattle.lattice.specs.Lattice.{d3q19}
 use Rattle.grid.specs.declared.Sides.{Sides}
-use Rattle.grid.specs.State.{Lent}
+use Rattle.grid.specs.State.{Lent, lent}
 use Rattle.grid.specs.Outcome.{numberOf, placeOf}
 use Rattle.depths.specs.declared.Corner.{Corner}
 use Rattle.depths.specs.Outcome.{mapWritten, mapRoom}
@@ -41,13 +41,12 @@ abbrev none : ℕ → List ℤ
 none cells = replicate (19 * cells) (pos 0)
 
 abbrev pub water : Lent
-water = record {
-  flags = tab 80 flagAt;
-  parts = none 26 ++ (rest ++ (rest ++ (rest ++ (none 3 ++ (rest ++ none 47)))));
-  masses = tab 80 massAt;
-  fills = tab 80 (λ c. fillOf (massAt c) (pos 589824));
-  carry = pos 0 ∷ pos 0 ∷ pos 0 ∷ [];
-}
+water =
+    lent (tab 80 flagAt)
+    (none 26 ++ (rest ++ (rest ++ (rest ++ (none 3 ++ (rest ++ none 47))))))
+    (tab 80 massAt)
+    (tab 80 (λ c. fillOf (massAt c) (pos 589824)))
+    (pos 0 ∷ pos 0 ∷ pos 0 ∷ [])
 
 -- the map's 192 bytes
 abbrev pub mapBytes : List ℕ

@@ -7,7 +7,8 @@ use flumerecord::flags;
 use host::answers::number_of;
 use host::answers::place_of;
 ghost use mathlib.Core.Path.{_≡_};
-ghost use Rattle.record.specs.Promise.{flagless};
+ghost use mathlib.Core.List.{[]};
+ghost use Rattle.grid.specs.State.{lent};
 ghost use Rattle.flumerecord.specs.Layout.{flumeRecorded};
 ghost use Rattle.hostflumerecord.specs.Promise.{flumeSidesOf, flumeSettingsOf, flumeSiteOf, FlumeReadTold};
 
@@ -60,7 +61,7 @@ pub extern "C" fn skw_flume_read(
     flags_to: &mut usize,
     place: &mut usize,
 ) -> u8
-    ensures { λ r. ⌜ FlumeReadTold (now (rec .entry)) (flagless (now (parts .entry)) (now (masses .entry)) (now (fills .entry)) (now (carry .entry))) r (now (place .exit)) (flumeSidesOf (now (nx .exit)) (now (nz .exit))) (flumeSettingsOf (now (p .exit)) (now (gx .exit)) (now (gz .exit))) (flumeSiteOf (now (edge .exit)) (now (ox .exit)) (now (oz .exit))) (now («flags_from» .exit)) (now («flags_to» .exit)) (now (parts .exit)) (now (masses .exit)) (now (fills .exit)) (now (carry .exit)) ⌝ }
+    ensures { λ r. ⌜ FlumeReadTold (now (rec .entry)) (lent [] (now (parts .entry)) (now (masses .entry)) (now (fills .entry)) (now (carry .entry))) r (now (place .exit)) (flumeSidesOf (now (nx .exit)) (now (nz .exit))) (flumeSettingsOf (now (p .exit)) (now (gx .exit)) (now (gz .exit))) (flumeSiteOf (now (edge .exit)) (now (ox .exit)) (now (oz .exit))) (now («flags_from» .exit)) (now («flags_to» .exit)) (now (parts .exit)) (now (masses .exit)) (now (fills .exit)) (now (carry .exit)) ⌝ }
 {
     let h = reader::read(rec, parts, masses, fills, carry);
     let s = h.sides;

@@ -7,8 +7,9 @@ use lattice::Settings;
 use record::Site;
 use record::flags;
 ghost use mathlib.Core.Path.{_≡_};
+ghost use mathlib.Core.List.{[]};
+ghost use Rattle.grid.specs.State.{lent};
 ghost use Rattle.record.specs.Layout.{recorded};
-ghost use Rattle.record.specs.Promise.{flagless};
 ghost use Rattle.index.specs.Index.{index};
 ghost use Rattle.index.specs.Held.{held};
 ghost use Rattle.host.specs.Given.{sidesOf, settingsOf};
@@ -73,7 +74,7 @@ pub extern "C" fn skw_read(
     flags_to: &mut usize,
     place: &mut usize,
 ) -> u8
-    ensures { λ r. ⌜ ReadTold (now (rec .entry)) (held (flagless (now (parts .entry)) (now (masses .entry)) (now (fills .entry)) (now (carry .entry))) (index (now (words .entry)) (now (count .entry)))) r (now (place .exit)) (sidesOf (now (nx .exit)) (now (ny .exit)) (now (nz .exit))) (settingsOf (now (p .exit)) (now (gx .exit)) (now (gy .exit)) (now (gz .exit))) (siteOf (now (edge .exit)) (now (ox .exit)) (now (oy .exit)) (now (oz .exit))) (now («flags_from» .exit)) (now («flags_to» .exit)) (now (parts .exit)) (now (masses .exit)) (now (fills .exit)) (now (carry .exit)) (index (now (words .exit)) (now (count .exit))) ⌝ }
+    ensures { λ r. ⌜ ReadTold (now (rec .entry)) (held (lent [] (now (parts .entry)) (now (masses .entry)) (now (fills .entry)) (now (carry .entry))) (index (now (words .entry)) (now (count .entry)))) r (now (place .exit)) (sidesOf (now (nx .exit)) (now (ny .exit)) (now (nz .exit))) (settingsOf (now (p .exit)) (now (gx .exit)) (now (gy .exit)) (now (gz .exit))) (siteOf (now (edge .exit)) (now (ox .exit)) (now (oy .exit)) (now (oz .exit))) (now («flags_from» .exit)) (now («flags_to» .exit)) (now (parts .exit)) (now (masses .exit)) (now (fills .exit)) (now (carry .exit)) (index (now (words .exit)) (now (count .exit))) ⌝ }
 {
     let h = reader::read(rec, parts, masses, fills, carry, words, count);
     let s = h.sides;

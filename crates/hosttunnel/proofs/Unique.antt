@@ -1,5 +1,5 @@
 -- Unique: no second number, place or value, and no second content of a lent slice, fits what an exported call promises. Assumes nothing.
-use mathlib.Core.Path.{_≡_, sym, _∙_}
+use mathlib.Core.Path.{_≡_, sym, ap, _∙_}
 use mathlib.Core.List.{List}
 use Prim.Native.Nat.{ℕ}
 use lib.Dec.{lit<}
@@ -9,9 +9,9 @@ use lib.ListN.{length}
 use Rattle.grid.specs.declared.Sides.{Sides}
 use Rattle.tunnel.specs.declared.Point.{Point}
 use Rattle.tunnel.specs.Point.{WholePoint}
-use Rattle.tunnel.specs.Depth.{Reading}
+use Rattle.tunnel.specs.Depth.{Reading, Told}
 use Rattle.tunnel.proofs.Floats.{exactly-one}
-use Rattle.tunnel.specs.Kinds.{readingSum}
+use Rattle.tunnel.proofs.Unique.{told-one}
 use Rattle.profile.specs.Profile.{Survey}
 use Rattle.profile.specs.Outcome.{testsAnswer}
 use Rattle.profile.proofs.Telling.{by-one}
@@ -28,8 +28,9 @@ point-unique {w = w} x y =
     (x .number-is ∙ sym (y .number-is), x .place-is ∙ sym (y .place-is), exactly-one _ _ (w .x) 2 (lit< tt) (x .x-is) (y .x-is), exactly-one _ _ (w .y) 2 (lit< tt) (x .y-is) (y .y-is), exactly-one _ _ (w .z) 2 (lit< tt) (x .z-is) (y .z-is), exactly-one _ _ (w .fill) 65536 (lit< tt) (x .fill-is) (y .fill-is))
 
 pub depth-unique : {w : Reading} {n m p q i j : ℕ} {d e : Float} → DepthTold w n p i d → DepthTold w m q j e → (n ≡ m) × (p ≡ q) × (i ≡ j) × (d ≡ e)
-depth-unique {w = w} x y =
-    (x .number-is ∙ sym (y .number-is), x .place-is ∙ sym (y .place-is), x .kind-is ∙ sym (y .kind-is), exactly-one _ _ (readingSum w) 65536 (lit< tt) (x .depth-is) (y .depth-is))
+depth-unique x y =
+    let e = told-one x y in
+    (ap (λ (t : Told). t .number) e, ap (λ (t : Told). t .place) e, ap (λ (t : Told). t .kind) e, ap (λ (t : Told). t .value) e)
 
 -- every `f32` of the lines
 pub profile-unique : (v : Survey) (chainages : List ℤ) (kinds : List ℕ) (depths : List Float) {n m p q w u i j : ℕ} {k l : List ℕ} {d e : List Float}

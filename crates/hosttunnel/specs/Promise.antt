@@ -11,8 +11,7 @@ use Rattle.tunnel.specs.Place as placing
 use Rattle.tunnel.specs.Place.{refusalNumber, refusalPlace, cellNumber}
 use Rattle.tunnel.specs.Exact.{Exactly}
 use Rattle.tunnel.specs.Point.{WholePoint}
-use Rattle.tunnel.specs.Depth.{Reading}
-use Rattle.tunnel.specs.Kinds.{readingNumber, readingPlace, readingKind, readingSum}
+use Rattle.tunnel.specs.Depth.{Reading, Tells}
 use Rattle.profile.specs.declared.Frame.{Frame}
 use Rattle.profile.specs.Profile.{Survey}
 use Rattle.profile.specs.Outcome.{profileAnswer, profiledNumber, profiledPlace, wetOf, deepestOf, testsAnswer, kindsBy, DepthsBy}
@@ -39,12 +38,9 @@ pub record PointTold (w : WholePoint) (number place : ℕ) (x y z fill : Float) 
   pub z-is : Exactly z (w .z) 2
   pub fill-is : Exactly fill (w .fill) 65536
 
--- depth: number, place, kind, and an `f32`, exact, 0 unless deep
-pub record DepthTold (w : Reading) (number place kind : ℕ) (depth : Float) : Type 0 where
-  pub number-is : number ≡ readingNumber w
-  pub place-is : place ≡ readingPlace w
-  pub kind-is : kind ≡ readingKind w
-  pub depth-is : Exactly depth (readingSum w) 65536
+-- depth: number, place, kind, and an `f32`, exact, 0 unless deep; as the layer's own promise has them
+abbrev pub DepthTold : Reading → ℕ → ℕ → ℕ → Float → Type 0
+DepthTold w number place kind depth = Tells (record { number = number; place = place; kind = kind; value = depth }) w
 
 -- the profile: number, place, whether a point is wet, the deepest point, and the lines: kinds, and `f32`, each exact
 pub record ProfileTold (v : Survey) (chainages : List ℤ) (kinds : List ℕ) (depths : List Float) (number place wet deepest : ℕ) (kindsAfter : List ℕ) (depthsAfter : List Float) : Type 0 where

@@ -10,8 +10,9 @@ use record::given::opening;
 use record::given::sides_in;
 use record::section::passed;
 ghost use mathlib.Core.Path.{_≡_};
+ghost use mathlib.Core.List.{[]};
 ghost use Rattle.grid.specs.declared.Answer.the-variants.{Done};
-ghost use Rattle.record.specs.Promise.{flagless};
+ghost use Rattle.grid.specs.State.{lent};
 ghost use Rattle.index.specs.Index.{index};
 ghost use Rattle.index.specs.Held.{held};
 ghost use Rattle.intake.specs.Reading.{openAnswer};
@@ -49,7 +50,7 @@ pub fn read(
     words: &mut [u64],
     count: &mut [u64],
 ) -> Head
-    ensures { λ r. ⌜ Read (now (rec .entry)) (held (flagless (now (parts .entry)) (now (masses .entry)) (now (fills .entry)) (now (carry .entry))) (index (now (words .entry)) (now (count .entry)))) r (now (parts .exit)) (now (masses .exit)) (now (fills .exit)) (now (carry .exit)) (index (now (words .exit)) (now (count .exit))) ⌝ }
+    ensures { λ r. ⌜ Read (now (rec .entry)) (held (lent [] (now (parts .entry)) (now (masses .entry)) (now (fills .entry)) (now (carry .entry))) (index (now (words .entry)) (now (count .entry)))) r (now (parts .exit)) (now (masses .exit)) (now (fills .exit)) (now (carry .exit)) (index (now (words .exit)) (now (count .exit))) ⌝ }
 {
     let first = opened(
         rec,

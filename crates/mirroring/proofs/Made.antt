@@ -15,6 +15,7 @@ use Rattle.whole.specs.Tab.{Upto, upto-zero, upto-more, upto-all}
 use Rattle.grid.specs.declared.Sides.{Sides}
 use Rattle.grid.specs.Grid.{cellsOf}
 use Rattle.grid.specs.State.{Lent, lent, stateOf, lentOf}
+use Rattle.grid.proofs.Listed.{same-lent}
 use Rattle.grid.proofs.Lists.{getD-there}
 use Rattle.mirror.specs.Mirror.{mirrored, mirroredSet}
 use Rattle.mirroring.specs.Turned.{turnedSet}
@@ -111,19 +112,17 @@ module _ (s : Sides) (axis : ℕ) (dirs : List ℕ) (q : ℕ) (a : Lent) where
             g .before (suc q * j + k) (part-inside (suc q) j k c r i) ∙ b .parts j k r i
 
   -- all of them
-  five : {f f′ : List ℕ} {p p′ m m′ : List ℤ} {y y′ : List ℕ} → f ≡ f′ → p ≡ p′ → m ≡ m′ → y ≡ y′ → lent f p m y [] ≡ lent f′ p′ m′ y′ []
-  five u v w x i = lent (u i) (v i) (w i) (x i) []
-
   pub made-all : (d : Lent) (c : ℕ) → c ≡ cellsOf s → Made (cellsOf s) d c
       → lent (d .flags) (d .parts) (d .masses) (d .fills) [] ≡ turnedSet (tableMirror s axis dirs) q (cellsOf s) (lent (a .flags) (a .parts) (a .masses) (a .fills) [])
   unfolding turnedSet mirroredSet mirrored lentOf stateOf
   made-all d c e b =
       let z = b .sized in
       let n = cellsOf s in
-      five (upto-all 0 flagIn (d .flags) n (z .flags) (subst (λ (k : ℕ). Upto 0 flagIn (d .flags) k) e (b .flags)))
+      same-lent (upto-all 0 flagIn (d .flags) n (z .flags) (subst (λ (k : ℕ). Upto 0 flagIn (d .flags) k) e (b .flags)))
       (upto-all (pos 0) (λ m. partIn (m / suc q) (m % suc q)) (d .parts) (suc q * n) (z .parts) at)
       (upto-all (pos 0) massIn (d .masses) n (z .masses) (subst (λ (k : ℕ). Upto (pos 0) massIn (d .masses) k) e (b .masses)))
       (upto-all 0 fillIn (d .fills) n (z .fills) (subst (λ (k : ℕ). Upto 0 fillIn (d .fills) k) e (b .fills)))
+      refl
     where
       at : (m : ℕ) → m < suc q * cellsOf s → getD (d .parts) m (pos 0) ≡ partIn (m / suc q) (m % suc q)
       at m h =

@@ -20,7 +20,6 @@ use Rattle.grid.specs.Grid.{sidesGood}
 use Rattle.grid.proofs.GoodSides.{good-sides}
 use Rattle.tunnel.specs.declared.Placed.{Placed}
 use Rattle.tunnel.specs.Depth.{Reading, solid, dry, deep, depthOf, measuredOf}
-use Rattle.tunnel.specs.Kinds.{readingNumber, readingSum}
 use Rattle.tunnel.proofs.Tests.{Reads, reads-solid, reads-dry, reads-deep, measured-reads, measures, lengths, two-means, Finds, finds-none, finds-cell, place-finds}
 use Rattle.profile.specs.Profile.{Survey, pointAt, placedAt, columnOf, shownBy, seen, depthAt, notAbove, far, broken, isDeepest, deepest}
 use Rattle.profile.specs.Outcome.{testsAnswer}
@@ -47,14 +46,14 @@ pub none-deepest : (v : Survey) (m : ℕ) → m ≤ deepest v m → AllDry v m
 none-deepest v m h = record { dry = no-deepest v m h }
 
 -- ---- an accepted list
-read-as : (w : Reading) → Reads w → (w ≡ solid) ⊎ ((w ≡ dry) ⊎ ((0 < readingSum w) × (w ≡ deep (readingSum w))))
+read-as : (w : Reading) → Reads w → (w ≡ solid) ⊎ ((w ≡ dry) ⊎ ((0 < w .sum) × (w ≡ deep (w .sum))))
 read-as w reads-solid = inl refl
 read-as w reads-dry = inr (inl refl)
 read-as w (reads-deep h) = inr (inr (h, refl))
 
 -- a cell's column shows what depth answers, and that is no refusal
 column-reads : (s : Sides) (flags fills : List ℕ) (c : ℕ) → sidesGood s ≡ true → lengths s flags fills 0 0 ≡ true
-    → (eqb (readingNumber (columnOf s flags fills c)) 4 || eqb (readingNumber (columnOf s flags fills c)) 6) ≡ false → Reads (columnOf s flags fills c)
+    → (eqb (columnOf s flags fills c .number) 4 || eqb (columnOf s flags fills c .number) 6) ≡ false → Reads (columnOf s flags fills c)
 unfolding columnOf
 column-reads s flags fills c g l e =
     let x = c % s .nx in
@@ -62,7 +61,7 @@ column-reads s flags fills c g l e =
     let k = good-sides s g in
     let d : depthOf s flags fills x y ≡ measuredOf s flags fills x y =
     measures s flags fills x y g l (mod-lt c (omega (arith, k .x .low))) (mod-lt (c / s .nx) (omega (arith, k .y .low))) in
-    subst Reads (sym d) (measured-reads s flags fills x y (subst (λ (w : Reading). (eqb (readingNumber w) 4 || eqb (readingNumber w) 6) ≡ false) d e))
+    subst Reads (sym d) (measured-reads s flags fills x y (subst (λ (w : Reading). (eqb (w .number) 4 || eqb (w .number) 6) ≡ false) d e))
 
 line-by : (v : Survey) (i : ℕ) (p : Placed) → placedAt (v .frame) (v .points) i ≡ p → Finds p → sidesGood (v .frame .sides) ≡ true
     → lengths (v .frame .sides) (v .flags) (v .fills) 0 0 ≡ true → broken v i ≡ false → Line v i
@@ -71,7 +70,7 @@ line-by v i p e finds-none g l b = is-outside e
 line-by v i p e (finds-cell c) g l b =
     let s = v .frame .sides in
     let shown : seen v i ≡ columnOf s (v .flags) (v .fills) c = ap (shownBy s (v .flags) (v .fills)) e in
-    let r = column-reads s (v .flags) (v .fills) c g l (subst (λ (w : Reading). (eqb (readingNumber w) 4 || eqb (readingNumber w) 6) ≡ false) shown b) in
+    let r = column-reads s (v .flags) (v .fills) c g l (subst (λ (w : Reading). (eqb (w .number) 4 || eqb (w .number) 6) ≡ false) shown b) in
     is-read c e shown (read-as (seen v i) (subst Reads (sym shown) r))
 
 pub listed : (v : Survey) (chainages : List ℤ) (kinds depths : ℕ) → testsAnswer v chainages kinds depths ≡ answer.Done → Listed v chainages

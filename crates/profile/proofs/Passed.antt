@@ -18,7 +18,6 @@ use Rattle.tunnel.specs.Refusal.{orElse}
 use Rattle.tunnel.specs.Place.{placeOf, refusalNumber}
 use Rattle.tunnel.specs.Depth.{depthOf}
 use Rattle.profile.specs.declared.Frame.{Frame}
-use Rattle.tunnel.specs.Kinds.{readingNumber, readingPlace}
 use Rattle.profile.specs.Profile.{Survey, seen, notAbove, far, broken}
 use Rattle.profile.specs.Outcome.{listWhole, openAnswer, columnsAnswer, testsAnswer, andThen}
 
@@ -32,7 +31,7 @@ rested true n p rest e = e
 rested false n p rest e = absurd (let z : _≡_ {A = ℕ} 0 1 = cc in omega arith)
 
 -- depth's 1 is that of the sides
-sides-by : (s : Sides) (flags fills : List ℕ) → not (eqb (readingNumber (depthOf s flags fills 0 0)) 1) ≡ true → sidesGood s ≡ true
+sides-by : (s : Sides) (flags fills : List ℕ) → not (eqb (depthOf s flags fills 0 0 .number) 1) ≡ true → sidesGood s ≡ true
 unfolding depthOf
 sides-by s flags fills e = go (sidesGood s) refl
   where
@@ -47,12 +46,12 @@ pub record Opened (f : Frame) (flags fills : List ℕ) (m points kinds depths : 
   pub depths-size : depths ≡ m
   pub few : m ≤ 2000
   pub some : not (eqb m 0) ≡ true
-  pub lent : not (eqb (readingNumber (depthOf (f .sides) flags fills 0 0)) 2) ≡ true
+  pub lent : not (eqb (depthOf (f .sides) flags fills 0 0 .number) 2) ≡ true
 
 pub opened : (f : Frame) (flags fills : List ℕ) (m points kinds depths : ℕ) → openAnswer f flags fills m points kinds depths ≡ Done → Opened f flags fills m points kinds depths
 unfolding openAnswer listWhole
 opened f flags fills m points kinds depths e =
-    let n = readingNumber (depthOf (f .sides) flags fills 0 0) in
+    let n = depthOf (f .sides) flags fills 0 0 .number in
     let whole = eqb points (3 * m) && eqb kinds m && eqb depths m in
     let r = refusalNumber (placeOf (f .sides) (f .edge) (f .origin) (f .origin)) in
     let last = orElse (not (eqb r 3)) (Refused 3 0) Done in
@@ -113,7 +112,7 @@ tests-walked v chainages kinds depths e =
     let up = first m (notAbove chainages) in
     let out = first m (far (v .frame) (v .points)) in
     let bad = first m (broken v) in
-    let columns = orElse (leb m bad) (Refused (readingNumber (seen v bad)) (readingPlace (seen v bad))) Done in
+    let columns = orElse (leb m bad) (Refused (seen v bad .number) (seen v bad .place)) Done in
     let placed = orElse (leb m out) (Refused 3 out) columns in
     let e1 = then-rest (openAnswer (v .frame) (v .flags) (v .fills) m (length (v .points)) kinds depths) (orElse (leb m up) (Refused 23 up) placed) e in
     let e2 = rested (leb m up) 23 up placed e1 in
@@ -121,5 +120,5 @@ tests-walked v chainages kinds depths e =
     record {
       up = leb-true m up (passed (leb m up) 23 up placed e1);
       near = leb-true m out (passed (leb m out) 3 out columns e2);
-      sound = leb-true m bad (passed (leb m bad) (readingNumber (seen v bad)) (readingPlace (seen v bad)) Done e3);
+      sound = leb-true m bad (passed (leb m bad) (seen v bad .number) (seen v bad .place) Done e3);
     }

@@ -10,7 +10,7 @@ use lib.ListN.{length, getD}
 use lib.Seq.{ext-getD}
 use Rattle.grid.specs.declared.Answer.{Answer}
 use Rattle.grid.specs.declared.Answer.the-variants.{Done, Refused}
-use Rattle.tunnel.specs.Kinds.{zeroFloat}
+use Rattle.tunnel.specs.Depth.{zeroFloat}
 use Rattle.tunnel.proofs.Floats.{exactly-one}
 use Rattle.profile.specs.declared.Frame.{Frame}
 use Rattle.profile.specs.declared.Profiled.{Profiled}

@@ -10,7 +10,7 @@ use lib.ListN.{length, getD}
 use Rattle.whole.specs.Fold.{tab}
 use Rattle.grid.specs.Grid.{sidesGood}
 use Rattle.tunnel.specs.Exact.{Exactly}
-use Rattle.tunnel.specs.Kinds.{zeroFloat}
+use Rattle.tunnel.specs.Depth.{zeroFloat}
 use Rattle.profile.specs.declared.Frame.{Frame}
 use Rattle.profile.specs.declared.writing.Best.{Best}
 use Rattle.profile.specs.Kinds.{lineKind}

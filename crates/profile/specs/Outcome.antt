@@ -13,8 +13,7 @@ use Rattle.grid.specs.declared.Answer.the-variants.{Done, Refused}
 use Rattle.tunnel.specs.Refusal.{orElse}
 use Rattle.tunnel.specs.Exact.{Exactly}
 use Rattle.tunnel.specs.Place.{placeOf, refusalNumber}
-use Rattle.tunnel.specs.Depth.{depthOf}
-use Rattle.tunnel.specs.Kinds.{readingNumber, readingPlace, zeroFloat}
+use Rattle.tunnel.specs.Depth.{zeroFloat, depthOf}
 use Rattle.profile.specs.declared.Frame.{Frame}
 use Rattle.profile.specs.declared.Profiled.{Profiled}
 use Rattle.profile.specs.declared.Profiled.the-variants as profiled
@@ -30,7 +29,7 @@ listWhole m points kinds depths = eqb points (3 * m) && eqb kinds m && eqb depth
 -- 1 and 2 as for depth, whose column (0, 0) tells them, and 2 of the list; 22; 3 of edge and origin, as placing the origin tells it
 unfoldable pub openAnswer : Frame → List ℕ → List ℕ → ℕ → ℕ → ℕ → ℕ → Answer
 openAnswer f flags fills m points kinds depths =
-    let n = readingNumber (depthOf (f .sides) flags fills 0 0) in
+    let n = depthOf (f .sides) flags fills 0 0 .number in
     orElse (not (eqb n 1)) (Refused 1 0)
     (orElse (not (eqb n 2)) (Refused 2 0)
     (orElse (listWhole m points kinds depths) (Refused 2 0)
@@ -43,7 +42,7 @@ openAnswer f flags fills m points kinds depths =
 unfoldable pub columnsAnswer : Survey → ℕ → Answer
 columnsAnswer v m =
     let i = first m (broken v) in
-    orElse (leb m i) (Refused (readingNumber (seen v i)) (readingPlace (seen v i))) Done
+    orElse (leb m i) (Refused (seen v i .number) (seen v i .place)) Done
 
 -- an answer that is no refusal lets the next one speak
 abbrev pub andThen : Answer → Answer → Answer

@@ -14,7 +14,6 @@ use Rattle.tunnel.specs.declared.Placed.{Placed}
 use Rattle.tunnel.specs.declared.Placed.the-variants.{Refused, Cell}
 use Rattle.tunnel.specs.Place.{placeOf, refusalNumber}
 use Rattle.tunnel.specs.Depth.{Reading, refused, depthOf}
-use Rattle.tunnel.specs.Kinds.{readingNumber, readingSum}
 use Rattle.profile.specs.declared.Frame.{Frame}
 
 -- a grid and the coordinates of a list of survey points
@@ -52,7 +51,7 @@ seen v i = shownBy (v .frame .sides) (v .flags) (v .fills) (placedAt (v .frame) 
 
 -- its depth in 65,536ths, 0 unless it is deep
 unfoldable pub depthAt : Survey → ℕ → ℕ
-depthAt v i = readingSum (seen v i)
+depthAt v i = seen v i .sum
 
 -- ---- what a test of the list finds at point i
 
@@ -67,7 +66,7 @@ far f points i = eqb (refusalNumber (placedAt f points i)) 3
 
 -- 4 and 6: its column does not pass depth's tests
 unfoldable pub broken : Survey → ℕ → Bool
-broken v i = eqb (readingNumber (seen v i)) 4 || eqb (readingNumber (seen v i)) 6
+broken v i = eqb (seen v i .number) 4 || eqb (seen v i .number) 6
 
 -- ---- the deepest point
 

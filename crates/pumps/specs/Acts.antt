@@ -14,7 +14,7 @@ use Rattle.grid.specs.declared.Sides.{Sides}
 use Rattle.grid.specs.declared.Answer.{Answer}
 use Rattle.grid.specs.declared.Answer.the-variants.{Done, Refused}
 use Rattle.grid.specs.Grid.{cellsOf}
-use Rattle.grid.specs.State.{Lent}
+use Rattle.grid.specs.State.{Lent, lent}
 use Rattle.grid.specs.Fill.{partOf, Weighty}
 use Rattle.grid.specs.Outcome.{orRefuse}
 use Rattle.pumps.specs.declared.Acted.{Acted}
@@ -83,13 +83,11 @@ unfoldable pub actSet : Bool → ℕ → ℤ → Lent → Lent
 actSet pour c amount a =
     let m = getD (a .masses) c (pos 0) in
     let t = movedOf pour amount m in
-    record {
-      flags = a .flags;
-      parts = a .parts;
-      masses = set (a .masses) c (massOf pour m t);
-      fills = set (a .fills) c (fillOf (massOf pour m t) (density d3q19 (partOf (a .parts) c)));
-      carry = set (a .carry) (countedIn pour) (numberIn a (countedIn pour) +ℤ t);
-    }
+    lent (a .flags)
+    (a .parts)
+    (set (a .masses) c (massOf pour m t))
+    (set (a .fills) c (fillOf (massOf pour m t) (density d3q19 (partOf (a .parts) c))))
+    (set (a .carry) (countedIn pour) (numberIn a (countedIn pour) +ℤ t))
 
 -- by an answer: what was moved, or the refusal; the set after it, or the set as it was
 abbrev pub actedBy : Answer → ℤ → Acted

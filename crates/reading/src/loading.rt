@@ -3,7 +3,9 @@ use crate::reader::read;
 use record::Loaded;
 use record::flags::flags_of;
 ghost use mathlib.Core.Path.{_≡_};
-ghost use Rattle.record.specs.Promise.{flagless, Read, Handed};
+ghost use mathlib.Core.List.{[]};
+ghost use Rattle.grid.specs.State.{lent};
+ghost use Rattle.record.specs.Promise.{Read, Handed};
 
 pub fn load<'a>(
     rec: &'a [u8],
@@ -12,7 +14,7 @@ pub fn load<'a>(
     fills: &mut [u32],
     carry: &mut [i64],
 ) -> Loaded<'a>
-    ensures { λ r. ⌜ Read (now (rec .entry)) (flagless (now (parts .entry)) (now (masses .entry)) (now (fills .entry)) (now (carry .entry))) (r .head) (now (parts .exit)) (now (masses .exit)) (now (fills .exit)) (now (carry .exit)) × Handed (rec .entry) (flagless (now (parts .entry)) (now (masses .entry)) (now (fills .entry)) (now (carry .entry))) (r .flags) ⌝ }
+    ensures { λ r. ⌜ Read (now (rec .entry)) (lent [] (now (parts .entry)) (now (masses .entry)) (now (fills .entry)) (now (carry .entry))) (r .head) (now (parts .exit)) (now (masses .exit)) (now (fills .exit)) (now (carry .exit)) × Handed (rec .entry) (lent [] (now (parts .entry)) (now (masses .entry)) (now (fills .entry)) (now (carry .entry))) (r .flags) ⌝ }
 {
     let h = read(rec, parts, masses, fills, carry);
     let f = flags_of(rec, h);

@@ -13,8 +13,10 @@ use record::given::sides_in;
 use record::given::site_in;
 use record::section::passed;
 ghost use mathlib.Core.Path.{_≡_};
+ghost use mathlib.Core.List.{[]};
 ghost use lib.IntN.{pos};
-ghost use Rattle.record.specs.Promise.{flagless, Read};
+ghost use Rattle.grid.specs.State.{lent};
+ghost use Rattle.record.specs.Promise.{Read};
 ghost use Rattle.record.specs.Reading.{refusedHead};
 
 // What is returned beside a refusal.
@@ -55,7 +57,7 @@ pub fn read(
     fills: &mut [u32],
     carry: &mut [i64],
 ) -> Head
-    ensures { λ r. ⌜ Read (now (rec .entry)) (flagless (now (parts .entry)) (now (masses .entry)) (now (fills .entry)) (now (carry .entry))) r (now (parts .exit)) (now (masses .exit)) (now (fills .exit)) (now (carry .exit)) ⌝ }
+    ensures { λ r. ⌜ Read (now (rec .entry)) (lent [] (now (parts .entry)) (now (masses .entry)) (now (fills .entry)) (now (carry .entry))) r (now (parts .exit)) (now (masses .exit)) (now (fills .exit)) (now (carry .exit)) ⌝ }
 {
     let shaped = shape(rec, parts.len(), masses.len(), fills.len(), carry.len());
     if !passed(shaped) {

@@ -16,6 +16,7 @@ use Rattle.grid.specs.Step.{fillFor}
 use Rattle.grid.specs.Good.{cellGood}
 use Rattle.grid.specs.Demands.{Same}
 use Rattle.grid.specs.Passes.{flagOf}
+use Rattle.grid.proofs.Listed.{same-lent}
 use Rattle.grid.proofs.Same.{density-same}
 use Rattle.record.specs.declared.Counts.{Counts}
 use Rattle.record.specs.Bytes.{part}
@@ -99,15 +100,12 @@ module _ (L : Lattice) (x y z q k : ℕ) (lq : L .q ≡ q) where
         let parts = sym (laid-out (suc q) (partsRead L K k n (a .flags) r) (a .parts) n (omega arith) lp (λ c j h l. sym (part-so c j h (omega arith)))) in
         let masses = sym (upto-all (pos 0) (massesRead L K k n (a .flags) r) (a .masses) n lm (λ c h. sym (mass-so c h))) in
         let fills = sym (upto-all 0 (stateRead L K k n (a .flags) r carry .fill) (a .fills) n ll (λ c h. sym (fills-so c h))) in
-        same-lists flags parts masses fills (ap (λ (y : ℤ). y ∷ []) e ∙ one (a .carry) lc)
+        same-lent flags parts masses fills (ap (λ (y : ℤ). y ∷ []) e ∙ one (a .carry) lc)
       where
         one : (l : List ℤ) → length l ≡ 1 → (getD l 0 (pos 0) ∷ []) ≡ l
         one [] p = absurd (omega arith)
         one (v ∷ []) p = refl
         one (v ∷ u ∷ l) p = absurd (omega arith)
-
-        same-lists : {b d : Lent} → b .flags ≡ d .flags → b .parts ≡ d .parts → b .masses ≡ d .masses → b .fills ≡ d .fills → b .carry ≡ d .carry → b ≡ d
-        same-lists f p m l c i = record { flags = f i; parts = p i; masses = m i; fills = l i; carry = c i }
 
     -- ---- its sections are there
     module _ (few : n ≤ 262144) (qs : q ≤ 18) where

@@ -41,6 +41,7 @@ use Rattle.grid.specs.Passes.{flagOf}
 use Rattle.grid.proofs.Accepted.{done-accepted, skip, none-found, cell-good, sound}
 use Rattle.lattice.proofs.Equal.{eqZ-true}
 use Rattle.grid.proofs.Blocks.{blocks-all}
+use Rattle.grid.proofs.Listed.{same-lent}
 use Rattle.grid.proofs.Prepared.{cell-body, cell-mass, cell-fill}
 use Rattle.grid.proofs.Same.{density-same, bad-rule-same}
 use Rattle.grid.proofs.GoodSides.{GoodSides, good-sides}
@@ -56,7 +57,7 @@ use Rattle.record.specs.Passes.{Held, Sound}
 use Rattle.record.proofs.Numbers.{value-bytesOf, back, length-bytesOf}
 use Rattle.record.proofs.Gathered.{interfaces-most, liquids-most}
 use Rattle.record.proofs.Assembled.{length-head, length-record}
-use Rattle.record.proofs.Standing.{count-five, flags-back, count-six, count-seven, mass-back, part-back, fits-word, near, fits-long, total-fits, coordinate-fits, part-kinds, mass-kinds, dry-kinds, same-lent}
+use Rattle.record.proofs.Standing.{count-five, flags-back, count-six, count-seven, mass-back, part-back, fits-word, near, fits-long, total-fits, coordinate-fits, part-kinds, mass-kinds, dry-kinds}
 use Rattle.record.proofs.WrittenBy.{Fit, small, write-fit}
 use Rattle.record.proofs.Answers.{or-pass}
 use Rattle.record.proofs.Shaped.{shape-passes}

@@ -21,7 +21,7 @@ use Rattle.whole.specs.Order.{≤-or}
 use Rattle.lattice.specs.Lattice.{d3q19, density}
 use Rattle.grid.specs.declared.Answer.the-variants.{Done}
 use Rattle.grid.specs.Outcome.{accepted}
-use Rattle.grid.specs.State.{Lent, stateOf, lentOf, byFlag, liquid}
+use Rattle.grid.specs.State.{Lent, lent, stateOf, lentOf, byFlag, liquid}
 use Rattle.grid.specs.Passes.{flagOf}
 use Rattle.grid.specs.Grid.{cellsOf}
 use Rattle.grid.proofs.Accepted.{done-accepted}
@@ -48,7 +48,7 @@ one-upgraded r e = ap (λ (n : ℕ). cond (eqb n 3) r (upgraded r)) e
 
 -- the grid that the reader hands back
 abbrev pub gridRead : List ℕ → Lent → Lent
-gridRead r b = record { flags = readFlags r b; parts = readSet r b .parts; masses = readSet r b .masses; fills = readSet r b .fills; carry = readSet r b .carry }
+gridRead r b = lent (readFlags r b) (readSet r b .parts) (readSet r b .masses) (readSet r b .fills) (readSet r b .carry)
 
 -- the claim
 abbrev pub Claim : Type 0

@@ -21,7 +21,7 @@ use Rattle.whole.specs.Machine.{Within}
 use Rattle.whole.specs.Order.{leZ-true}
 use Rattle.lattice.specs.Cell.{coordinateGood}
 use Rattle.lattice.proofs.Ranges.{between}
-use Rattle.grid.specs.State.{Lent, byFlag, liquid}
+use Rattle.grid.specs.State.{byFlag, liquid}
 use Rattle.grid.specs.Passes.{flagOf}
 use Rattle.pumps.specs.Three.{totalGood}
 use Rattle.record.specs.declared.Counts.{Counts}
@@ -194,10 +194,3 @@ dry-kinds zero d i l e h = h
 dry-kinds (suc zero) d i l e h = absurd (false≢true (sym e))
 dry-kinds (suc (suc zero)) d i l e h = absurd (false≢true (sym e))
 dry-kinds (suc (suc (suc f))) d i l e h = h
-
--- equal lists make an equal set
-pub same-lent : {a b : Lent} → a .flags ≡ b .flags → a .parts ≡ b .parts → a .masses ≡ b .masses → a .fills ≡ b .fills → a .carry ≡ b .carry → a ≡ b
-same-lent {a} {b} f p m l c =
-    ap₂ (λ (x : List ℕ) (y : List ℤ). record { flags = x; parts = y; masses = a .masses; fills = a .fills; carry = a .carry }) f p
-    ∙ ap₂ (λ (x : List ℤ) (y : List ℕ). record { flags = b .flags; parts = b .parts; masses = x; fills = y; carry = a .carry }) m l
-    ∙ ap (λ (x : List ℤ). record { flags = b .flags; parts = b .parts; masses = b .masses; fills = b .fills; carry = x }) c

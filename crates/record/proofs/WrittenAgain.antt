@@ -18,7 +18,7 @@ use Rattle.grid.specs.Grid.{cellsOf, sidesGood, gridOf, box}
 use Rattle.grid.specs.Good.{badFlag, badFluid, badRule}
 use Rattle.grid.specs.Demands.{Same}
 use Rattle.grid.specs.Outcome.{accepted, orRefuse, ifNone, goodAnswer, lengthsGood}
-use Rattle.grid.specs.State.{Lent, State, stateOf, lentOf}
+use Rattle.grid.specs.State.{Lent, lent, State, stateOf, lentOf}
 use Rattle.grid.proofs.Accepted.{done-accepted, passed, none-found, skip}
 use Rattle.grid.proofs.Listed.{same-listed, lengths-listed}
 use Rattle.grid.proofs.Same.{bad-rule-same}
@@ -45,7 +45,7 @@ Claim =
 
 -- the grid read, its flags the caller's own
 abbrev taken : List ℕ → Lent
-taken r = let l = setIn r in record { flags = flagsIn r; parts = l .parts; masses = l .masses; fills = l .fills; carry = l .carry }
+taken r = let l = setIn r in lent (flagsIn r) (l .parts) (l .masses) (l .fills) (l .carry)
 
 module _ (r : List ℕ) (k : Sound r) (content : contentAnswer r ≡ Done) where
   flags-all : length (flagsIn r) ≡ cellsIn r

@@ -1,7 +1,7 @@
 -- What reader and writer promise of their answer and of every lent slice, refused or not: each equals the outcome's definition. Assumes nothing.
 use mathlib.Core.Path.{_≡_}
 use mathlib.Core.Bool.{Bool, _&&_, cond}
-use mathlib.Core.List.{List, []}
+use mathlib.Core.List.{List}
 use Prim.Native.Nat.{ℕ, _+_, _-_}
 use denote.Ref.{RefT, now}
 use lib.Dec.{leb}
@@ -20,11 +20,7 @@ use Rattle.record.specs.declared.Span.{Span}
 use Rattle.record.specs.Reading.{flagsAt, flagsFrom, readHead, readFlags, readSet}
 use Rattle.record.specs.Writing.{written, writtenRoom}
 
--- the set that the reader is lent lacks the flags
-abbrev pub flagless : List ℤ → List ℤ → List ℕ → List ℤ → Lent
-flagless parts masses fills carry = record { flags = []; parts = parts; masses = masses; fills = fills; carry = carry }
-
--- the reader: its answer with sides, settings and origin, and the four slices
+-- the reader: its answer with sides, settings and origin, and the four slices; the set that it is lent lacks the flags
 pub record Read (r : List ℕ) (a : Lent) (head : Head) (parts masses : List ℤ) (fills : List ℕ) (carry : List ℤ) : Type 0 where
   pub head-is : head ≡ readHead r a
   pub parts-are : parts ≡ readSet r a .parts

@@ -1,7 +1,7 @@
 -- From what each pass of the box's step leaves to what the next one asks, and from the last one to the outcome's definition. Assumes nothing.
 use mathlib.Core.Path.{_≡_, refl, sym, ap, _∙_, subst}
 use mathlib.Core.Bool.{Bool, true, false, _&&_, cond, false≢true}
-use mathlib.Core.List.{List}
+use mathlib.Core.List.{List, []}
 use Prim.Native.Nat.{ℕ, suc, _*_, _/_, _%_, _≤_, _<_}
 use lib.IntN.{ℤ}
 use lib.ListN.{length, replicate, length-replicate}
@@ -16,15 +16,15 @@ use Rattle.grid.specs.declared.Answer.{Answer}
 use Rattle.grid.specs.declared.Answer.the-variants.{Done, Refused}
 use Rattle.grid.specs.Fill.{partOf}
 use Rattle.grid.specs.Grid.{cellsOf}
-use Rattle.grid.specs.State.{Lent, Scene, liquid, stateOf, lentOf}
+use Rattle.grid.specs.State.{Lent, lent, Scene, liquid, stateOf, lentOf}
 use Rattle.grid.specs.Step.{flagAt, tooFast, collided, newFlag, newPart, newMass, newFill, next}
 use Rattle.grid.specs.Good.{badRule}
 use Rattle.grid.specs.Outcome.{accepted, ifNone, moveAnswer, sceneOf, nextOf}
-use Rattle.grid.specs.Between.{Sized, Ready, uncarried, movedPart, movedMass, firstMark}
+use Rattle.grid.specs.Between.{Sized, Ready, movedPart, movedMass, firstMark}
 use Rattle.grid.specs.Halfway.{Alike, Moved, Turning, Turned, Stepping, Advanced}
 use Rattle.grid.specs.Passes.{lowOf, offsetOf, openedBy, openedMark}
 use Rattle.grid.proofs.Beside.{Offsets}
-use Rattle.grid.proofs.Listed.{lengths-listed}
+use Rattle.grid.proofs.Listed.{same-lent, lengths-listed}
 use Rattle.grid.proofs.Prepared.{sized}
 use Rattle.flow.specs.declared.passing.Passed.{Passed}
 use Rattle.flow.specs.declared.passing.Passed.the-variants.{Stopped, Through}
@@ -78,7 +78,7 @@ module _ (s : Sides) (g : Settings) (a : Lent) where
 
   -- the same with no carry, as pass 1 has it
   abbrev U : Scene
-  U = sceneOf s g (uncarried (a .flags) (a .parts) (a .masses) (a .fills))
+  U = sceneOf s g (lent (a .flags) (a .parts) (a .masses) (a .fills) [])
 
   -- ---- pass 1
   pub moved-carried : {parts masses : List ℤ} {marks : List ℕ} {fair still : Bool} → Moved U (cellsOf s) parts masses marks fair still → Moved S (cellsOf s) parts masses marks fair still
@@ -140,11 +140,11 @@ module _ (s : Sides) (g : Settings) (a : Lent) where
         fills-are = Tests.fills-are (fieldOf s g a) (field .stands) t (turned-parts w) f
 
         abbrev second : Lent
-        second = record { flags = flags2; parts = parts2; masses = masses2; fills = fills2; carry = carry2 }
+        second = lent flags2 parts2 masses2 fills2 carry2
 
         pub second-next : second ≡ nextOf s g a
         unfolding nextOf lentOf next
-        second-next i = record { flags = w .flags-are i; parts = w .parts-are i; masses = w .masses-are i; fills = fills-are i; carry = w .carry-is i }
+        second-next = same-lent (w .flags-are) (w .parts-are) (w .masses-are) fills-are (w .carry-is)
 
         -- test 8 where all was found fair
         pub fair-answer : ((c : ℕ) → c < cellsOf s → liquid (flagAt S c) ≡ true → bodyGood d3q19 (collided S c) ≡ true) → turned ≡ true → weighed ≡ true → Done ≡ moveAnswer S
@@ -183,18 +183,6 @@ went-through {S} {n} {o} {parts} {masses} {marks} u v e (through {fair = x} {sti
     subst (λ (z : Bool). Moved S n parts masses marks z v) (ap was-fair e) (subst (λ (z : Bool). Moved S n parts masses marks x z) (ap was-still e) m)
 
 module _ {s : Sides} {g : Settings} {a : Lent} where
-  pub finishing-lengths : {b : Lent} {marks : List ℕ} {fair still : Bool} → Finishing s g a b marks fair still → Sized (cellsOf s) b
-  finishing-lengths f = record {
-    flags = f .flags-room;
-    parts = ap length (f .moved .parts-are) ∙ length-tab (19 * cellsOf s) (λ m. movedPart (sceneOf s g a) (m / 19) (m % 19));
-    masses = ap length (f .moved .masses-are) ∙ length-tab (cellsOf s) (movedMass (sceneOf s g a));
-    fills = f .fills-room;
-    carry = f .carry-room;
-  }
-
-  pub finishing-marks : {b : Lent} {marks : List ℕ} {fair still : Bool} → Finishing s g a b marks fair still → length marks ≡ cellsOf s
-  finishing-marks f = ap length (f .moved .marks-are) ∙ length-tab (cellsOf s) (firstMark (sceneOf s g a))
-
   pub advanced-lengths : {answer : Answer} {second : Lent} {after : List ℕ} → Ready s g a → Advanced s g a answer second after → Sized (cellsOf s) second
   advanced-lengths r d = go (accepted (moveAnswer (sceneOf s g a))) (d .second-is)
     where
@@ -228,7 +216,7 @@ module _ {s : Sides} {g : Settings} {a : Lent} where
 
     module _ {fills2 : List ℕ} {weighed : Bool} (r : Refilled flags2 (partOf parts2) masses2 fills2 weighed) where
       abbrev set : Lent
-      set = record { flags = flags2; parts = parts2; masses = masses2; fills = fills2; carry = carry2 }
+      set = lent flags2 parts2 masses2 fills2 carry2
 
       pub set-next : set ≡ nextOf s g a
       set-next = second-next s g a (f .ready) (f .moved .steady) w r
@@ -255,7 +243,7 @@ module _ {s : Sides} {g : Settings} {a : Lent} where
 
     module _ {o : Passed} {parts2 masses2 : List ℤ} {marks2 : List ℕ} (w : Flowed s g (a .flags) (a .parts) (a .masses) (a .fills) o parts2 masses2 marks2) where
       abbrev flowed : Lent
-      flowed = record { flags = b .flags; parts = parts2; masses = masses2; fills = b .fills; carry = b .carry }
+      flowed = lent (b .flags) parts2 masses2 (b .fills) (b .carry)
 
       pub stopped-tried : (c : ℕ) → o ≡ Stopped c → Tried s g a (Refused 7 c) flowed marks2
       stopped-tried c e =

@@ -1,7 +1,7 @@
 // A lent set as a whole.
 use grid::copying;
 ghost use mathlib.Core.Path.{_≡_};
-ghost use Rattle.grid.specs.State.{Lent};
+ghost use Rattle.grid.specs.State.{lent};
 ghost use Rattle.grid.specs.Halfway.{Alike};
 
 // The second set becomes a copy of the first.
@@ -17,8 +17,8 @@ pub fn copied(
     fill2: &mut [u32],
     carry2: &mut [i64],
 )
-    requires { ⌜ Alike (record { flags = now flags; parts = now parts; masses = now mass; fills = now fill; carry = now carry }) (record { flags = now flags2; parts = now parts2; masses = now mass2; fills = now fill2; carry = now carry2 }) ⌝ }
-    ensures { λ r. ⌜ _≡_ {A = Lent} (record { flags = now (flags2 .exit); parts = now (parts2 .exit); masses = now (mass2 .exit); fills = now (fill2 .exit); carry = now (carry2 .exit) }) (record { flags = now (flags .entry); parts = now (parts .entry); masses = now (mass .entry); fills = now (fill .entry); carry = now (carry .entry) }) ⌝ }
+    requires { ⌜ Alike (lent (now flags) (now parts) (now mass) (now fill) (now carry)) (lent (now flags2) (now parts2) (now mass2) (now fill2) (now carry2)) ⌝ }
+    ensures { λ r. ⌜ lent (now (flags2 .exit)) (now (parts2 .exit)) (now (mass2 .exit)) (now (fill2 .exit)) (now (carry2 .exit)) ≡ lent (now (flags .entry)) (now (parts .entry)) (now (mass .entry)) (now (fill .entry)) (now (carry .entry)) ⌝ }
 {
     copying::copy_u8(flags, flags2);
     copying::copy_i32(parts, parts2);

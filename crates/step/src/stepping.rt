@@ -15,7 +15,7 @@ ghost use mathlib.Core.Path.{_≡_};
 ghost use Prim.Native.Nat.{suc};
 ghost use lib.ListN.{length};
 ghost use Rattle.lattice.specs.Lattice.{d3q19};
-ghost use Rattle.grid.specs.State.{stateOf};
+ghost use Rattle.grid.specs.State.{lent, stateOf};
 ghost use Rattle.grid.specs.Good.{badRule};
 ghost use Rattle.grid.specs.Outcome.{ifNone};
 ghost use Rattle.grid.specs.Between.{Sized};
@@ -25,8 +25,8 @@ ghost use Rattle.step.specs.Finished.{Finishing, Finished, Tried};
 
 // Test 8 where something is not fair: test 6's own scan of the second set.
 fn judged(flags2: &[u8], parts2: &[i32], mass2: &[i32], fill2: &[u32], carry2: &[i64]) -> Answer
-    requires { ⌜ Sized (length (now flags2)) (record { flags = now flags2; parts = now parts2; masses = now mass2; fills = now fill2; carry = now carry2 }) ⌝ }
-    ensures { λ r. ⌜ r ≡ ifNone (suc (length (now (flags2 .entry)))) 8 (badRule d3q19 (length (now (flags2 .entry))) (stateOf 18 (record { flags = now (flags2 .entry); parts = now (parts2 .entry); masses = now (mass2 .entry); fills = now (fill2 .entry); carry = now (carry2 .entry) }))) Answer.Done ⌝ }
+    requires { ⌜ Sized (length (now flags2)) (lent (now flags2) (now parts2) (now mass2) (now fill2) (now carry2)) ⌝ }
+    ensures { λ r. ⌜ r ≡ ifNone (suc (length (now (flags2 .entry)))) 8 (badRule d3q19 (length (now (flags2 .entry))) (stateOf 18 (lent (now (flags2 .entry)) (now (parts2 .entry)) (now (mass2 .entry)) (now (fill2 .entry)) (now (carry2 .entry))))) Answer.Done ⌝ }
 {
     let d = checking::first_bad(flags2, parts2, mass2, fill2, carry2[0]);
     if d <= flags2.len() {
@@ -53,8 +53,8 @@ fn finished(
     s: Sides,
     g: Settings,
 ) -> Answer
-    requires { ⌜ Finishing s g (record { flags = now flags; parts = now parts; masses = now mass; fills = now fill; carry = now carry }) (record { flags = now flags2; parts = now parts2; masses = now mass2; fills = now fill2; carry = now carry2 }) (now marks) fair still ⌝ }
-    ensures { λ r. ⌜ Finished s g (record { flags = now (flags .entry); parts = now (parts .entry); masses = now (mass .entry); fills = now (fill .entry); carry = now (carry .entry) }) r (record { flags = now (flags2 .exit); parts = now (parts2 .exit); masses = now (mass2 .exit); fills = now (fill2 .exit); carry = now (carry2 .exit) }) (now (marks .exit)) ⌝ }
+    requires { ⌜ Finishing s g (lent (now flags) (now parts) (now mass) (now fill) (now carry)) (lent (now flags2) (now parts2) (now mass2) (now fill2) (now carry2)) (now marks) fair still ⌝ }
+    ensures { λ r. ⌜ Finished s g (lent (now (flags .entry)) (now (parts .entry)) (now (mass .entry)) (now (fill .entry)) (now (carry .entry))) r (lent (now (flags2 .exit)) (now (parts2 .exit)) (now (mass2 .exit)) (now (fill2 .exit)) (now (carry2 .exit))) (now (marks .exit)) ⌝ }
 {
     let a = turning::turned(
         flags,
@@ -94,8 +94,8 @@ fn advanced(
     s: Sides,
     g: Settings,
 ) -> Answer
-    requires { ⌜ Stepping s g (record { flags = now flags; parts = now parts; masses = now mass; fills = now fill; carry = now carry }) (record { flags = now flags2; parts = now parts2; masses = now mass2; fills = now fill2; carry = now carry2 }) (now marks) ⌝ }
-    ensures { λ r. ⌜ Tried s g (record { flags = now (flags .entry); parts = now (parts .entry); masses = now (mass .entry); fills = now (fill .entry); carry = now (carry .entry) }) r (record { flags = now (flags2 .exit); parts = now (parts2 .exit); masses = now (mass2 .exit); fills = now (fill2 .exit); carry = now (carry2 .exit) }) (now (marks .exit)) ⌝ }
+    requires { ⌜ Stepping s g (lent (now flags) (now parts) (now mass) (now fill) (now carry)) (lent (now flags2) (now parts2) (now mass2) (now fill2) (now carry2)) (now marks) ⌝ }
+    ensures { λ r. ⌜ Tried s g (lent (now (flags .entry)) (now (parts .entry)) (now (mass .entry)) (now (fill .entry)) (now (carry .entry))) r (lent (now (flags2 .exit)) (now (parts2 .exit)) (now (mass2 .exit)) (now (fill2 .exit)) (now (carry2 .exit))) (now (marks .exit)) ⌝ }
 {
     marks::mark_open(flags, marks, s);
     let a = passing::flowing(flags, parts, mass, fill, parts2, mass2, marks, s, g);
@@ -137,8 +137,8 @@ pub fn stepped(
     s: Sides,
     g: Settings,
 ) -> Answer
-    requires { ⌜ Stepping s g (record { flags = now flags; parts = now parts; masses = now mass; fills = now fill; carry = now carry }) (record { flags = now flags2; parts = now parts2; masses = now mass2; fills = now fill2; carry = now carry2 }) (now marks) ⌝ }
-    ensures { λ r. ⌜ Advanced s g (record { flags = now (flags .entry); parts = now (parts .entry); masses = now (mass .entry); fills = now (fill .entry); carry = now (carry .entry) }) r (record { flags = now (flags2 .exit); parts = now (parts2 .exit); masses = now (mass2 .exit); fills = now (fill2 .exit); carry = now (carry2 .exit) }) (now (marks .exit)) ⌝ }
+    requires { ⌜ Stepping s g (lent (now flags) (now parts) (now mass) (now fill) (now carry)) (lent (now flags2) (now parts2) (now mass2) (now fill2) (now carry2)) (now marks) ⌝ }
+    ensures { λ r. ⌜ Advanced s g (lent (now (flags .entry)) (now (parts .entry)) (now (mass .entry)) (now (fill .entry)) (now (carry .entry))) r (lent (now (flags2 .exit)) (now (parts2 .exit)) (now (mass2 .exit)) (now (fill2 .exit)) (now (carry2 .exit))) (now (marks .exit)) ⌝ }
 {
     let a = advanced(
         flags,
@@ -190,7 +190,7 @@ pub fn step(
     s: Sides,
     g: Settings,
 ) -> Answer
-    ensures { λ r. ⌜ Stepped s g (record { flags = now (flags .entry); parts = now (parts .entry); masses = now (mass .entry); fills = now (fill .entry); carry = now (carry .entry) }) (record { flags = now (flags2 .entry); parts = now (parts2 .entry); masses = now (mass2 .entry); fills = now (fill2 .entry); carry = now (carry2 .entry) }) (now (marks .entry)) r (record { flags = now (flags2 .exit); parts = now (parts2 .exit); masses = now (mass2 .exit); fills = now (fill2 .exit); carry = now (carry2 .exit) }) (now (marks .exit)) ⌝ }
+    ensures { λ r. ⌜ Stepped s g (lent (now (flags .entry)) (now (parts .entry)) (now (mass .entry)) (now (fill .entry)) (now (carry .entry))) (lent (now (flags2 .entry)) (now (parts2 .entry)) (now (mass2 .entry)) (now (fill2 .entry)) (now (carry2 .entry))) (now (marks .entry)) r (lent (now (flags2 .exit)) (now (parts2 .exit)) (now (mass2 .exit)) (now (fill2 .exit)) (now (carry2 .exit))) (now (marks .exit)) ⌝ }
 {
     let a = entry::entered(
         flags,

@@ -15,10 +15,9 @@ use Rattle.grid.proofs.GoodSides.{good-sides}
 use Rattle.tunnel.specs.Refusal.{orElse}
 use Rattle.tunnel.specs.Depth.{Reading, refused, solid, dry, deep, flagBad, fillBad, isWall, openFill, readingOf, measuredOf, depthOf}
 use Rattle.tunnel.proofs.Columns.{open-le}
-use Rattle.tunnel.specs.Kinds.{readingSum}
 
 abbrev Few : Reading → Type 0
-Few w = readingSum w < 16777216
+Few w = w .sum < 16777216
 
 few-sum : (walls none : Bool) (n : ℕ) → n < 16777216 → Few (cond walls solid (cond none dry (deep n)))
 few-sum true none n h = omega arith
@@ -46,7 +45,7 @@ few-measured s flags fills x y g =
     (λ q. few-sum (all (s .nz) (isWall s flags x y)) (eqb (total (s .nz) (openFill s flags fills x y)) 0)
     (total (s .nz) (openFill s flags fills x y)) (few-total s flags fills x y g (leb-true (s .nz) b q))))
 
-pub few-depth : (s : Sides) (flags fills : List ℕ) (x y : ℕ) → readingSum (depthOf s flags fills x y) < 16777216
+pub few-depth : (s : Sides) (flags fills : List ℕ) (x y : ℕ) → depthOf s flags fills x y .sum < 16777216
 unfolding depthOf
 few-depth s flags fills x y =
     few-or (sidesGood s) 1 0 _

@@ -5,7 +5,7 @@ pub mod Floats
 pub mod Cells
 pub mod Axes
 pub mod Columns
-pub mod Shown
+pub mod Cases
 pub mod Fractions
 pub mod Few
 pub mod Tests

@@ -19,7 +19,6 @@ use Rattle.tunnel.specs.Refusal.{orElse}
 use Rattle.lattice.specs.Cell.{edgeGood}
 use Rattle.tunnel.specs.Place.{pointGood, axisOf, foundOf, placeOf, refusalNumber}
 use Rattle.tunnel.specs.Depth.{Reading, refused, solid, dry, deep, flagBad, fillBad, isWall, openFill, readingOf, measuredOf, depthOf}
-use Rattle.tunnel.specs.Kinds.{readingNumber}
 
 -- ---- depth
 
@@ -30,7 +29,7 @@ pub data Reads : Reading → Type 0 where
   reads-deep : {n : ℕ} → 0 < n → Reads (deep n)
 
 shape-reads : (a b w t : Bool) (p q n : ℕ) → eqb n 0 ≡ t → (let r = orElse a (refused 4 p) (orElse b (refused 6 q) (cond w solid (cond t dry (deep n)))) in
-    (eqb (readingNumber r) 4 || eqb (readingNumber r) 6) ≡ false → Reads r)
+    (eqb (r .number) 4 || eqb (r .number) 6) ≡ false → Reads r)
 shape-reads false b w t p q n z e = absurd (false≢true (sym e))
 shape-reads true false w t p q n z e = absurd (false≢true (sym e))
 shape-reads true true true t p q n z e = reads-solid
@@ -41,7 +40,7 @@ shape-reads true true false false p q n z e = reads-deep (pos-of n (eqb-false n 
     pos-of n h = omega (arith, h)
 
 shape-number : (a b w t : Bool) (p q n k : ℕ) → eqb 4 k ≡ false → eqb 6 k ≡ false → eqb 0 k ≡ false
-    → eqb (readingNumber (orElse a (refused 4 p) (orElse b (refused 6 q) (cond w solid (cond t dry (deep n)))))) k ≡ false
+    → eqb (orElse a (refused 4 p) (orElse b (refused 6 q) (cond w solid (cond t dry (deep n)))) .number) k ≡ false
 shape-number false b w t p q n k x y z = x
 shape-number true false w t p q n k x y z = y
 shape-number true true true t p q n k x y z = z
@@ -49,7 +48,7 @@ shape-number true true false true p q n k x y z = z
 shape-number true true false false p q n k x y z = z
 
 module _ (s : Sides) (flags fills : List ℕ) (x y : ℕ) where
-  pub measured-reads : (eqb (readingNumber (measuredOf s flags fills x y)) 4 || eqb (readingNumber (measuredOf s flags fills x y)) 6) ≡ false → Reads (measuredOf s flags fills x y)
+  pub measured-reads : (eqb (measuredOf s flags fills x y .number) 4 || eqb (measuredOf s flags fills x y .number) 6) ≡ false → Reads (measuredOf s flags fills x y)
   unfolding measuredOf readingOf
   measured-reads e =
       let f = first (s .nz) (flagBad s flags x y) in
@@ -57,7 +56,7 @@ module _ (s : Sides) (flags fills : List ℕ) (x y : ℕ) where
       let n = total (s .nz) (openFill s flags fills x y) in
       shape-reads (leb (s .nz) f) (leb (s .nz) g) (all (s .nz) (isWall s flags x y)) (eqb n 0) (cellAt (s .nx) (s .ny) x y f) (cellAt (s .nx) (s .ny) x y g) n refl e
 
-  measured-number : (k : ℕ) → eqb 4 k ≡ false → eqb 6 k ≡ false → eqb 0 k ≡ false → eqb (readingNumber (measuredOf s flags fills x y)) k ≡ false
+  measured-number : (k : ℕ) → eqb 4 k ≡ false → eqb 6 k ≡ false → eqb 0 k ≡ false → eqb (measuredOf s flags fills x y .number) k ≡ false
   unfolding measuredOf readingOf
   measured-number k a b d =
       let f = first (s .nz) (flagBad s flags x y) in
@@ -77,29 +76,29 @@ module _ (s : Sides) (flags fills : List ℕ) where
   abbrev inner : Reading
   inner = orElse (ltb 0 (s .nx) && ltb 0 (s .ny)) (refused 13 0) (measuredOf s flags fills 0 0)
 
-  inner-number : (k : ℕ) → eqb 4 k ≡ false → eqb 6 k ≡ false → eqb 0 k ≡ false → eqb 13 k ≡ false → eqb (readingNumber inner) k ≡ false
+  inner-number : (k : ℕ) → eqb 4 k ≡ false → eqb 6 k ≡ false → eqb 0 k ≡ false → eqb 13 k ≡ false → eqb (inner .number) k ≡ false
   inner-number k a b d e = go (ltb 0 (s .nx) && ltb 0 (s .ny))
     where
-      go : (t : Bool) → eqb (readingNumber (orElse t (refused 13 0) (measuredOf s flags fills 0 0))) k ≡ false
+      go : (t : Bool) → eqb (orElse t (refused 13 0) (measuredOf s flags fills 0 0) .number) k ≡ false
       go true = measured-number s flags fills 0 0 k a b d
       go false = e
 
   -- 1 exactly for bad sides
-  pub one-means : eqb (readingNumber (depthOf s flags fills 0 0)) 1 ≡ not (sidesGood s)
+  pub one-means : eqb (depthOf s flags fills 0 0 .number) 1 ≡ not (sidesGood s)
   unfolding depthOf
   one-means = go (sidesGood s) (lengths s flags fills 0 0)
     where
-      go : (a b : Bool) → eqb (readingNumber (orElse a (refused 1 0) (orElse b (refused 2 0) inner))) 1 ≡ not a
+      go : (a b : Bool) → eqb (orElse a (refused 1 0) (orElse b (refused 2 0) inner) .number) 1 ≡ not a
       go true true = inner-number 1 refl refl refl refl
       go true false = refl
       go false b = refl
 
   -- then 2 exactly for wrong lengths
-  pub two-means : sidesGood s ≡ true → eqb (readingNumber (depthOf s flags fills 0 0)) 2 ≡ not (lengths s flags fills 0 0)
+  pub two-means : sidesGood s ≡ true → eqb (depthOf s flags fills 0 0 .number) 2 ≡ not (lengths s flags fills 0 0)
   unfolding depthOf
   two-means g = go (sidesGood s) (lengths s flags fills 0 0) g
     where
-      go : (a b : Bool) → a ≡ true → eqb (readingNumber (orElse a (refused 1 0) (orElse b (refused 2 0) inner))) 2 ≡ not b
+      go : (a b : Bool) → a ≡ true → eqb (orElse a (refused 1 0) (orElse b (refused 2 0) inner) .number) 2 ≡ not b
       go true true e = inner-number 2 refl refl refl refl
       go true false e = refl
       go false b e = absurd (false≢true e)

@@ -1,12 +1,12 @@
 -- No second answer fits a promise of this layer: what the definition gives for an input admits one value of the code's enum or struct. Assumes nothing.
-use mathlib.Core.Path.{_≡_, refl, sym, ap, _∙_}
+use mathlib.Core.Path.{_≡_, sym, ap, _∙_}
 use lib.Dec.{lit<}
 use Rattle.tunnel.specs.declared.Placed.{Placed}
 use Rattle.tunnel.specs.declared.CellPoint.{CellPoint}
 use Rattle.tunnel.specs.declared.Depth.{Depth}
-use Rattle.tunnel.specs.declared.Depth.the-variants.{Deep}
 use Rattle.tunnel.specs.Point.{WholePoint, PointIs}
-use Rattle.tunnel.specs.Depth.{Reading, DepthIs, is-refused, is-solid, is-dry, is-deep}
+use Rattle.tunnel.specs.Depth.{Reading, Told, toldOf, Tells, DepthIs}
+use Rattle.tunnel.proofs.Cases.{caseOf, told-back}
 use Rattle.tunnel.proofs.Floats.{exactly-one}
 
 -- placing: the promise is an equation
@@ -25,9 +25,15 @@ point-one {r} {t} {w} p q =
       fill = exactly-one (r .fill) (t .fill) (w .fill) 65536 (lit< tt) (p .fill) (q .fill) i;
     }
 
--- depth: the case, and in the last the `f32`
+-- depth: number, place, kind, and an `f32` whose value is given exactly; they tell the case
+pub told-one : {r t : Told} {w : Reading} → Tells r w → Tells t w → r ≡ t
+told-one {r} {t} {w} p q =
+    λ i. record {
+      number = (p .number-is ∙ sym (q .number-is)) i;
+      place = (p .place-is ∙ sym (q .place-is)) i;
+      kind = (p .kind-is ∙ sym (q .kind-is)) i;
+      value = exactly-one (r .value) (t .value) (w .sum) 65536 (lit< tt) (p .value-is) (q .value-is) i;
+    }
+
 pub depth-one : {r t : Depth} {w : Reading} → DepthIs r w → DepthIs t w → r ≡ t
-depth-one is-refused is-refused = refl
-depth-one is-solid is-solid = refl
-depth-one is-dry is-dry = refl
-depth-one (is-deep {depth = f} {sum = s} h) (is-deep {depth = g} k) = ap Deep (exactly-one f g s 65536 (lit< tt) h k)
+depth-one {r} {t} p q = sym (told-back r) ∙ ap caseOf (told-one (p .told) (q .told)) ∙ told-back t

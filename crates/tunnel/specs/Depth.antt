@@ -1,9 +1,11 @@
--- Depth of a column: what it answers for every input. Assumes nothing.
-use mathlib.Core.Bool.{Bool, _&&_, cond}
+-- Depth of a column: what it answers for every input, in document 01's numbers. Assumes nothing.
+use mathlib.Core.Path.{_≡_}
+use mathlib.Core.Bool.{Bool, false, _&&_, cond}
 use mathlib.Core.List.{List}
 use Prim.Native.Nat.{ℕ}
 use lib.Dec.{eqb, leb, ltb}
-use lib.Ieee.{Float}
+use lib.IntN.{pos}
+use lib.Ieee.{Float, fin}
 use lib.ListN.{length, getD}
 use Rattle.whole.specs.Fold.{first, all, total}
 use Rattle.grid.specs.declared.Sides.{Sides}
@@ -13,11 +15,25 @@ use Rattle.tunnel.specs.declared.Depth.the-variants.{Refused, Solid, Dry
 use Rattle.tunnel.specs.Refusal.{orElse}
 use Rattle.tunnel.specs.Exact.{Exactly}
 
--- a depth in whole numbers: number and place of the refusal, solid, dry, or a depth in 65,536ths of a cell
-pub data Reading : Type 0 where
-  refused : ℕ → ℕ → Reading
-  solid dry : Reading
-  deep : ℕ → Reading
+-- a depth in whole numbers: number and place of the refusal, 0 0 if accepted; the kind, 0 refused, 1 solid, 2 dry, 3 deep; and the depth in 65,536ths
+-- of a cell, 0 unless deep
+pub record Reading : Type 0 where
+  pub number : ℕ
+  pub place : ℕ
+  pub kind : ℕ
+  pub sum : ℕ
+
+abbrev pub refused : ℕ → ℕ → Reading
+refused number place = record { number = number; place = place; kind = 0; sum = 0 }
+
+abbrev pub solid : Reading
+solid = record { number = 0; place = 0; kind = 1; sum = 0 }
+
+abbrev pub dry : Reading
+dry = record { number = 0; place = 0; kind = 2; sum = 0 }
+
+abbrev pub deep : ℕ → Reading
+deep sum = record { number = 0; place = 0; kind = 3; sum = sum }
 
 -- what the column (x, y) has at height z
 abbrev pub columnAt : Sides → List ℕ → ℕ → ℕ → ℕ → ℕ
@@ -58,12 +74,36 @@ depthOf s flags fills x y =
     (orElse (ltb x (s .nx) && ltb y (s .ny)) (refused 13 0)
     (measuredOf s flags fills x y)))
 
--- the paper's number and values for each case of the code's enum
-pub data DepthIs : Depth → Reading → Type 0 where
-  is-refused : {number place : ℕ} → DepthIs (Refused number place) (refused number place)
-  is-solid : DepthIs Solid solid
-  is-dry : DepthIs Dry dry
-  is-deep : {depth : Float} {sum : ℕ} → Exactly depth sum 65536 → DepthIs (Deep depth) (deep sum)
+-- ---- the code's enum
+
+-- what is told of a depth: number, place and kind as above, and the depth in cells as an `f32`
+pub record Told : Type 0 where
+  pub number : ℕ
+  pub place : ℕ
+  pub kind : ℕ
+  pub value : Float
+
+-- the f32 0
+abbrev pub zeroFloat : Float
+zeroFloat = fin false 0 (pos 0)
+
+-- the paper's number, place, kind and value for each case
+abbrev pub toldOf : Depth → Told
+toldOf (Refused number place) = record { number = number; place = place; kind = 0; value = zeroFloat }
+toldOf Solid = record { number = 0; place = 0; kind = 1; value = zeroFloat }
+toldOf Dry = record { number = 0; place = 0; kind = 2; value = zeroFloat }
+toldOf (Deep depth) = record { number = 0; place = 0; kind = 3; value = depth }
+
+-- what is told is a reading: number, place and kind are its own, and the `f32` is exact
+pub record Tells (t : Told) (w : Reading) : Type 0 where
+  pub number-is : t .number ≡ w .number
+  pub place-is : t .place ≡ w .place
+  pub kind-is : t .kind ≡ w .kind
+  pub value-is : Exactly (t .value) (w .sum) 65536
+
+-- what is told of the code's depth is that reading
+pub record DepthIs (a : Depth) (w : Reading) : Type 0 where
+  pub told : Tells (toldOf a) w
 
 -- names every definition of this file: whoever unfolds this computes with all of them
 unfoldable pub open-depth : Unit {0}

@@ -3,5 +3,4 @@ pub mod Exact
 pub mod Place
 pub mod Point
 pub mod Depth
-pub mod Kinds
 pub mod Asks

@@ -3,7 +3,7 @@ use crate::Depth;
 use crate::Placed;
 ghost use mathlib.Core.Path.{_≡_};
 ghost use Rattle.tunnel.specs.Place.{refusalNumber, refusalPlace, cellNumber};
-ghost use Rattle.tunnel.specs.Kinds.{depthNumber, depthPlace, depthKind, depthValue};
+ghost use Rattle.tunnel.specs.Depth.{toldOf};
 
 pub fn refusal_number(a: Placed) -> u8
     ensures { λ r. ⌜ r ≡ refusalNumber a ⌝ }
@@ -33,7 +33,7 @@ pub fn cell_number(a: Placed) -> usize
 }
 
 pub fn depth_number(a: Depth) -> u8
-    ensures { λ r. ⌜ r ≡ depthNumber a ⌝ }
+    ensures { λ r. ⌜ r ≡ toldOf a .number ⌝ }
 {
     match a {
         Depth::Refused(number, _) => number,
@@ -44,7 +44,7 @@ pub fn depth_number(a: Depth) -> u8
 }
 
 pub fn depth_place(a: Depth) -> usize
-    ensures { λ r. ⌜ r ≡ depthPlace a ⌝ }
+    ensures { λ r. ⌜ r ≡ toldOf a .place ⌝ }
 {
     match a {
         Depth::Refused(_, place) => place,
@@ -56,7 +56,7 @@ pub fn depth_place(a: Depth) -> usize
 
 // 0 refused, 1 solid, 2 dry, 3 deep.
 pub fn depth_kind(a: Depth) -> u8
-    ensures { λ r. ⌜ r ≡ depthKind a ⌝ }
+    ensures { λ r. ⌜ r ≡ toldOf a .kind ⌝ }
 {
     match a {
         Depth::Refused(_, _) => 0,
@@ -68,7 +68,7 @@ pub fn depth_kind(a: Depth) -> u8
 
 // 0 unless deep.
 pub fn depth_value(a: Depth) -> f32
-    ensures { λ r. ⌜ r ≡ depthValue a ⌝ }
+    ensures { λ r. ⌜ r ≡ toldOf a .value ⌝ }
 {
     match a {
         Depth::Refused(_, _) => 0.0,

@@ -1,5 +1,5 @@
 -- Stage 5's new interface cells: the flow of a liquid neighbour after stage 3, and the means over neighbours. Assumes nothing.
-use mathlib.Core.Path.{_≡_, refl, sym, ap, ap₂, _∙_}
+use mathlib.Core.Path.{_≡_, sym, ap, ap₂, _∙_}
 use mathlib.Core.Bool.{true, false, cond, false≢true}
 use mathlib.Core.List.{List, []}
 use Prim.Native.Nat.{ℕ, zero, suc, _+_, _-_, _<_}
@@ -14,9 +14,9 @@ use Rattle.lattice.specs.Body.{partsOf, Bounded, vec, stillDir, stillPart, body
 use Rattle.lattice.specs.declared.Flow.{Flow}
 use Rattle.lattice.specs.declared.Settings.{Settings}
 use Rattle.grid.specs.State.{liquid}
-use Rattle.grid.specs.Step.{seen, normal, oldDensity, oldMomentum, leansTo, rebuilt, rebuild, arrives, streamed, newDensity, newMomentum, bornDir, born}
-use Rattle.grid.specs.Sight.{weighing, Bodies, Around, noSettings, sight}
-use Rattle.grid.proofs.Same.{density-same, momentum-same, body-same}
+use Rattle.grid.specs.Step.{streamed, newDensity, newMomentum, bornDir, born}
+use Rattle.grid.specs.Sight.{weighing, Bodies, Around, sight}
+use Rattle.grid.proofs.Same.{body-same}
 use Rattle.flow.proofs.Spans.{Light, streamed-in}
 use Rattle.turn.specs.Born.{NewFlow, Joined, Added, Begins}
 use Rattle.turn.specs.declared.birth.Sum.{Sum}
@@ -30,29 +30,20 @@ wet-low (suc (suc zero)) e = omega arith
 wet-low (suc (suc (suc n))) e = absurd (false≢true e)
 
 module _ (weights : ℕ → ℕ) (flags : List ℕ) (part : ℕ → ℕ → ℤ) (fills off : List ℕ) (low : ℕ) (g : Settings) (c : ℕ) where
-  -- streaming knows no settings
-  pub stream-same : (k : ℕ) → streamed (sight weights flags part [] fills off low noSettings) c k ≡ streamed (sight weights flags part [] fills off low g) c k
-  unfolding streamed arrives seen normal leansTo rebuilt rebuild oldDensity oldMomentum sight
-  stream-same zero = refl
-  stream-same (suc a) = refl
-
-  module _ (l : List ℤ) (e : l ≡ tab 19 (streamed (sight weights flags part [] fills off low noSettings) c)) where
+  -- what streamed in
+  module _ (l : List ℤ) (e : l ≡ tab 19 (streamed (sight weights flags part [] fills off low g) c)) where
     pub density-now : density d3q19 (partsOf l) ≡ newDensity (sight weights flags part [] fills off low g) c
     unfolding newDensity sight d3q19 density
-    density-now =
-        density-is l (streamed (sight weights flags part [] fills off low noSettings) c) e
-        ∙ density-same d3q19 (streamed (sight weights flags part [] fills off low noSettings) c) (streamed (sight weights flags part [] fills off low g) c) (λ k h. stream-same k)
+    density-now = density-is l (streamed (sight weights flags part [] fills off low g) c) e
 
     pub momentum-now : momentum d3q19 (partsOf l) ≡ momentum d3q19 (streamed (sight weights flags part [] fills off low g) c)
     unfolding d3q19
-    momentum-now =
-        momentum-is l (streamed (sight weights flags part [] fills off low noSettings) c) e
-        ∙ momentum-same d3q19 (streamed (sight weights flags part [] fills off low noSettings) c) (streamed (sight weights flags part [] fills off low g) c) (λ k h. stream-same k)
+    momentum-now = momentum-is l (streamed (sight weights flags part [] fills off low g) c) e
 
     pub bounded-now : Light weights → Bodies flags part → Around (length flags) off low c → liquid (getD flags c 3) ≡ true → Bounded l 1073741824 33554432
     bounded-now light t a w =
-        let i = streamed-in weights light flags part fills off low noSettings t c a w in
-        bounded-is l (streamed (sight weights flags part [] fills off low noSettings) c) e (record { abs = omega (arith, i 0 (omega arith) .abs) })
+        let i = streamed-in weights light flags part fills off low g t c a w in
+        bounded-is l (streamed (sight weights flags part [] fills off low g) c) e (record { abs = omega (arith, i 0 (omega arith) .abs) })
         (λ k z h. record { abs = omega (arith, i k (omega arith) .abs) })
 
   -- ---- one neighbour more

@@ -23,6 +23,7 @@ use Rattle.grid.specs.Outcome.{sceneOf, goodAnswer}
 use Rattle.grid.specs.Between.{Ready, Poised, movedPart, movedMass, firstMark, settledMark, bornPart}
 use Rattle.grid.specs.Halfway.{Moved, Turning, Turned}
 use Rattle.grid.specs.Passes.{lowOf, offsetOf, Flagged, Emptying, Marked, keptMark, turnedFlag}
+use Rattle.grid.specs.Sight.{boxSight}
 use Rattle.grid.proofs.Accepted.{none-found}
 use Rattle.grid.proofs.Beside.{Offsets}
 use Rattle.grid.proofs.Blocks.{blocks-all}
@@ -33,7 +34,7 @@ use Rattle.flow.specs.Flowed.{MovedTo}
 use Rattle.flow.proofs.Marking.{settled-box, turned-box}
 use Rattle.flow.proofs.Poise.{poised-bodied}
 use Rattle.excess.specs.Gifts.{strayAt}
-use Rattle.turn.specs.Born.{flowSight, newlyBorn, laterPart, Tested, Fertile, Peopled}
+use Rattle.turn.specs.Born.{newlyBorn, laterPart, Tested, Fertile, Peopled}
 use Rattle.turn.specs.Turned.{TurnedTo}
 use Rattle.turn.proofs.Field.{Field, fieldOf, Sound, sound}
 use Rattle.turn.proofs.Given.{Midway, carry-is}
@@ -196,9 +197,9 @@ module _ (s : Sides) (g : Settings) (a : Lent) (r : Ready s g a) (steady : cells
     }
 
     module _ (before after : List ℤ) (eb : before ≡ tab (19 * n) (λ m. movedPart S (m / 19) (m % 19))) (fair : Bool)
-        (peopled : Peopled (flowSight (a .flags) (a .parts) (a .fills) (tab 19 (offsetOf s)) (lowOf s) g) (newlyBorn (a .flags) flags) (length (a .flags)) before after fair) where
+        (peopled : Peopled (boxSight (a .flags) (a .parts) [] (a .fills) (tab 19 (offsetOf s)) (lowOf s) g) (newlyBorn (a .flags) flags) (length (a .flags)) before after fair) where
       later : ℕ → ℕ → ℤ
-      later = laterPart (flowSight (a .flags) (a .parts) (a .fills) (tab 19 (offsetOf s)) (lowOf s) g) (newlyBorn (a .flags) flags) (partOf before)
+      later = laterPart (boxSight (a .flags) (a .parts) [] (a .fills) (tab 19 (offsetOf s)) (lowOf s) g) (newlyBorn (a .flags) flags) (partOf before)
 
       later-at : (c k : ℕ) → c < n → k < 19 → later c k ≡ bornPart S c k
       unfolding later sceneOf stateOf

@@ -22,19 +22,15 @@ use Rattle.grid.specs.Sight.{Bodies, Bodied, bodiesOf, Around, sight, boxSight}
 use Rattle.flow.specs.Trade.{Fills}
 use Rattle.turn.specs.declared.birth.Sum.{Sum}
 
--- the box's scene of flags, parts and fills under settings g
-abbrev pub flowSight : List ℕ → List ℤ → List ℕ → List ℕ → ℕ → Settings → Scene
-flowSight flags parts fills off low g = boxSight flags parts [] fills off low g
-
 -- stage 3 has passed: every liquid cell's ρ' and j' are in their ranges; and whatever is no wall has all its neighbours
 pub record Tested (flags : List ℕ) (parts : List ℤ) (fills off : List ℕ) (low : ℕ) (g : Settings) : Type 0 where
   pub bodies : Bodied flags parts
   pub fills-good : Fills flags fills
   pub gravity : gravityGood (g .gx) (g .gy) (g .gz) ≡ true
   pub around : (c : ℕ) → c < length flags → getD flags c 3 < 3 → Around (length flags) off low c
-  pub is-dense : (c : ℕ) → c < length flags → liquid (getD flags c 3) ≡ true → dense (newDensity (flowSight flags parts fills off low g) c) ≡ true
+  pub is-dense : (c : ℕ) → c < length flags → liquid (getD flags c 3) ≡ true → dense (newDensity (boxSight flags parts [] fills off low g) c) ≡ true
   pub is-slow : (c : ℕ) → c < length flags → liquid (getD flags c 3) ≡ true
-      → slow (newDensity (flowSight flags parts fills off low g) c) (dot (newMomentum (flowSight flags parts fills off low g) c) (newMomentum (flowSight flags parts fills off low g) c)) ≡ true
+      → slow (newDensity (boxSight flags parts [] fills off low g) c) (dot (newMomentum (boxSight flags parts [] fills off low g) c) (newMomentum (boxSight flags parts [] fills off low g) c)) ≡ true
 
 -- the same over any parts and weights
 pub record TestedOn (weights : ℕ → ℕ) (flags : List ℕ) (part : ℕ → ℕ → ℤ) (fills off : List ℕ) (low : ℕ) (g : Settings) : Type 0 where
@@ -109,7 +105,7 @@ newlyBorn flags flags2 c = eqb (getD flags c 3) 0 && eqb (getD flags2 c 3) 1
 pub record Fertile (flags : List ℕ) (parts : List ℤ) (fills off : List ℕ) (low : ℕ) (g : Settings) (flags2 : List ℕ) : Type 0 where
   pub tested : Tested flags parts fills off low g
   pub count : length flags2 ≡ length flags
-  pub fed : (c : ℕ) → c < length flags → newlyBorn flags flags2 c ≡ true → 0 < liquidNear (flowSight flags parts fills off low g) c
+  pub fed : (c : ℕ) → c < length flags → newlyBorn flags flags2 c ≡ true → 0 < liquidNear (boxSight flags parts [] fills off low g) c
 
 -- cell c's parts are written, and fair says whether they keep a liquid cell's rules
 pub record Placed (S : Scene) (c : ℕ) (before after : List ℤ) (fair : Bool) : Type 0 where

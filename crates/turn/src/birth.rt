@@ -15,6 +15,7 @@ use lattice::rules::fair_parts;
 use whole::wide;
 ghost use mathlib.Core.Path.{_≡_};
 ghost use mathlib.Core.Bool.{true, _&&_};
+ghost use mathlib.Core.List.{[]};
 ghost use Prim.Native.Nat.{_+_, _*_, _<_, _≤_};
 ghost use lib.Dec.{eqb};
 ghost use lib.IntN.{pos, _+ℤ_};
@@ -26,8 +27,8 @@ ghost use Rattle.grid.specs.Grid.{sidesGood};
 ghost use Rattle.grid.specs.Passes.{lowOf, offsetOf};
 ghost use Rattle.grid.specs.State.{liquid};
 ghost use Rattle.grid.specs.Step.{liquidNear};
-ghost use Rattle.grid.specs.Sight.{Around};
-ghost use Rattle.turn.specs.Born.{Tested, Roomy, NewFlow, Joined, Added, Countable, Meant, Begins, Placed, Fertile, Visited, Peopled, newlyBorn, flowSight};
+ghost use Rattle.grid.specs.Sight.{Around, boxSight};
+ghost use Rattle.turn.specs.Born.{Tested, Roomy, NewFlow, Joined, Added, Countable, Meant, Begins, Placed, Fertile, Visited, Peopled, newlyBorn};
 
 // How many cells, and the sums of their density and momentum.
 pub struct Sum {
@@ -49,7 +50,7 @@ fn flow_at(
     g: Settings,
 ) -> Flow
     requires { ⌜ Tested (now flags) (now parts) (now fill) (now off) low g × (b < length (now flags)) × (liquid (getD (now flags) b 3) ≡ true) ⌝ }
-    ensures { λ r. ⌜ NewFlow (flowSight (now (flags .entry)) (now (parts .entry)) (now (fill .entry)) (now (off .entry)) low g) b r ⌝ }
+    ensures { λ r. ⌜ NewFlow (boxSight (now (flags .entry)) (now (parts .entry)) [] (now (fill .entry)) (now (off .entry)) low g) b r ⌝ }
 {
     pulled(flow_of(streamed(flags, parts, fill, off, low, b)), g)
 }
@@ -87,7 +88,7 @@ fn with_cell(
     g: Settings,
 ) -> Sum
     requires { ⌜ Tested (now flags) (now parts) (now fill) (now off) low g × (b < length (now flags)) × Roomy t ⌝ }
-    ensures { λ r. ⌜ Added (flowSight (now (flags .entry)) (now (parts .entry)) (now (fill .entry)) (now (off .entry)) low g) t b r ⌝ }
+    ensures { λ r. ⌜ Added (boxSight (now (flags .entry)) (now (parts .entry)) [] (now (fill .entry)) (now (off .entry)) low g) t b r ⌝ }
 {
     if is_liquid(flags[b]) {
         return joined(t, flow_at(flags, parts, fill, off, low, b, g));
@@ -125,8 +126,8 @@ fn mean_flow(
     c: usize,
     g: Settings,
 ) -> Flow
-    requires { ⌜ Tested (now flags) (now parts) (now fill) (now off) low g × Around (length (now flags)) (now off) low c × (0 < liquidNear (flowSight (now flags) (now parts) (now fill) (now off) low g) c) ⌝ }
-    ensures { λ r. ⌜ Begins (flowSight (now (flags .entry)) (now (parts .entry)) (now (fill .entry)) (now (off .entry)) low g) c r ⌝ }
+    requires { ⌜ Tested (now flags) (now parts) (now fill) (now off) low g × Around (length (now flags)) (now off) low c × (0 < liquidNear (boxSight (now flags) (now parts) [] (now fill) (now off) low g) c) ⌝ }
+    ensures { λ r. ⌜ Begins (boxSight (now (flags .entry)) (now (parts .entry)) [] (now (fill .entry)) (now (off .entry)) low g) c r ⌝ }
 {
     let k = c - low;
     let mut t = Sum {
@@ -155,8 +156,8 @@ fn put_born(
     c: usize,
     g: Settings,
 ) -> bool
-    requires { ⌜ Tested (now flags) (now parts) (now fill) (now off) low g × Around (length (now flags)) (now off) low c × (0 < liquidNear (flowSight (now flags) (now parts) (now fill) (now off) low g) c) × (19 * c + 19 ≤ length (now parts2)) ⌝ }
-    ensures { λ r. ⌜ Placed (flowSight (now (flags .entry)) (now (parts .entry)) (now (fill .entry)) (now (off .entry)) low g) c (now (parts2 .entry)) (now (parts2 .exit)) r ⌝ }
+    requires { ⌜ Tested (now flags) (now parts) (now fill) (now off) low g × Around (length (now flags)) (now off) low c × (0 < liquidNear (boxSight (now flags) (now parts) [] (now fill) (now off) low g) c) × (19 * c + 19 ≤ length (now parts2)) ⌝ }
+    ensures { λ r. ⌜ Placed (boxSight (now (flags .entry)) (now (parts .entry)) [] (now (fill .entry)) (now (off .entry)) low g) c (now (parts2 .entry)) (now (parts2 .exit)) r ⌝ }
 {
     let v = equilibrium(mean_flow(flags, parts, fill, off, low, c, g));
     paste(parts2, 19 * c, v);
@@ -182,7 +183,7 @@ fn visit(
     g: Settings,
 ) -> bool
     requires { ⌜ Fertile (now flags) (now parts) (now fill) (now off) low g (now flags2) × (c < length (now flags)) × (length (now parts2) ≡ 19 * length (now flags)) ⌝ }
-    ensures { λ r. ⌜ Visited (flowSight (now (flags .entry)) (now (parts .entry)) (now (fill .entry)) (now (off .entry)) low g) (newlyBorn (now (flags .entry)) (now (flags2 .entry))) c (now (parts2 .entry)) (now (parts2 .exit)) r ⌝ }
+    ensures { λ r. ⌜ Visited (boxSight (now (flags .entry)) (now (parts .entry)) [] (now (fill .entry)) (now (off .entry)) low g) (newlyBorn (now (flags .entry)) (now (flags2 .entry))) c (now (parts2 .entry)) (now (parts2 .exit)) r ⌝ }
 {
     if is_newborn(flags[c], flags2[c]) {
         return put_born(flags, parts, fill, parts2, off, low, c, g);
@@ -201,7 +202,7 @@ pub(crate) fn newborn(
     g: Settings,
 ) -> bool
     requires { ⌜ (sidesGood s ≡ true) × Fertile (now flags) (now parts) (now fill) (tab 19 (offsetOf s)) (lowOf s) g (now flags2) × (length (now parts2) ≡ 19 * length (now flags)) ⌝ }
-    ensures { λ r. ⌜ Peopled (flowSight (now (flags .entry)) (now (parts .entry)) (now (fill .entry)) (tab 19 (offsetOf s)) (lowOf s) g) (newlyBorn (now (flags .entry)) (now (flags2 .entry))) (length (now (flags .entry))) (now (parts2 .entry)) (now (parts2 .exit)) r ⌝ }
+    ensures { λ r. ⌜ Peopled (boxSight (now (flags .entry)) (now (parts .entry)) [] (now (fill .entry)) (tab 19 (offsetOf s)) (lowOf s) g) (newlyBorn (now (flags .entry)) (now (flags2 .entry))) (length (now (flags .entry))) (now (parts2 .entry)) (now (parts2 .exit)) r ⌝ }
 {
     let off = offsets(s);
     let low = low_of(s);

@@ -12,6 +12,7 @@ use lattice::limits::fair_carry;
 ghost use mathlib.Core.Path.{_≡_};
 ghost use mathlib.Core.Bool.{true, false};
 ghost use Rattle.grid.specs.Grid.{cellsOf};
+ghost use Rattle.grid.specs.State.{lent};
 ghost use Rattle.grid.specs.Outcome.{sceneOf};
 ghost use Rattle.grid.specs.Halfway.{Turning, Turned};
 
@@ -30,8 +31,8 @@ fn converted(
     s: Sides,
     g: Settings,
 ) -> bool
-    requires { ⌜ Turning s g (record { flags = now flags; parts = now parts; masses = now mass; fills = now fill; carry = now carry }) (now flags2) (now parts2) (now mass2) (now carry2) (now marks) false × (now flags2 ≡ now flags) ⌝ }
-    ensures { λ r. ⌜ Turned (sceneOf s g (record { flags = now (flags .entry); parts = now (parts .entry); masses = now (mass .entry); fills = now (fill .entry); carry = now (carry .entry) })) (cellsOf s) (now (flags2 .exit)) (now (parts2 .exit)) (now (mass2 .exit)) (now (carry2 .exit)) (now (marks .exit)) r ⌝ }
+    requires { ⌜ Turning s g (lent (now flags) (now parts) (now mass) (now fill) (now carry)) (now flags2) (now parts2) (now mass2) (now carry2) (now marks) false × (now flags2 ≡ now flags) ⌝ }
+    ensures { λ r. ⌜ Turned (sceneOf s g (lent (now (flags .entry)) (now (parts .entry)) (now (mass .entry)) (now (fill .entry)) (now (carry .entry)))) (cellsOf s) (now (flags2 .exit)) (now (parts2 .exit)) (now (mass2 .exit)) (now (carry2 .exit)) (now (marks .exit)) r ⌝ }
 {
     marks::settle_marks(marks, s);
     convert::new_flags(flags, marks, flags2, s);
@@ -59,8 +60,8 @@ pub fn turned(
     s: Sides,
     g: Settings,
 ) -> bool
-    requires { ⌜ Turning s g (record { flags = now flags; parts = now parts; masses = now mass; fills = now fill; carry = now carry }) (now flags2) (now parts2) (now mass2) (now carry2) (now marks) still ⌝ }
-    ensures { λ r. ⌜ Turned (sceneOf s g (record { flags = now (flags .entry); parts = now (parts .entry); masses = now (mass .entry); fills = now (fill .entry); carry = now (carry .entry) })) (cellsOf s) (now (flags2 .exit)) (now (parts2 .exit)) (now (mass2 .exit)) (now (carry2 .exit)) (now (marks .exit)) r ⌝ }
+    requires { ⌜ Turning s g (lent (now flags) (now parts) (now mass) (now fill) (now carry)) (now flags2) (now parts2) (now mass2) (now carry2) (now marks) still ⌝ }
+    ensures { λ r. ⌜ Turned (sceneOf s g (lent (now (flags .entry)) (now (parts .entry)) (now (mass .entry)) (now (fill .entry)) (now (carry .entry)))) (cellsOf s) (now (flags2 .exit)) (now (parts2 .exit)) (now (mass2 .exit)) (now (carry2 .exit)) (now (marks .exit)) r ⌝ }
 {
     copying::copy_u8(flags, flags2);
     copying::copy_i64(carry, carry2);

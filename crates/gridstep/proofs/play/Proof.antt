@@ -1,12 +1,19 @@
--- `gridstep::play` lends the parts of its room that the record asks for. Assumes nothing.
+-- `gridstep::play` lends the parts of its room that the record asks for, and a record too long none. Assumes nothing.
 use borrow.Author.Needs.{needs}
-use mathlib.Core.Path.{sym, subst}
-use Prim.Native.Nat.{ℕ, _≤_}
+use mathlib.Core.Path.{_≡_, refl, sym, ap, _∙_, subst}
+use Prim.Native.Nat.{ℕ, _*_, _≤_}
 use native.Mathlib.Omega.{arith}
 use lib.Seq.{length-take-le}
 use Rattle.gridstep.proofs.Addends.{take-low}
+use Rattle.gridstep.proofs.Lines.{told-long, told-is}
 use Rattle.gridstep.proofs.play.Statement.{statement}
 use Rattle.gridstep.proofs.play.Tie as tie
+
+refuse-requires : tie.Need-refuse-requires
+refuse-requires c κs = search needs
+
+returns : tie.Need-returns
+returns c = c .refuse .ensures ∙ told-long _ (c .before .if1 .taken)
 
 room-requires : tie.Need-room-requires
 room-requires c κs = search needs
@@ -74,16 +81,37 @@ slice-aggregate-play-10 c = sym (length-take-le _ _ (omega arith))
 play-requires : tie.Need-play-requires
 play-requires c κs = (
   take-low (c .before .before .before .before .before .before .before .before .before .before .room .result) _ 862 (omega arith) (omega arith),
-  subst (λ (k : ℕ). k ≤ 862) (slice-aggregate-play-7 (c .before .before .before)) (omega arith),
+  (subst (λ (k : ℕ). k ≤ 862) (slice-aggregate-play-7 (c .before .before .before)) (omega arith), (refl, refl)),
 )
 
-returns : tie.Need-returns
-returns c = search needs
+returns-2 : tie.Need-returns-2
+returns-2 c =
+    let m = c .before .before .before .before .before .before .before .before .before .before .before in
+    let room = m .before .before .before .before .before .before .before .before .before .before .room .ensures .0 in
+    let parts = ap (λ (n : ℕ). 19 * n) room in
+    c .before .before .before .before .before .before .before .before .before .before .play .ensures
+    ∙ told-is _ _ _ _ (omega (arith, c .before .before .before .before .before .before .before .before .before .before .before .before .before .before .before .before .before .before .before .before .before .before .if1 .left))
+    (record {
+      parts = sym (slice-aggregate-play (m .before .before .before .before .before .before .before .before .before)) ∙ parts;
+      masses = sym (slice-aggregate-play-2 (m .before .before .before .before .before .before .before .before)) ∙ room;
+      fills = sym (slice-aggregate-play-3 (m .before .before .before .before .before .before .before)) ∙ room;
+      carry = refl;
+    })
+    (record {
+      flags = sym (slice-aggregate-play-5 (m .before .before .before .before .before)) ∙ room;
+      parts = sym (slice-aggregate-play-6 (m .before .before .before .before)) ∙ parts;
+      masses = sym (slice-aggregate-play-7 (m .before .before .before)) ∙ room;
+      fills = sym (slice-aggregate-play-8 (m .before .before)) ∙ room;
+      carry = refl;
+      marked = sym (slice-aggregate-play-10 m) ∙ room;
+    })
 
 pub play-spec : {M : Type 1} → statement M
 play-spec =
     tie.close
     (tie.spec
+    refuse-requires
+    returns
     room-requires
     mul-parts
     array-borrow-prefix-parts
@@ -106,4 +134,4 @@ play-spec =
     array-borrow-prefix-marks
     slice-aggregate-play-10
     play-requires
-    returns)
+    returns-2)

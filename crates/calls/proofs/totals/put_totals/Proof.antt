@@ -31,8 +31,8 @@ same-length c = search needs
 
 returns : tie.Need-returns
 returns c =
-    let w = c .before .before in
-    let poured : toZ w64 (ofZ w64 (getD (w .args .from .now) 1 (pos 0))) ≡ getD (w .args .from .now) 1 (pos 0) = toZ-ofZ (sfits-of {w = w64} (c .before .totals .given)) in
+    let after-totals : tie.After-totals = search in let w : tie.Start = search in
+    let poured : toZ w64 (ofZ w64 (getD (w .args .from .now) 1 (pos 0))) ≡ getD (w .args .from .now) 1 (pos 0) = toZ-ofZ (sfits-of {w = w64} (after-totals .totals .given)) in
     let taken : toZ w64 (ofZ w64 (getD (w .args .from .now) 2 (pos 0))) ≡ getD (w .args .from .now) 2 (pos 0) = toZ-ofZ (sfits-of {w = w64} (c .totals2 .given)) in
     all-put (w .args .totals .now) _ _ _ (w .pre .1) ∙ (λ i. toZ-ofZ (w .fits .carry) i ∷ poured i ∷ taken i ∷ [])
 

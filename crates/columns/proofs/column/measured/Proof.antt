@@ -3,7 +3,8 @@ use borrow.Author.Needs.{needs}
 use borrow.Author.Tests.{le-leb, lt-leb}
 use mathlib.Core.Path.{subst}
 use Prim.Native.Nat.{ℕ, _≤_}
-use Rattle.tunnel.specs.Depth.{measuredOf, is-refused}
+use Rattle.tunnel.specs.Depth.{measuredOf}
+use Rattle.tunnel.proofs.Cases.{is-refused}
 use Rattle.columns.proofs.column.measured.Statement.{statement}
 use Rattle.columns.proofs.column.measured.Tie as tie
 

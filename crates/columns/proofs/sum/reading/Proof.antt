@@ -1,7 +1,8 @@
 -- `columns::sum::reading`: solid, dry, or the exact share of the sum. Assumes nothing.
 use borrow.Author.Needs.{needs}
 use borrow.Author.Tests.{eq-eqb, ne-eqb}
-use Rattle.tunnel.specs.Depth.{readingOf, is-solid, is-dry, is-deep}
+use Rattle.tunnel.specs.Depth.{readingOf}
+use Rattle.tunnel.proofs.Cases.{is-solid, is-dry, is-deep}
 use Rattle.columns.proofs.sum.reading.Statement.{statement}
 use Rattle.columns.proofs.sum.reading.Tie as tie
 

@@ -18,29 +18,29 @@ abbrev μ-loop : tie.MeasureT-loop
 μ-loop flags marks₀ off low end c₀ marks c = end - c
 
 sub-end : tie.Need-sub-end Inv-loop μ-loop
-sub-end c = omega (arith, c .before .before .pre .0 .room)
+sub-end c = let start : tie.Start Inv-loop μ-loop = search in omega (arith, start .pre .0 .room)
 
 loop-holds : tie.Need-loop-holds Inv-loop μ-loop
-loop-holds c = ranged-first 0 _ _ _ _ (omega (arith, c .before .before .pre .0 .room))
+loop-holds c = let start : tie.Start Inv-loop μ-loop = search in ranged-first 0 _ _ _ _ (omega (arith, start .pre .0 .room))
 
 shared-slice-read-open-mark : tie.Need-shared-slice-read-open-mark Inv-loop μ-loop
 shared-slice-read-open-mark c = search needs
 
 sub-beside : tie.Need-sub-beside Inv-loop μ-loop
-sub-beside c = c .before .before .loop .inv .from
+sub-beside c = let at-loop : tie.At-loop Inv-loop μ-loop = search in at-loop .loop .inv .from
 
 beside-requires : tie.Need-beside-requires Inv-loop μ-loop
 beside-requires c κs =
-    let l = c .before .before in
-    reach-by (l .before .before .before .pre .0) _ (record { from = l .loop .inv .from; to = omega (arith, c .before .loop-test .taken) }) _ refl
+    let in-loop : tie.In-loop Inv-loop μ-loop = search in let start : tie.Start Inv-loop μ-loop = search in let l : tie.At-loop Inv-loop μ-loop = search in
+    reach-by (start .pre .0) _ (record { from = l .loop .inv .from; to = omega (arith, in-loop .loop-test .taken) }) _ refl
 
 open-mark-requires : tie.Need-open-mark-requires Inv-loop μ-loop
 open-mark-requires c κs = search needs
 
 slice-write-marks : tie.Need-slice-write-marks Inv-loop μ-loop
 slice-write-marks c =
-    let l = c .before .before .before .before in
-    omega (arith, l .loop .inv .size, l .before .before .before .pre .1)
+    let start : tie.Start Inv-loop μ-loop = search in let l : tie.At-loop Inv-loop μ-loop = search in
+    omega (arith, l .loop .inv .size, start .pre .1)
 
 add-c : tie.Need-add-c Inv-loop μ-loop
 add-c c = search needs
@@ -50,18 +50,18 @@ loop-less c = search needs
 
 loop-again : tie.Need-loop-again Inv-loop μ-loop
 loop-again c =
-    let l = c .before .before .before .before in
-    let a = l .before .before .before in
-    ranged-more 0 _ (a .args .marks .now) _ _ (l .loop .marks) (l .loop .c) _ (l .loop .inv) (c .before .before .before .loop-test .taken) (omega (arith, a .pre .1))
-    (c .open-mark .ensures ∙ ap (openMark (getD (a .args .flags .now) (l .loop .c) 0)) (c .before .beside .ensures))
+    let after-beside : tie.After-beside Inv-loop μ-loop = search in let in-loop : tie.In-loop Inv-loop μ-loop = search in let l : tie.At-loop Inv-loop μ-loop = search in
+    let a : tie.Start Inv-loop μ-loop = search in
+    ranged-more 0 _ (a .args .marks .now) _ _ (l .loop .marks) (l .loop .c) _ (l .loop .inv) (in-loop .loop-test .taken) (omega (arith, a .pre .1))
+    (c .open-mark .ensures ∙ ap (openMark (getD (a .args .flags .now) (l .loop .c) 0)) (after-beside .beside .ensures))
 
 same-length : tie.Need-same-length Inv-loop μ-loop
 same-length c = c .before .loop .inv .size
 
 returns : tie.Need-returns Inv-loop μ-loop
 returns c =
-    let l = c .before in
-    let a = l .before .before .before in
+    let l : tie.At-loop Inv-loop μ-loop = search in
+    let a : tie.Start Inv-loop μ-loop = search in
     opened (a .args .flags .now) (a .args .marks .now) (a .args .off .now) (l .loop .marks) (a .args .low) (l .loop .c) (a .pre .1) (l .loop .inv) (c .loop-test .left)
 
 pub mark-open-by-spec : {M : Type 1} → statement M

@@ -1,31 +1,29 @@
 -- `flow::marks::settle_marks`: by the box's offsets, pass 2. Assumes nothing.
-use mathlib.Core.Path.{ap, _∙_}
-use lib.ListN.{length}
-use Rattle.whole.specs.Tab.{length-tab}
+use mathlib.Core.Path.{_∙_}
 use Rattle.grid.proofs.Beside.{Offsets}
 use Rattle.flow.proofs.Marking.{emptying-by, settled-box}
 use Rattle.flow.proofs.marks.settle_marks.Statement.{statement}
 use Rattle.flow.proofs.marks.settle_marks.Tie as tie
 
 offs : (c : tie.After-low-of) → Offsets (c .before .before .before .args .s) (c .before .offsets .result) (c .low-of .result)
-offs c = record { table = c .before .offsets .ensures; lowest = c .low-of .ensures }
+offs c = let after-offsets : tie.After-offsets = search in record { table = after-offsets .offsets .ensures; lowest = c .low-of .ensures }
 
 offsets-requires : tie.Need-offsets-requires
-offsets-requires c κs = c .before .pre .sides
+offsets-requires c κs = let start : tie.Start = search in start .pre .sides
 
 low-of-requires : tie.Need-low-of-requires
-low-of-requires c κs = c .before .before .pre .sides
+low-of-requires c κs = let start : tie.Start = search in start .pre .sides
 
 settle-marks-by-requires : tie.Need-settle-marks-by-requires
-settle-marks-by-requires c κs = emptying-by (offs (c .before .before)) _ (c .before .before .before .before .before .pre)
+settle-marks-by-requires c κs = let start : tie.Start = search in emptying-by (offs (search)) _ (start .pre)
 
 same-length : tie.Need-same-length
-same-length c = ap length (c .before .before .settle-marks-by .ensures) ∙ length-tab _ _
+same-length c = let after-marks : tie.After-marks = search in after-marks .marks .given
 
 returns : tie.Need-returns
 returns c =
-    let b = c .before .before .before .before .before in
-    c .before .before .settle-marks-by .ensures ∙ settled-box (offs b) _ (b .before .before .before .pre)
+    let after-settle-marks-by : tie.After-settle-marks-by = search in let start : tie.Start = search in let b : tie.After-low-of = search in
+    after-settle-marks-by .settle-marks-by .ensures ∙ settled-box (offs b) _ (start .pre)
 
 pub settle-marks-spec : {M : Type 1} → statement M
 settle-marks-spec = tie.close (tie.spec offsets-requires low-of-requires settle-marks-by-requires same-length returns)

@@ -24,8 +24,8 @@ abbrev μ-loop : tie.MeasureT-loop
 -- a cell to be emptied has all its neighbours
 within : (c : tie.Then1 Inv-loop μ-loop) → let l = c .before .before .before in Amid (length (l .before .before .args .marks .now)) (l .before .before .args .low) (l .loop .c)
 within c =
-    let l = c .before .before .before in
-    l .before .before .pre .inner _ (omega (arith, l .loop .inv .size, c .before .before .loop-test .taken)) (sym (l .loop .inv .rest _ (omega arith)) ∙ c .if1 .taken)
+    let in-loop : tie.In-loop Inv-loop μ-loop = search in let start : tie.Start Inv-loop μ-loop = search in let l : tie.At-loop Inv-loop μ-loop = search in
+    start .pre .inner _ (omega (arith, l .loop .inv .size, in-loop .loop-test .taken)) (sym (l .loop .inv .rest _ (omega arith)) ∙ c .if1 .taken)
 
 loop-holds : tie.Need-loop-holds Inv-loop μ-loop
 loop-holds c = ranged-first 0 _ _ 0 _ (omega arith)
@@ -34,12 +34,12 @@ slice-read-if1 : tie.Need-slice-read-if1 Inv-loop μ-loop
 slice-read-if1 c = search needs
 
 sub-beside : tie.Need-sub-beside Inv-loop μ-loop
-sub-beside c = within (c .before) .from
+sub-beside c = within (search) .from
 
 beside-requires : tie.Need-beside-requires Inv-loop μ-loop
 beside-requires c κs =
-    let l = c .before .before .before .before in
-    reach-by (l .before .before .pre .reaching) _ (within (c .before)) _ (l .loop .inv .size)
+    let start : tie.Start Inv-loop μ-loop = search in let l : tie.At-loop Inv-loop μ-loop = search in
+    reach-by (start .pre .reaching) _ (within (search)) _ (l .loop .inv .size)
 
 kept-requires : tie.Need-kept-requires Inv-loop μ-loop
 kept-requires c κs = search needs
@@ -53,11 +53,11 @@ turned : (b : tie.Joined1 Inv-loop μ-loop)
     let a = l .before .before .args .marks .now in
     Ranged 0 (keptBy a (l .before .before .args .off .now) (l .before .before .args .low)) a 0 (length a) (b .if1 .marks) (l .loop .c + 1)
 turned b =
-    let l = b .before .before .before in
-    let a = l .before .before .args .marks .now in
-    let off = l .before .before .args .off .now in
-    let low = l .before .before .args .low in
-    let h : l .loop .c < length a = omega (arith, l .loop .inv .size, b .before .before .loop-test .taken) in
+    let in-loop : tie.In-loop Inv-loop μ-loop = search in let start : tie.Start Inv-loop μ-loop = search in let l : tie.At-loop Inv-loop μ-loop = search in
+    let a = start .args .marks .now in
+    let off = start .args .off .now in
+    let low = start .args .low in
+    let h : l .loop .c < length a = omega (arith, l .loop .inv .size, in-loop .loop-test .taken) in
     ⊎-elim
     (λ w. subst (λ (m : List ℕ). Ranged 0 (keptBy a off low) a 0 (length a) m (l .loop .c + 1)) (sym (w .4))
     (ranged-more 0 (keptBy a off low) a 0 (length a) (l .loop .marks) (l .loop .c) _ (l .loop .inv) h (omega arith)
@@ -70,21 +70,21 @@ add-next-marked : tie.Need-add-next-marked Inv-loop μ-loop
 add-next-marked c = search needs
 
 next-marked-requires : tie.Need-next-marked-requires Inv-loop μ-loop
-next-marked-requires c κs = omega (arith, turned (c .before) .to, turned (c .before) .size)
+next-marked-requires c κs = omega (arith, turned (search) .to, turned (search) .size)
 
 loop-less : tie.Need-loop-less Inv-loop μ-loop
 loop-less c =
-    let b = c .before .before in
+    let b : tie.Joined1 Inv-loop μ-loop = search in
     let n = c .next-marked .ensures .past in
     omega (arith, n .least, n .most, turned b .size, turned b .to)
 
 loop-again : tie.Need-loop-again Inv-loop μ-loop
 loop-again c =
-    let b = c .before .before in
-    let l = b .before .before .before in
-    let a = l .before .before .args .marks .now in
-    let off = l .before .before .args .off .now in
-    let low = l .before .before .args .low in
+    let start : tie.Start Inv-loop μ-loop = search in let b : tie.Joined1 Inv-loop μ-loop = search in
+    let l : tie.At-loop Inv-loop μ-loop = search in
+    let a = start .args .marks .now in
+    let off = start .args .off .now in
+    let low = start .args .low in
     let n = c .next-marked .ensures .past in
     -- up to the next mark nothing is to be settled
     over-gap (λ j. Ranged 0 (keptBy a off low) a 0 (length a) (b .if1 .marks) j) (l .loop .c + 1) (c .next-marked .result) (n .least)
@@ -96,8 +96,8 @@ same-length c = c .before .loop .inv .size
 
 returns : tie.Need-returns Inv-loop μ-loop
 returns c =
-    let l = c .before in
-    let a = l .before .before in
+    let l : tie.At-loop Inv-loop μ-loop = search in
+    let a : tie.Start Inv-loop μ-loop = search in
     settled (a .args .marks .now) (a .args .off .now) (l .loop .marks) (a .args .low) (l .loop .c) (l .loop .inv) (omega (arith, l .loop .inv .size, c .loop-test .left))
 
 pub settle-marks-by-spec : {M : Type 1} → statement M

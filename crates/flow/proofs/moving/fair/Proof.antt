@@ -14,15 +14,15 @@ flow-of-requires c κs = search needs
 
 steady-requires : tie.Need-steady-requires
 steady-requires c κs =
-    let s = c .before .before in
+    let s : tie.Start = search in
     let v = c .flow-of .result in
     let e = c .flow-of .ensures .1 in
     (flow-x (s .args .f) (s .pre) v e 400000000 tt, flow-y (s .args .f) (s .pre) v e 400000000 tt, flow-z (s .args .f) (s .pre) v e 400000000 tt)
 
 returns : tie.Need-returns
 returns c =
-    let e = c .before .flow-of .ensures in
-    ap₂ _&&_ (c .before .before .all-inside .ensures) (c .steady .ensures) ∙ body-is (c .before .before .before .args .f) (c .before .flow-of .result) (e .0) (e .1)
+    let after-flow-of : tie.After-flow-of = search in let after-all-inside : tie.After-all-inside = search in let start : tie.Start = search in let e = after-flow-of .flow-of .ensures in
+    ap₂ _&&_ (after-all-inside .all-inside .ensures) (c .steady .ensures) ∙ body-is (start .args .f) (after-flow-of .flow-of .result) (e .0) (e .1)
 
 pub fair-spec : {M : Type 1} → statement M
 fair-spec = tie.close (tie.spec all-inside-requires flow-of-requires steady-requires returns)

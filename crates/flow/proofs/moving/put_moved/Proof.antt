@@ -29,7 +29,7 @@ flow-of-requires c κs = wide-bound c
 
 pulled-requires : tie.Need-pulled-requires
 pulled-requires c κs =
-    let s = c .before in
+    let s : tie.Start = search in
     let b = wide-bound s in
     let r = c .flow-of .ensures .0 in
     let j = c .flow-of .ensures .1 in
@@ -37,25 +37,26 @@ pulled-requires c κs =
 
 steady-requires : tie.Need-steady-requires
 steady-requires c κs =
-    let s = c .before .before in
+    let after-flow-of : tie.After-flow-of = search in let s : tie.Start = search in
     let b = wide-bound s in
-    let r = c .before .flow-of .ensures .0 in
-    let j = c .before .flow-of .ensures .1 in
+    let r = after-flow-of .flow-of .ensures .0 in
+    let j = after-flow-of .flow-of .ensures .1 in
     let g = s .pre .1 in
     (pulled-x _ b _ r j _ g _ (c .pulled .ensures), pulled-y _ b _ r j _ g _ (c .pulled .ensures), pulled-z _ b _ r j _ g _ (c .pulled .ensures))
 
 returns : tie.Need-returns
 returns c flags parts fills off low l e =
-    let s = c .before .before .before .before in
-    let u = c .before .before .before .flow-of .ensures in
-    put-refused (d3q19 .weight) flags (partOf parts) fills off low _ _ _ e _ _ (u .0) (u .1) (c .before .before .pulled .ensures) l _ _ refl
-    (sym (c .before .steady .ensures) ∙ not-true _ (c .if1 .taken))
+    let after-steady : tie.After-steady = search in let after-pulled : tie.After-pulled = search in let after-flow-of : tie.After-flow-of = search in let s : tie.Start = search in
+    let u = after-flow-of .flow-of .ensures in
+    put-refused (d3q19 .weight) flags (partOf parts) fills off low _ _ _ e _ _ (u .0) (u .1) (after-pulled .pulled .ensures) l _ _ refl
+    (sym (after-steady .steady .ensures) ∙ not-true _ (c .if1 .taken))
 
 relaxation-requires : tie.Need-relaxation-requires
 relaxation-requires c κs =
-    let s = c .before .before .before .before in (
+    let after-steady : tie.After-steady = search in
+    let s : tie.Start = search in (
       s .pre .0,
-      sym (c .before .steady .ensures) ∙ not-false _ (c .if1 .left),
+      sym (after-steady .steady .ensures) ∙ not-false _ (c .if1 .left),
       s .pre .1,
       s .pre .3,
     )
@@ -66,9 +67,10 @@ handed c = toZ-ofZ (record { sfits = c .relaxation .ok })
 
 collided-requires : tie.Need-collided-requires
 collided-requires c κs =
-    let s = c .before .before .before .before .before in (
+    let else1 : tie.Else1 = search in let after-steady : tie.After-steady = search in
+    let s : tie.Start = search in (
       s .pre .0,
-      sym (c .before .before .steady .ensures) ∙ not-false _ (c .before .if1 .left),
+      sym (after-steady .steady .ensures) ∙ not-false _ (else1 .if1 .left),
       ap relaxationGood (handed c) ∙ c .relaxation .ensures .1,
     )
 
@@ -86,16 +88,17 @@ same-length c = search needs
 
 returns-2 : tie.Need-returns-2
 returns-2 c flags parts fills off low l e =
-    let k = c .before .before .before .before .before in
-    let a = k .before .before .before in
-    let s = a .before .before .before in
-    let u = a .before .before .flow-of .ensures in
-    put-accepted (d3q19 .weight) flags (partOf parts) fills off low _ _ _ e _ _ (u .0) (u .1) (a .before .pulled .ensures) l (k .collided .result)
-    (subst (λ (p : ℤ). k .collided .result ≡ tab 19 (collidedPart d3q19 (a .before .pulled .result .rho) (vec (a .before .pulled .result)) p (partsOf (s .args .f)))) (handed (k .before) ∙ k .before .relaxation .ensures .0) (k .collided .ensures .0))
-    _ _ _ (s .pre .2) (c .before .before .before .paste .ensures) refl
-    (sym (a .steady .ensures) ∙ not-false _ (k .before .before .if1 .left))
+    let after-fair : tie.After-fair = search in let after-paste : tie.After-paste = search in let after-relaxation : tie.After-relaxation = search in let else1 : tie.Else1 = search in let after-pulled : tie.After-pulled = search in
+    let after-flow-of : tie.After-flow-of = search in let k : tie.After-collided = search in
+    let a : tie.After-steady = search in
+    let s : tie.Start = search in
+    let u = after-flow-of .flow-of .ensures in
+    put-accepted (d3q19 .weight) flags (partOf parts) fills off low _ _ _ e _ _ (u .0) (u .1) (after-pulled .pulled .ensures) l (k .collided .result)
+    (subst (λ (p : ℤ). k .collided .result ≡ tab 19 (collidedPart d3q19 (after-pulled .pulled .result .rho) (vec (after-pulled .pulled .result)) p (partsOf (s .args .f)))) (handed (search) ∙ after-relaxation .relaxation .ensures .0) (k .collided .ensures .0))
+    _ _ _ (s .pre .2) (after-paste .paste .ensures) refl
+    (sym (a .steady .ensures) ∙ not-false _ (else1 .if1 .left))
     (toZ-ofZ (record { sfits = c .struct-told .given .0 .1 }))
-    (c .before .fair .ensures)
+    (after-fair .fair .ensures)
 
 pub put-moved-spec : {M : Type 1} → statement M
 put-moved-spec =

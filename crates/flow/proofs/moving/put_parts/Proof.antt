@@ -5,7 +5,7 @@ use Prim.Native.Nat.{ℕ, _+_, _*_, _<_, _≤_}
 use native.Mathlib.Omega.{arith}
 use lib.ListN.{length, getD}
 use Rattle.grid.specs.State.{liquid}
-use Rattle.grid.specs.Sight.{noSettings, bodiesOf}
+use Rattle.grid.specs.Sight.{bodiesOf}
 use Rattle.grid.proofs.Lists.{getD-there}
 use Rattle.flow.proofs.Collisions.{put-dry}
 use Rattle.flow.proofs.Spans.{light19, bounded-streamed}
@@ -24,7 +24,7 @@ wet-requires : tie.Need-wet-requires
 wet-requires c κs = search needs
 
 kind : (c : tie.Then1) → liquid (getD (c .before .before .before .before .before .args .flags .now) (c .before .before .before .before .before .args .c) 3) ≡ true
-kind c = sym (ap liquid (flag (c .before .before .before .before .before))) ∙ sym (c .before .wet .ensures) ∙ c .if1 .taken
+kind c = let after-wet : tie.After-wet = search in sym (ap liquid (flag (search))) ∙ sym (after-wet .wet .ensures) ∙ c .if1 .taken
 
 -- the list has room for cell c
 room : (s : tie.Start) → 19 * s .args .c + 19 ≤ length (s .args .parts2 .now)
@@ -32,39 +32,39 @@ room s = omega (arith, s .pre .is-cell, s .pre .size, s .pre .bodied .count)
 
 chosen-requires : tie.Need-chosen-requires
 chosen-requires c κs =
-    let p = c .before .before .before .before .before .pre in
+    let start : tie.Start = search in let p = start .pre in
     let l = kind c in
     (p .bodied, p .filled, p .around l, l, p .mirrored, p .sources, p .marked l)
 
 shared-slice-read-put-moved : tie.Need-shared-slice-read-put-moved
-shared-slice-read-put-moved c = c .before .before .before .before .before .before .before .before .pre .is-cell
+shared-slice-read-put-moved c = let start : tie.Start = search in start .pre .is-cell
 
 put-moved-requires : tie.Need-put-moved-requires
 put-moved-requires c κs =
-    let t = c .before .before .before in
-    let s = t .before .before .before .before .before in
-    (bounded-streamed _ light19 _ _ _ _ _ noSettings (bodiesOf (s .pre .bodied)) _ (s .pre .around (kind t)) (kind t) _ (c .before .before .chosen .ensures) _ _ (omega arith) (omega arith), s .pre .settings, room s, s .pre .keeps)
+    let after-chosen : tie.After-chosen = search in let t : tie.Then1 = search in
+    let s : tie.Start = search in
+    (bounded-streamed _ light19 _ _ _ _ _ (s .args .g) (bodiesOf (s .pre .bodied)) _ (s .pre .around (kind t)) (kind t) _ (after-chosen .chosen .ensures (s .args .g)) _ _ (omega arith) (omega arith), s .pre .settings, room s, s .pre .keeps)
 
 same-length : tie.Need-same-length
 same-length c = search needs
 
 returns : tie.Need-returns
 returns c =
-    let t = c .before .before .before .before .before in
-    let s = t .before .before .before .before .before in
-    c .before .put-moved .ensures (s .args .flags .now) (s .args .parts .now) (s .args .fill .now) (s .args .off .now) (s .args .low) (kind t) (c .before .before .before .before .chosen .ensures)
+    let after-put-moved : tie.After-put-moved = search in let after-chosen : tie.After-chosen = search in let t : tie.Then1 = search in
+    let s : tie.Start = search in
+    after-put-moved .put-moved .ensures (s .args .flags .now) (s .args .parts .now) (s .args .fill .now) (s .args .off .now) (s .args .low) (kind t) (after-chosen .chosen .ensures (s .args .g))
 
 dry-out-requires : tie.Need-dry-out-requires
-dry-out-requires c κs = room (c .before .before .before .before .before .before)
+dry-out-requires c κs = room (search)
 
 same-length-2 : tie.Need-same-length-2
 same-length-2 c = search needs
 
 returns-2 : tie.Need-returns-2
 returns-2 c =
-    let e = c .before .before .before in
-    let s = e .before .before .before .before .before in
-    put-dry _ _ _ _ _ _ _ _ (sym (ap liquid (flag s)) ∙ sym (e .before .wet .ensures) ∙ e .if1 .left) _ _ (room s) (c .before .dry-out .ensures)
+    let after-dry-out : tie.After-dry-out = search in let after-wet : tie.After-wet = search in let e : tie.Else1 = search in
+    let s : tie.Start = search in
+    put-dry _ _ _ _ _ _ _ _ (sym (ap liquid (flag s)) ∙ sym (after-wet .wet .ensures) ∙ e .if1 .left) _ _ (room s) (after-dry-out .dry-out .ensures)
 
 pub put-parts-spec : {M : Type 1} → statement M
 put-parts-spec =

@@ -1,7 +1,7 @@
 -- `flow::passing::flowing`: pass 1. The invariant is Walked: the first c cells have gone through stages 1 to 4. Assumes nothing.
 use mathlib.Core.Path.{_≡_, refl, sym, ap, _∙_, subst}
 use mathlib.Core.Bool.{Bool, true, false, not, _&&_}
-use mathlib.Core.List.{List}
+use mathlib.Core.List.{List, []}
 use Prim.Native.Nat.{ℕ, zero, suc, _+_, _*_, _-_, _/_, _≤_, _<_}
 use native.Mathlib.Nat.{le-refl}
 use native.Mathlib.Omega.{arith}
@@ -13,13 +13,12 @@ use mir.Syntax.{w32}
 use mir.Facts.{toZ-ofZ}
 use Rattle.whole.specs.Fold.{tab}
 use Rattle.lattice.specs.Lattice.{d3q19}
-use Rattle.lattice.specs.declared.Settings.{Settings}
 use Rattle.grid.specs.declared.Sides.{Sides}
 use Rattle.grid.specs.Fill.{partOf}
 use Rattle.grid.specs.Grid.{cellsOf, gridOf}
-use Rattle.grid.specs.State.{liquid, stateOf}
+use Rattle.grid.specs.State.{lent, liquid, stateOf}
 use Rattle.grid.specs.Outcome.{sceneOf}
-use Rattle.grid.specs.Between.{Poised, uncarried}
+use Rattle.grid.specs.Between.{Poised}
 use Rattle.grid.specs.Passes.{lowOf, offsetOf}
 use Rattle.grid.specs.Sight.{Around}
 use Rattle.grid.proofs.Beside.{Offsets}
@@ -51,21 +50,21 @@ too-fast {t = false} e f = sym f ∙ e
 -- ---- inside the loop: the offsets, the cell, and what a function of one cell asks
 module _ (d : tie.In-loop Inv-loop μ-loop) where
   abbrev start : tie.Start Inv-loop μ-loop
-  start = d .before .before .before .before .before .before .before .before .before
+  start = search
 
   abbrev cell : ℕ
   cell = d .before .loop .c
 
   abbrev off : List ℕ
-  off = d .before .before .before .before .before .offsets .result
+  off = let after-offsets : tie.After-offsets Inv-loop μ-loop = search in after-offsets .offsets .result
 
   abbrev low : ℕ
-  low = d .before .before .before .before .low-of .result
+  low = let after-low-of : tie.After-low-of Inv-loop μ-loop = search in after-low-of .low-of .result
 
   offs : Offsets (start .args .s) off low
-  offs = record { table = d .before .before .before .before .before .offsets .ensures; lowest = d .before .before .before .before .low-of .ensures }
+  offs = let after-low-of : tie.After-low-of Inv-loop μ-loop = search in let after-offsets : tie.After-offsets Inv-loop μ-loop = search in record { table = after-offsets .offsets .ensures; lowest = after-low-of .low-of .ensures }
 
-  poise : Poised (start .args .s) (start .args .g) (uncarried (start .args .flags .now) (start .args .parts .now) (start .args .mass .now) (start .args .fill .now))
+  poise : Poised (start .args .s) (start .args .g) (lent (start .args .flags .now) (start .args .parts .now) (start .args .mass .now) (start .args .fill .now) [])
   poise = start .pre .poised
 
   walked : Walked (d3q19 .weight) (start .args .flags .now) (partOf (start .args .parts .now)) (start .args .mass .now) (start .args .fill .now) off low (start .args .g) (start .args .marks .now)
@@ -97,62 +96,62 @@ module _ (d : tie.In-loop Inv-loop μ-loop) where
 
   putting : Putting (start .args .flags .now) (start .args .parts .now) (start .args .fill .now) (d .before .loop .parts2) (getD (d .before .loop .marks) cell 0) off (d .before .before .before .sources .result) low cell (start .args .g) (d .before .before .keeping .result)
   unfolding stateOf
-  putting = record {
+  putting = let after-keeping : tie.After-keeping Inv-loop μ-loop = search in let after-sources : tie.After-sources Inv-loop μ-loop = search in record {
     bodied = poised-bodied (start .args .s) (start .args .g) _ poise;
     filled = traders .fills-good;
     is-cell = d .loop-test .taken;
     around = around-it;
     mirrored = mirrored (start .args .s) off low (offs .table) (offs .lowest) small;
-    sources = d .before .before .before .sources .ensures;
+    sources = after-sources .sources .ensures;
     marked = λ l e.
         let m : getD (start .args .marks .now) cell 0 ≡ 1 = sym (walked .marks-left cell (le-refl cell)) ∙ e in
         immersed offs cell (liquid-inner (start .args .s) (start .args .g) _ poise cell is-cell l) (start .args .flags .now)
         (start .pre .marked-fluid cell is-cell l m) (start .pre .marked cell is-cell l m);
     settings = poise .settings;
-    keeps = d .before .before .keeping .ensures;
+    keeps = after-keeping .keeping .ensures;
     size = d .before .loop .inv .1 ∙ start .pre .parts-room ∙ sym (poise .parts);
   }
 
 offsets-requires : tie.Need-offsets-requires Inv-loop μ-loop
-offsets-requires c κs = c .before .before .before .pre .poised .sides
+offsets-requires c κs = let the-start : tie.Start Inv-loop μ-loop = search in the-start .pre .poised .sides
 
 low-of-requires : tie.Need-low-of-requires Inv-loop μ-loop
-low-of-requires c κs = c .before .before .before .before .pre .poised .sides
+low-of-requires c κs = let the-start : tie.Start Inv-loop μ-loop = search in the-start .pre .poised .sides
 
 sources-requires : tie.Need-sources-requires Inv-loop μ-loop
 sources-requires c κs =
-    let s = c .before .before .before .before .before .args .s in
-    let p = c .before .before .before .before .before .pre .poised in
-    mirrored s (c .before .offsets .result) (c .low-of .result) (c .before .offsets .ensures) (c .low-of .ensures)
+    let after-offsets : tie.After-offsets Inv-loop μ-loop = search in let the-start : tie.Start Inv-loop μ-loop = search in let s = the-start .args .s in
+    let p = the-start .pre .poised in
+    mirrored s (after-offsets .offsets .result) (c .low-of .result) (after-offsets .offsets .ensures) (c .low-of .ensures)
     (omega (arith, room s (p .sides), few s (p .sides), c .low-of .ensures))
 
 keeping-requires : tie.Need-keeping-requires Inv-loop μ-loop
-keeping-requires c κs = c .before .before .before .before .before .before .pre .poised .settings
+keeping-requires c κs = let the-start : tie.Start Inv-loop μ-loop = search in the-start .pre .poised .settings
 
 loop-holds : tie.Need-loop-holds Inv-loop μ-loop
 loop-holds c = (omega arith, refl, refl, refl, walked-first _ _ _ _ _ _ _ _ _ _ _)
 
 slice-read-put-parts : tie.Need-slice-read-put-parts Inv-loop μ-loop
-slice-read-put-parts c = let d = c .before .before in let h = is-cell d in omega (arith, d .before .loop .inv .3, start d .pre .marks-room)
+slice-read-put-parts c = let d : tie.In-loop Inv-loop μ-loop = search in let h = is-cell d in omega (arith, d .before .loop .inv .3, start d .pre .marks-room)
 
 put-parts-requires : tie.Need-put-parts-requires Inv-loop μ-loop
-put-parts-requires c κs = putting (c .before .before .before .before)
+put-parts-requires c κs = putting (search)
 
 same-length : tie.Need-same-length Inv-loop μ-loop
 same-length c = c .before .before .before .put-parts .ensures .kept ∙ c .before .before .before .before .before .before .before .before .before .loop .inv .1
 
 same-length-2 : tie.Need-same-length-2 Inv-loop μ-loop
-same-length-2 c = c .before .before .before .before .before .before .before .before .before .loop .inv .2
+same-length-2 c = let at-loop : tie.At-loop Inv-loop μ-loop = search in at-loop .loop .inv .2
 
 same-length-3 : tie.Need-same-length-3 Inv-loop μ-loop
-same-length-3 c = c .before .before .before .before .before .before .before .before .before .loop .inv .3
+same-length-3 c = let at-loop : tie.At-loop Inv-loop μ-loop = search in at-loop .loop .inv .3
 
 returns : tie.Need-returns Inv-loop μ-loop
 unfolding sceneOf stateOf
 returns c =
-    let d = c .before .before .before .before .before .before .before .before in
+    let after-put-parts : tie.After-put-parts Inv-loop μ-loop = search in let d : tie.In-loop Inv-loop μ-loop = search in
     let t = start d in
-    let o = c .before .before .before .put-parts in
+    let o = after-put-parts .put-parts in
     record {
       went = stopped (is-cell d) (walked-stopped (d3q19 .weight) (gridOf (t .args .s)) (t .args .g) _ _ _ _ (off d) (low d) _ (placed (t .args .s) (t .args .g) _ (poise d) (offs d)) _ _ _ _ _ _ (cell d) (is-cell d) (walked d)
           (too-fast (o .ensures .told .ok) (not-true _ (c .if1 .taken))));
@@ -162,38 +161,40 @@ returns c =
     }
 
 new-mass-requires : tie.Need-new-mass-requires Inv-loop μ-loop
-new-mass-requires c κs = let d = c .before .before .before .before .before .before .before .before .before .before in (traders d, d .loop-test .taken, λ f. around-it d (ap liquid f))
+new-mass-requires c κs = let d : tie.In-loop Inv-loop μ-loop = search in (traders d, d .loop-test .taken, λ f. around-it d (ap liquid f))
 
 shared-slice-read-new-mark : tie.Need-shared-slice-read-new-mark Inv-loop μ-loop
-shared-slice-read-new-mark c = c .before .before .before .before .before .before .before .before .before .before .before .before .loop-test .taken
+shared-slice-read-new-mark c = let in-loop : tie.In-loop Inv-loop μ-loop = search in in-loop .loop-test .taken
 
 new-mark-requires : tie.Need-new-mark-requires Inv-loop μ-loop
 new-mark-requires c κs = tt
 
 mul-m : tie.Need-mul-m Inv-loop μ-loop
-mul-m c = let h = is-cell (c .before .before .before .before .before .before .before .before .before .before .before .before .before .before) in record { fits = omega (arith, few (start (c .before .before .before .before .before .before .before .before .before .before .before .before .before .before) .args .s) (poise (c .before .before .before .before .before .before .before .before .before .before .before .before .before .before) .sides)) }
+mul-m c = let h = is-cell (search) in record { fits = omega (arith, few (start (search) .args .s) (poise (search) .sides)) }
 
 slice-set-from-m : tie.Need-slice-set-from-m Inv-loop μ-loop
-slice-set-from-m c = let d = c .before .before .before .before .before .before .before .before .before .before .before .before .before .before in let h = is-cell d in omega (arith, d .before .loop .inv .2, start d .pre .masses-room)
+slice-set-from-m c = let d : tie.In-loop Inv-loop μ-loop = search in let h = is-cell d in omega (arith, d .before .loop .inv .2, start d .pre .masses-room)
 
 slice-write-marks : tie.Need-slice-write-marks Inv-loop μ-loop
-slice-write-marks c = let d = c .before .before .before .before .before .before .before .before .before .before .before .before .before .before in let h = is-cell d in omega (arith, d .before .loop .inv .3, start d .pre .marks-room)
+slice-write-marks c = let d : tie.In-loop Inv-loop μ-loop = search in let h = is-cell d in omega (arith, d .before .loop .inv .3, start d .pre .marks-room)
 
 add-c : tie.Need-add-c Inv-loop μ-loop
-add-c c = let h = is-cell (c .before .before .before .before .before .before .before .before .before .before .before .before .before .before .before) in record { fits = omega (arith, few (start (c .before .before .before .before .before .before .before .before .before .before .before .before .before .before .before) .args .s) (poise (c .before .before .before .before .before .before .before .before .before .before .before .before .before .before .before) .sides)) }
+add-c c = let h = is-cell (search) in record { fits = omega (arith, few (start (search) .args .s) (poise (search) .sides)) }
 
 loop-less : tie.Need-loop-less Inv-loop μ-loop
-loop-less c = let h = c .before .before .before .before .before .before .before .before .before .before .before .before .before .before .before .loop-test .taken in omega arith
+loop-less c = let in-loop : tie.In-loop Inv-loop μ-loop = search in let h = in-loop .loop-test .taken in omega arith
 
 loop-again : tie.Need-loop-again Inv-loop μ-loop
 loop-again c =
-    let d = c .before .before .before .before .before .before .before .before .before .before .before .before .before .before .before in
+    let after-new-mark : tie.After-new-mark Inv-loop μ-loop = search in let after-struct-told2 : tie.After-struct-told2 Inv-loop μ-loop = search in let after-new-mass : tie.After-new-mass Inv-loop μ-loop = search in
+    let after-struct-told : tie.After-struct-told Inv-loop μ-loop = search in let else1 : tie.Else1 Inv-loop μ-loop = search in let after-put-parts : tie.After-put-parts Inv-loop μ-loop = search in
+    let d : tie.In-loop Inv-loop μ-loop = search in
     let t = start d in
     let l = d .before .loop in
-    let put = c .before .before .before .before .before .before .before .before .before .before .put-parts in
-    let gained = c .before .before .before .before .new-mass in
-    let mark = c .before .new-mark in
-    let ok = not-false _ (c .before .before .before .before .before .before .before .if1 .left) in
+    let put = after-put-parts .put-parts in
+    let gained = after-new-mass .new-mass in
+    let mark = after-new-mark .new-mark in
+    let ok = not-false _ (else1 .if1 .left) in
     let h = is-cell d in (
       omega arith,
       put .ensures .kept ∙ l .inv .1,
@@ -204,9 +205,9 @@ loop-again c =
           (put-more _ (l .parts2) (put .last .1 .1 .1 .0) (l .c) (omega (arith, l .inv .1, t .pre .parts-room)) (put .ensures .parts ok))
           (gained .result) _ _ _ _ (mark .result) _ (getD-there (t .args .flags .now) (l .c) 0 3 (d .loop-test .taken))
           (omega (arith, l .inv .2, t .pre .masses-room)) (omega (arith, l .inv .3, t .pre .marks-room))
-          (gained .ensures) (toZ-ofZ {w = w32} (record { sfits = c .before .before .before .before .before .struct-told .given .1 .1 .0 .1 }))
+          (gained .ensures (t .args .g)) (toZ-ofZ {w = w32} (record { sfits = after-struct-told .struct-told .given .1 .1 .0 .1 }))
           (toZ-ofZ {w = w32} (record { sfits = gained .ok })) (mark .ensures) (toZ-ofZ {w = w32} (record { sfits = gained .ok }))
-          (toZ-ofZ {w = w32} (record { sfits = c .before .before .struct-told2 .given .1 .1 .0 .1 })),
+          (toZ-ofZ {w = w32} (record { sfits = after-struct-told2 .struct-told2 .given .1 .1 .0 .1 })),
     )
 
 same-length-4 : tie.Need-same-length-4 Inv-loop μ-loop
@@ -221,18 +222,18 @@ same-length-6 c = c .before .loop .inv .3
 returns-2 : tie.Need-returns-2 Inv-loop μ-loop
 unfolding sceneOf stateOf
 returns-2 c =
-    let t = c .before .before .before .before .before .before .before .before .before in
+    let after-low-of : tie.After-low-of Inv-loop μ-loop = search in let after-offsets : tie.After-offsets Inv-loop μ-loop = search in let t : tie.Start Inv-loop μ-loop = search in
     let p = t .pre .poised in
     let l = c .before .loop in
-    let o : Offsets (t .args .s) (c .before .before .before .before .before .offsets .result) (c .before .before .before .before .low-of .result) = record { table = c .before .before .before .before .before .offsets .ensures; lowest = c .before .before .before .before .low-of .ensures } in
+    let o : Offsets (t .args .s) (after-offsets .offsets .result) (after-low-of .low-of .result) = record { table = after-offsets .offsets .ensures; lowest = after-low-of .low-of .ensures } in
     let e : l .c ≡ cellsOf (t .args .s) = omega (arith, p .flags, l .inv .0) in
     record {
       went = through (moved-list (l .inv .1 ∙ t .pre .parts-room)
           (walked-moved (d3q19 .weight) (gridOf (t .args .s)) (t .args .g) (t .args .flags .now) (partOf (t .args .parts .now)) (t .args .mass .now) (t .args .fill .now)
-          (c .before .before .before .before .before .offsets .result) (c .before .before .before .before .low-of .result) (cellsOf (t .args .s)) (placed (t .args .s) (t .args .g) _ p o)
+          (after-offsets .offsets .result) (after-low-of .low-of .result) (cellsOf (t .args .s)) (placed (t .args .s) (t .args .g) _ p o)
           (t .args .marks .now) (partOf (l .parts2)) (l .mass2) (l .marks) (l .fair) (l .still)
           (l .inv .2 ∙ t .pre .masses-room) (l .inv .3 ∙ t .pre .marks-room)
-          (subst (λ (n : ℕ). Walked (d3q19 .weight) (t .args .flags .now) (partOf (t .args .parts .now)) (t .args .mass .now) (t .args .fill .now) (c .before .before .before .before .before .offsets .result) (c .before .before .before .before .low-of .result) (t .args .g) (t .args .marks .now) (partOf (l .parts2)) (l .mass2) (l .marks) (l .fair) (l .still) n) e (l .inv .4))));
+          (subst (λ (n : ℕ). Walked (d3q19 .weight) (t .args .flags .now) (partOf (t .args .parts .now)) (t .args .mass .now) (t .args .fill .now) (after-offsets .offsets .result) (after-low-of .low-of .result) (t .args .g) (t .args .marks .now) (partOf (l .parts2)) (l .mass2) (l .marks) (l .fair) (l .still) n) e (l .inv .4))));
       parts-kept = l .inv .1 ∙ t .pre .parts-room;
       masses-kept = l .inv .2 ∙ t .pre .masses-room;
       marks-kept = l .inv .3 ∙ t .pre .marks-room;

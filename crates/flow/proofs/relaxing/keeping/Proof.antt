@@ -29,21 +29,21 @@ good s = relaxation-of (s .args .g) (s .pre)
 
 cast-kept : tie.Need-cast-kept
 cast-kept c =
-    let s = c .before .before .before in
+    let s : tie.Start = search in
     index-asks w64 (w64-in (record { sfits = c .struct-told .given .0 .1 }) (relaxation-in (s .args .g .p) (good s))) tt
     (≤ℤ-trans (record { le = tt }) (positive (s .args .g .p) (good s)))
 
 kept-requires : tie.Need-kept-requires
 kept-requires c κs =
-    let s = c .before .before .before in
+    let s : tie.Start = search in
     (rw (handed c) (abs-above (positive (s .args .g .p) (good s))), rw (handed c) (relaxation-in (s .args .g .p) (good s) .abs))
 
 returns : tie.Need-returns
-returns c = rw (handed (c .before)) at (c .kept .ensures)
+returns c = rw (handed (search)) at (c .kept .ensures)
 
 returns-2 : tie.Need-returns-2
 returns-2 c =
-    let s = c .before in
+    let s : tie.Start = search in
     keeps-none (s .args .g .p) (good s)
 
 pub keeping-spec : {M : Type 1} → statement M

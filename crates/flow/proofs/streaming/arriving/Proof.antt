@@ -1,7 +1,6 @@
 -- `flow::streaming::arriving` is what arrives from one direction, by the neighbour's flag. What is rebuilt fits, since gas and own part are bounded. Assumes nothing.
 use mathlib.Core.Path.{_≡_, sym, ap, ap₂, _∙_, subst}
 use mathlib.Core.Bool.{Bool, true, _||_}
-use mathlib.Core.List.{List}
 use Prim.Native.Nat.{ℕ, _+_, _*_, _≤_, _<_}
 use native.Mathlib.Omega.{arith}
 use lib.IntN.{ℤ, pos, natAbs, _-ℤ_}
@@ -19,7 +18,7 @@ use Rattle.lattice.specs.Cell.{gas, isPositive}
 use Rattle.lattice.specs.Body.{vec}
 use Rattle.lattice.proofs.Reading.{inside}
 use Rattle.grid.specs.Fill.{partOf}
-use Rattle.grid.specs.Sight.{Body, noSettings}
+use Rattle.grid.specs.Sight.{Body}
 use Rattle.grid.proofs.Lists.{getD-there}
 use Rattle.flow.proofs.Arrivals.{arrives-wall, arrives-rebuilt, arrives-liquid}
 use Rattle.flow.proofs.Leans.{above-zero}
@@ -33,7 +32,7 @@ flag s = getD-there (s .args .flags .now) (s .args .b) 0 3 (s .pre .is-near)
 
 -- what is not above 2 is no wall
 no-wall : (c : tie.Else1) → getD (c .before .before .before .args .flags .now) (c .before .before .before .args .b) 3 ≤ 2
-no-wall c = subst (λ (f : ℕ). f ≤ 2) (flag (c .before .before .before)) (c .if1 .left)
+no-wall c = subst (λ (f : ℕ). f ≤ 2) (flag (search)) (c .if1 .left)
 
 -- the code's test is stage 1's
 tested : (s : tie.Start) {l : Bool} → isPositive (s .args .lean) ≡ l
@@ -65,25 +64,25 @@ whole-gas : (c : tie.After-rebuilt) →
     let s = c .before .before .before .before .before .before in
     c .rebuilt .result ≡ gas (d3q19 .weight (s .args .i)) (ρ s) (dot (d3q19 .e (s .args .i)) (j s)) (dot (j s) (j s))
 whole-gas c =
-    let s = c .before .before .before .before .before .before in
+    let after-weight-of : tie.After-weight-of = search in let s : tie.Start = search in
     c .rebuilt .ensures
     ∙ ap (λ (z : ℤ). gas (natAbs z) (s .args .v .rho) (toZ w32 (ofZ w32 (s .args .d))) (dot (vec (s .args .v)) (vec (s .args .v))))
-    (toZ-ofZ (sfits-of {w = w64} (c .before .weight-of .ok)) ∙ c .before .weight-of .ensures)
+    (toZ-ofZ (sfits-of {w = w64} (after-weight-of .weight-of .ok)) ∙ after-weight-of .weight-of .ensures)
     ∙ gas-same (d3q19 .weight (s .args .i)) (s .pre .flows .density) (toZ-ofZ (s .fits .d) ∙ along s) (s .pre .flows .momentum)
 
 own-part : (c : tie.After-wide) →
     let s = c .before .before .before .before .before .before .before .before in
     c .wide .result ≡ own s (s .args .i)
-own-part c = c .wide .ensures ∙ toZ-ofZ (sfits-of {w = w32} (c .before .wide-arg .given))
+own-part c = let after-wide-arg : tie.After-wide-arg = search in c .wide .ensures ∙ toZ-ofZ (sfits-of {w = w32} (after-wide-arg .wide-arg .given))
 
 abbrev gas-read : (c : tie.After-rebuilt) → Val (c .rebuilt .result)
 gas-read c =
-    let s = c .before .before .before .before .before .before in
+    let s : tie.Start = search in
     same (whole-gas c) (inside (gas-body (own s) (body s) light19 (s .args .i) (s .pre .some) (s .pre .most)))
 
 abbrev part-read : (c : tie.After-wide) → Val (c .wide .result)
 part-read c =
-    let s = c .before .before .before .before .before .before .before .before in
+    let s : tie.Start = search in
     same (own-part c) (inside (body s .parts (s .args .i) (omega (arith, s .pre .most))))
 
 shared-slice-read-f : tie.Need-shared-slice-read-f
@@ -102,17 +101,17 @@ shared-slice-copy-out-result : tie.Need-shared-slice-copy-out-result
 shared-slice-copy-out-result c = search needs
 
 returns : tie.Need-returns
-returns c fills off low e n =
-    let s = c .before .before .before .before in
+returns c fills off low g e n =
+    let then1 : tie.Then1 = search in let s : tie.Start = search in
     toZ-ofZ (sfits-of {w = w32} (c .result .given))
-    ∙ sym (arrives-wall (d3q19 .weight) _ (partOf (s .args .parts .now)) fills off low noSettings _ _ _ _ e (subst (λ (f : ℕ). 2 < f) (flag s) (c .before .if1 .taken)))
+    ∙ sym (arrives-wall (d3q19 .weight) _ (partOf (s .args .parts .now)) fills off low g _ _ _ _ e (subst (λ (f : ℕ). 2 < f) (flag s) (then1 .if1 .taken)))
 
 weight-of-requires : tie.Need-weight-of-requires
 weight-of-requires c κs = search needs
 
 rebuilt-requires : tie.Need-rebuilt-requires
 rebuilt-requires c κs =
-    let s = c .before .before .before .before .before in
+    let s : tie.Start = search in
     let w : Within (pos (d3q19 .weight (s .args .i))) 2 = record { abs = weight-low (s .args .i) (s .pre .some) (s .pre .most) } in (
       tame-body (own s) (body s) (s .args .v) (s .pre .flows .density) (s .pre .flows .momentum),
       subst (λ (z : ℤ). pos 0 ≤ℤ z) (sym (toZ-ofZ (sfits-of {w = w64} (c .weight-of .ok)) ∙ c .weight-of .ensures)) (parts-≤ (omega arith)),
@@ -137,23 +136,23 @@ wide-requires c κs = search needs
 
 sub-result : tie.Need-sub-result
 sub-result c =
-    let g = gas-read (c .before .before) in
+    let g = gas-read (search) in
     let p = part-read c in
     does-fit (search machine depth 30 fits 5000) tt
 
 cast-result : tie.Need-cast-result
 cast-result c =
-    let g = gas-read (c .before .before) in
+    let g = gas-read (search) in
     let p = part-read c in
     does-fit (search machine depth 30 fits 5000) tt
 
 returns-2 : tie.Need-returns-2
-returns-2 c fills off low e n =
-    let s = c .before .before .before .before .before .before .before .before in
-    let g = gas-read (c .before .before) in
+returns-2 c fills off low g e n =
+    let then2 : tie.Then2 = search in let s : tie.Start = search in
+    let a = gas-read (search) in
     let p = part-read c in
     reads-as (search machine depth 30 fits 5000) tt
-    ∙ sym (arrives-rebuilt (d3q19 .weight) _ (partOf (s .args .parts .now)) fills off low noSettings _ _ _ _ e (no-wall (c .before .before .before .before .before)) (tested s n ∙ c .before .before .before .before .if2 .taken))
+    ∙ sym (arrives-rebuilt (d3q19 .weight) _ (partOf (s .args .parts .now)) fills off low g _ _ _ _ e (no-wall (search)) (tested s n ∙ then2 .if2 .taken))
 
 mul-result-3 : tie.Need-mul-result-3
 mul-result-3 c = search needs
@@ -168,10 +167,10 @@ shared-slice-copy-out-result-2 : tie.Need-shared-slice-copy-out-result-2
 shared-slice-copy-out-result-2 c = search needs
 
 returns-3 : tie.Need-returns-3
-returns-3 c fills off low e n =
-    let s = c .before .before .before .before .before in
+returns-3 c fills off low g e n =
+    let else2 : tie.Else2 = search in let s : tie.Start = search in
     toZ-ofZ (sfits-of {w = w32} (c .result2 .given))
-    ∙ sym (arrives-liquid (d3q19 .weight) _ (partOf (s .args .parts .now)) fills off low noSettings _ _ _ _ e (no-wall (c .before .before)) (tested s n ∙ c .before .if2 .left))
+    ∙ sym (arrives-liquid (d3q19 .weight) _ (partOf (s .args .parts .now)) fills off low g _ _ _ _ e (no-wall (search)) (tested s n ∙ else2 .if2 .left))
 
 pub arriving-spec : {M : Type 1} → statement M
 arriving-spec =

@@ -8,7 +8,6 @@ use lib.ListN.{length, getD}
 use Rattle.whole.specs.Tab.{getD-tab, tab-cong}
 use Rattle.lattice.specs.Lattice.{d3q19}
 use Rattle.grid.specs.Fill.{partOf}
-use Rattle.grid.specs.Sight.{noSettings}
 use Rattle.flow.specs.Sources.{sourceOf}
 use Rattle.flow.proofs.Arrivals.{source-low, at-source, streamed-straight}
 use borrow.Author.Needs.{needs}
@@ -26,17 +25,17 @@ mul-streamed-open c = search needs
 
 streamed-open-requires : tie.Need-streamed-open-requires
 streamed-open-requires c κs i h =
-    let s = c .before .before .before in
+    let s : tie.Start = search in
     omega (arith, source s i h, source-low (length (s .args .flags .now)) (s .args .off .now) (s .args .low) (s .args .c) i (s .pre .2) h, s .pre .0 .count)
 
 returns : tie.Need-returns
-returns c =
-    let s = c .before .before .before .before in
+returns c g =
+    let then1 : tie.Then1 = search in let s : tie.Start = search in
     c .streamed-open .ensures
     ∙ tab-cong 19 _ _ (pos 0)
     (λ k h. ap (λ (n : ℕ). getD (s .args .parts .now) (19 * (s .args .c - s .args .low) + n) (pos 0)) (source s k h)
     ∙ ap (λ (n : ℕ). getD (s .args .parts .now) n (pos 0)) (at-source (s .args .off .now) (s .args .low) (s .args .c) k)
-    ∙ streamed-straight (d3q19 .weight) (s .args .flags .now) (partOf (s .args .parts .now)) _ _ _ noSettings (s .pre .4) _ (s .pre .2 .from) (s .pre .6 (c .before .if1 .taken)) k h)
+    ∙ streamed-straight (d3q19 .weight) (s .args .flags .now) (partOf (s .args .parts .now)) _ _ _ g (s .pre .4) _ (s .pre .2 .from) (s .pre .6 (then1 .if1 .taken)) k h)
 
 streamed-requires : tie.Need-streamed-requires
 streamed-requires c κs = search needs

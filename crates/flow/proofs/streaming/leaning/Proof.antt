@@ -31,19 +31,19 @@ sub-normal : tie.Need-sub-normal
 sub-normal c = search needs
 
 normal-requires : tie.Need-normal-requires
-normal-requires c κs = sloping (c .before .before .before .before)
+normal-requires c κs = sloping (search)
 
 dots-requires : tie.Need-dots-requires
-dots-requires c κs = normal-low (c .normal .result) (sloping (c .before .before .before .before .before)) (c .normal .ensures)
+dots-requires c κs = normal-low (c .normal .result) (sloping (search)) (c .normal .ensures)
 
 returns : tie.Need-returns
 returns c =
-    let s = c .before .before .before .before .before .before in
+    let after-normal : tie.After-normal = search in let then1 : tie.Then1 = search in let s : tie.Start = search in
     c .dots .ensures
-    ∙ tab-cong 19 _ _ (pos 0) (λ k h. ap (dot (d3q19 .e k)) (c .before .normal .ensures) ∙ even-lean _ _ _ _ _ k (sym (flag s) ∙ c .before .before .if1 .taken))
+    ∙ tab-cong 19 _ _ (pos 0) (λ k h. ap (dot (d3q19 .e k)) (after-normal .normal .ensures) ∙ even-lean _ _ _ _ _ k (sym (flag s) ∙ then1 .if1 .taken))
 
 returns-2 : tie.Need-returns-2
-returns-2 c = any-lean _ _ _ _ _ (λ e. c .if1 .left (flag (c .before .before .before .before) ∙ e))
+returns-2 c = any-lean _ _ _ _ _ (λ e. c .if1 .left (flag (search) ∙ e))
 
 pub leaning-spec : {M : Type 1} → statement M
 leaning-spec =

@@ -29,7 +29,7 @@ array-read-f : tie.Need-array-read-f Inv-loop μ-loop
 array-read-f c = search needs
 
 sub-f : tie.Need-sub-f Inv-loop μ-loop
-sub-f c = omega (arith, c .before .before .pre .pair (c .before .loop .i) (c .loop-test .taken))
+sub-f c = let start : tie.Start Inv-loop μ-loop = search in omega (arith, start .pre .pair (c .before .loop .i) (c .loop-test .taken))
 
 mul-f-2 : tie.Need-mul-f-2 Inv-loop μ-loop
 mul-f-2 c = search needs
@@ -51,10 +51,10 @@ loop-less c = search needs
 
 loop-again : tie.Need-loop-again Inv-loop μ-loop
 loop-again c =
-    let l = c .before in
+    let start : tie.Start Inv-loop μ-loop = search in let l : tie.At-loop Inv-loop μ-loop = search in
     let t = c .loop-test .taken in
     let h : l .loop .i < length (l .loop .f) = omega (arith, l .loop .inv .1, t) in
-    (omega arith, simp length-set (l .loop .inv .1), upto-more 0 (sourceOf (l .before .args .t1)) (l .loop .f) (l .loop .i) _ h (l .loop .inv .2) (source-is _ _ _ (l .before .pre) t))
+    (omega arith, simp length-set (l .loop .inv .1), upto-more 0 (sourceOf (start .args .t1)) (l .loop .f) (l .loop .i) _ h (l .loop .inv .2) (source-is _ _ _ (start .pre) t))
 
 returns : tie.Need-returns Inv-loop μ-loop
 returns c =

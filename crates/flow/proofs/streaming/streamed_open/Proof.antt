@@ -27,13 +27,15 @@ element-copy-out-f : tie.Need-element-copy-out-f Inv-loop μ-loop
 element-copy-out-f c = search needs
 
 add-f : tie.Need-add-f Inv-loop μ-loop
-add-f c = omega (arith, c .before .before .before .pre (c .before .before .loop .i) (c .before .loop-test .taken))
+add-f c = let in-loop : tie.In-loop Inv-loop μ-loop = search in let at-loop : tie.At-loop Inv-loop μ-loop = search in let start : tie.Start Inv-loop μ-loop = search in omega (arith, start .pre (at-loop .loop .i) (in-loop .loop-test .taken))
 
 mul-f-2 : tie.Need-mul-f-2 Inv-loop μ-loop
-mul-f-2 c = omega (arith, c .before .before .before .pre (c .before .before .loop .i) (c .before .loop-test .taken))
+mul-f-2 c = let in-loop : tie.In-loop Inv-loop μ-loop = search in let at-loop : tie.At-loop Inv-loop μ-loop = search in let start : tie.Start Inv-loop μ-loop = search in omega (arith, start .pre (at-loop .loop .i) (in-loop .loop-test .taken))
 
 shared-slice-copy-out-f : tie.Need-shared-slice-copy-out-f Inv-loop μ-loop
-shared-slice-copy-out-f c = omega (arith, c .before .before .before .pre (c .before .before .loop .i) (c .before .loop-test .taken))
+shared-slice-copy-out-f c =
+    let in-loop : tie.In-loop Inv-loop μ-loop = search in let at-loop : tie.At-loop Inv-loop μ-loop = search in let start : tie.Start Inv-loop μ-loop = search in
+    omega (arith, start .pre (at-loop .loop .i) (in-loop .loop-test .taken))
 
 mul-f-3 : tie.Need-mul-f-3 Inv-loop μ-loop
 mul-f-3 c = search needs
@@ -49,9 +51,9 @@ loop-less c = search needs
 
 loop-again : tie.Need-loop-again Inv-loop μ-loop
 loop-again c =
-    let l = c .before .before .before in
-    let h : l .loop .i < length (l .loop .f) = omega (arith, l .loop .inv .1, c .before .before .loop-test .taken) in
-    (omega arith, simp length-set (l .loop .inv .1), upto-more (pos 0) (λ j. getD (l .before .args .parts .now) (l .before .args .a + getD (l .before .args .from .now) j 0) (pos 0)) (l .loop .f) (l .loop .i) _ h (l .loop .inv .2) (toZ-ofZ (sfits-of {w = w32} (c .f2 .given))))
+    let in-loop : tie.In-loop Inv-loop μ-loop = search in let start : tie.Start Inv-loop μ-loop = search in let l : tie.At-loop Inv-loop μ-loop = search in
+    let h : l .loop .i < length (l .loop .f) = omega (arith, l .loop .inv .1, in-loop .loop-test .taken) in
+    (omega arith, simp length-set (l .loop .inv .1), upto-more (pos 0) (λ j. getD (start .args .parts .now) (start .args .a + getD (start .args .from .now) j 0) (pos 0)) (l .loop .f) (l .loop .i) _ h (l .loop .inv .2) (toZ-ofZ (sfits-of {w = w32} (c .f2 .given))))
 
 returns : tie.Need-returns Inv-loop μ-loop
 returns c =

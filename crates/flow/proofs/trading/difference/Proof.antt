@@ -13,15 +13,15 @@ wide-requires-2 c κs = search needs
 
 sub-result : tie.Need-sub-result
 sub-result c =
-    let s = c .before .before in
-    let a = same (c .before .wide .ensures) (any w32 (s .args .a) (s .fits .a .sfits)) in
+    let after-wide : tie.After-wide = search in let s : tie.Start = search in
+    let a = same (after-wide .wide .ensures) (any w32 (s .args .a) (s .fits .a .sfits)) in
     let b = same (c .wide2 .ensures) (any w32 (s .args .b) (s .fits .b .sfits)) in
     does-fit (search machine depth 20) tt
 
 returns : tie.Need-returns
 returns c =
-    let s = c .before .before in
-    let a = same (c .before .wide .ensures) (any w32 (s .args .a) (s .fits .a .sfits)) in
+    let after-wide : tie.After-wide = search in let s : tie.Start = search in
+    let a = same (after-wide .wide .ensures) (any w32 (s .args .a) (s .fits .a .sfits)) in
     let b = same (c .wide2 .ensures) (any w32 (s .args .b) (s .fits .b .sfits)) in
     reads-as (search machine depth 20) tt
 

@@ -21,25 +21,25 @@ wide-requires-2 c κs = search needs
 
 mark-of-requires : tie.Need-mark-of-requires
 mark-of-requires c κs =
-    let s = c .before .before .before in
-    let a = same (c .before .wide .ensures) (any w32 (s .args .m) (s .fits .m .sfits)) in
+    let after-wide : tie.After-wide = search in let s : tie.Start = search in
+    let a = same (after-wide .wide .ensures) (any w32 (s .args .m) (s .fits .m .sfits)) in
     let b = same (c .wide2 .ensures) (any w32 (s .args .rho) (s .fits .rho .sfits)) in
     (within-by (search machine depth 20) tt, within-by (search machine depth 20) tt)
 
 returns : tie.Need-returns
 unfolding markFor
 returns c =
-    let s = c .before .before .before .before in
-    rw (c .before .before .before .if1 .taken)
+    let after-wide2 : tie.After-wide2 = search in let after-wide : tie.After-wide = search in let then1 : tie.Then1 = search in let s : tie.Start = search in
+    rw (then1 .if1 .taken)
     (c .mark-of .ensures
     ∙ ap₂ (λ (x y : ℤ). cond (over x y) 1 (cond (under x y) 2 0))
-    (held64 (c .before .before .wide .result) (c .before .before .wide .ok) ∙ c .before .before .wide .ensures ∙ toZ-ofZ (s .fits .m))
-    (held64 (c .before .wide2 .result) (c .before .wide2 .ok) ∙ c .before .wide2 .ensures ∙ toZ-ofZ (s .fits .rho)))
+    (held64 (after-wide .wide .result) (after-wide .wide .ok) ∙ after-wide .wide .ensures ∙ toZ-ofZ (s .fits .m))
+    (held64 (after-wide2 .wide2 .result) (after-wide2 .wide2 .ok) ∙ after-wide2 .wide2 .ensures ∙ toZ-ofZ (s .fits .rho)))
 
 returns-2 : tie.Need-returns-2
 unfolding markFor
 returns-2 c =
-    let a = c .before .args in
+    let start : tie.Start = search in let a = start .args in
     sym (by-other (a .f) 0 (cond (over (a .m) (a .rho)) 1 (cond (under (a .m) (a .rho)) 2 0)) (c .if1 .left))
 
 pub new-mark-spec : {M : Type 1} → statement M

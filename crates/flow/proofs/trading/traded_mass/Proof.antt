@@ -37,11 +37,12 @@ wide-requires c κs = search needs
 
 loop-holds : tie.Need-loop-holds Inv-loop μ-loop
 loop-holds c =
-    let s = c .before .before .before .before in (
+    let after-wide-arg : tie.After-wide-arg Inv-loop μ-loop = search in
+    let s : tie.Start Inv-loop μ-loop = search in (
       omega arith,
       omega arith,
       refl,
-      held64 (c .wide .result) (c .wide .ok) ∙ c .wide .ensures ∙ held32 (getD (s .args .mass .now) (s .args .c) (pos 0)) (c .before .wide-arg .given)
+      held64 (c .wide .result) (c .wide .ok) ∙ c .wide .ensures ∙ held32 (getD (s .args .mass .now) (s .args .c) (pos 0)) (after-wide-arg .wide-arg .given)
           ∙ gained-none (s .args .flags .now) (partOf (s .args .parts .now)) (s .args .mass .now) (s .args .fill .now) (s .args .off .now) (s .args .low) (s .args .c),
     )
 
@@ -52,44 +53,44 @@ element-copy-out-traded : tie.Need-element-copy-out-traded Inv-loop μ-loop
 element-copy-out-traded c = search needs
 
 add-traded : tie.Need-add-traded Inv-loop μ-loop
-add-traded c = let s = c .before .before .before .before .before .before .before in record { fits = omega (arith, s .pre .1 .each (c .before .before .loop .i) (omega arith), s .pre .0 .bodies .few) }
+add-traded c = let at-loop : tie.At-loop Inv-loop μ-loop = search in let s : tie.Start Inv-loop μ-loop = search in record { fits = omega (arith, s .pre .1 .each (at-loop .loop .i) (omega arith), s .pre .0 .bodies .few) }
 
 add-traded-2 : tie.Need-add-traded-2 Inv-loop μ-loop
 add-traded-2 c = search needs
 
 traded-requires : tie.Need-traded-requires Inv-loop μ-loop
 traded-requires c κs =
-    let s = c .before .before .before .before .before .before .before in
-    let i = c .before .before .loop .i in
+    let at-loop : tie.At-loop Inv-loop μ-loop = search in let s : tie.Start Inv-loop μ-loop = search in
+    let i = at-loop .loop .i in
     (s .pre .0 .bodies, s .pre .0 .fills-good, s .pre .1 .is-cell, s .pre .1 .each i (omega arith), omega arith, omega arith)
 
 -- what stands in m, and what the two calls give
 abbrev so-far : (c : tie.At-loop Inv-loop μ-loop) → Val (toZ w64 (c .loop .m))
 so-far c =
-    let s = c .before .before .before .before .before in
+    let s : tie.Start Inv-loop μ-loop = search in
     same (c .loop .inv .3)
     (known (gained (s .args .flags .now) (partOf (s .args .parts .now)) (s .args .mass .now) (s .args .fill .now) (s .args .off .now) (s .args .low) (s .args .c) (c .loop .i - 1)) 44826624
     (gained-within (s .args .flags .now) (partOf (s .args .parts .now)) (s .args .mass .now) (s .args .fill .now) (s .args .off .now) (s .args .low) (s .args .c) (tradingOf (s .pre .0)) (s .pre .1) (s .pre .2) (c .loop .i - 1) (omega arith) .abs))
 
 abbrev one : (c : tie.After-traded Inv-loop μ-loop) → Val (c .traded .result)
 one c =
-    let s = c .before .before .before .before .before .before .before .before in
-    let i = c .before .before .before .loop .i in
-    same (c .traded .ensures ∙ first-is (s .args .flags .now) (partOf (s .args .parts .now)) (s .args .mass .now) (s .args .fill .now) (s .args .off .now) (s .args .low) (s .args .c) i (c .before .before .before .loop .inv .2))
+    let at-loop : tie.At-loop Inv-loop μ-loop = search in let s : tie.Start Inv-loop μ-loop = search in
+    let i = at-loop .loop .i in
+    same (c .traded .ensures ∙ first-is (s .args .flags .now) (partOf (s .args .parts .now)) (s .args .mass .now) (s .args .fill .now) (s .args .off .now) (s .args .low) (s .args .c) i (at-loop .loop .inv .2))
     (known (gain (s .args .flags .now) (partOf (s .args .parts .now)) (s .args .mass .now) (s .args .fill .now) (s .args .off .now) (s .args .low) (s .args .c) i) 2359296
     (gain-within (s .args .flags .now) (partOf (s .args .parts .now)) (s .args .mass .now) (s .args .fill .now) (s .args .off .now) (s .args .low) (s .args .c) (tradingOf (s .pre .0)) (s .pre .1) (s .pre .2) i (omega arith) (omega arith) .abs))
 
 abbrev other : (c : tie.After-traded2 Inv-loop μ-loop) → Val (c .traded2 .result)
 other c =
-    let s = c .before .before .before .before .before .before .before .before .before .before in
-    let i = c .before .before .before .before .before .loop .i in
-    same (c .traded2 .ensures ∙ second-is (s .args .flags .now) (partOf (s .args .parts .now)) (s .args .mass .now) (s .args .fill .now) (s .args .off .now) (s .args .low) (s .args .c) i (c .before .before .before .before .before .loop .inv .2))
+    let at-loop : tie.At-loop Inv-loop μ-loop = search in let s : tie.Start Inv-loop μ-loop = search in
+    let i = at-loop .loop .i in
+    same (c .traded2 .ensures ∙ second-is (s .args .flags .now) (partOf (s .args .parts .now)) (s .args .mass .now) (s .args .fill .now) (s .args .off .now) (s .args .low) (s .args .c) i (at-loop .loop .inv .2))
     (known (gain (s .args .flags .now) (partOf (s .args .parts .now)) (s .args .mass .now) (s .args .fill .now) (s .args .off .now) (s .args .low) (s .args .c) (i + 1)) 2359296
     (gain-within (s .args .flags .now) (partOf (s .args .parts .now)) (s .args .mass .now) (s .args .fill .now) (s .args .off .now) (s .args .low) (s .args .c) (tradingOf (s .pre .0)) (s .pre .1) (s .pre .2) (i + 1) (omega arith) (omega arith) .abs))
 
 add-m : tie.Need-add-m Inv-loop μ-loop
 add-m c =
-    let m = so-far (c .before .before .before) in
+    let m = so-far (search) in
     let x = one c in
     does-fit (search machine depth 20) tt
 
@@ -103,21 +104,21 @@ element-copy-out-traded-2 : tie.Need-element-copy-out-traded-2 Inv-loop μ-loop
 element-copy-out-traded-2 c = search needs
 
 add-traded-4 : tie.Need-add-traded-4 Inv-loop μ-loop
-add-traded-4 c = let s = c .before .before .before .before .before .before .before .before .before in let i = c .before .before .before .before .loop .i in record { fits = omega (arith, s .pre .1 .each (i + 1) (omega arith), s .pre .0 .bodies .few) }
+add-traded-4 c = let at-loop : tie.At-loop Inv-loop μ-loop = search in let s : tie.Start Inv-loop μ-loop = search in let i = at-loop .loop .i in record { fits = omega (arith, s .pre .1 .each (i + 1) (omega arith), s .pre .0 .bodies .few) }
 
 add-traded-5 : tie.Need-add-traded-5 Inv-loop μ-loop
 add-traded-5 c = search needs
 
 traded-requires-2 : tie.Need-traded-requires-2 Inv-loop μ-loop
 traded-requires-2 c κs =
-    let s = c .before .before .before .before .before .before .before .before .before in
-    let i = c .before .before .before .before .loop .i in
+    let at-loop : tie.At-loop Inv-loop μ-loop = search in let s : tie.Start Inv-loop μ-loop = search in
+    let i = at-loop .loop .i in
     (s .pre .0 .bodies, s .pre .0 .fills-good, s .pre .1 .is-cell, s .pre .1 .each (i + 1) (omega arith), omega arith, omega arith)
 
 add-m-2 : tie.Need-add-m-2 Inv-loop μ-loop
 add-m-2 c =
-    let m = so-far (c .before .before .before .before .before) in
-    let x = one (c .before .before) in
+    let m = so-far (search) in
+    let x = one (search) in
     let y = other c in
     does-fit (search machine depth 20) tt
 
@@ -129,21 +130,21 @@ loop-less c = search needs
 
 loop-again : tie.Need-loop-again Inv-loop μ-loop
 loop-again c =
-    let s = c .before .before .before .before .before .before .before .before .before .before in
-    let m = so-far (c .before .before .before .before .before) in
-    let x = one (c .before .before) in
+    let at-loop : tie.At-loop Inv-loop μ-loop = search in let s : tie.Start Inv-loop μ-loop = search in
+    let m = so-far (search) in
+    let x = one (search) in
     let y = other c in (
       omega arith,
       omega arith,
       omega arith,
-      reads-as (search machine depth 20) tt ∙ gained-pair (s .args .flags .now) (partOf (s .args .parts .now)) (s .args .mass .now) (s .args .fill .now) (s .args .off .now) (s .args .low) (s .args .c) (c .before .before .before .before .before .loop .i) (omega arith),
+      reads-as (search machine depth 20) tt ∙ gained-pair (s .args .flags .now) (partOf (s .args .parts .now)) (s .args .mass .now) (s .args .fill .now) (s .args .off .now) (s .args .low) (s .args .c) (at-loop .loop .i) (omega arith),
     )
 
 returns : tie.Need-returns Inv-loop μ-loop
-returns c =
-    let s = c .before .before .before .before .before .before in
+returns c g =
+    let s : tie.Start Inv-loop μ-loop = search in
     let e : c .before .loop .i - 1 ≡ 18 = omega arith in
-    c .before .loop .inv .3 ∙ ap (gained (s .args .flags .now) (partOf (s .args .parts .now)) (s .args .mass .now) (s .args .fill .now) (s .args .off .now) (s .args .low) (s .args .c)) e ∙ gained-all (s .args .flags .now) (partOf (s .args .parts .now)) (s .args .mass .now) (s .args .fill .now) (s .args .off .now) (s .args .low) (s .args .c) (d3q19 .weight)
+    c .before .loop .inv .3 ∙ ap (gained (s .args .flags .now) (partOf (s .args .parts .now)) (s .args .mass .now) (s .args .fill .now) (s .args .off .now) (s .args .low) (s .args .c)) e ∙ gained-all (s .args .flags .now) (partOf (s .args .parts .now)) (s .args .mass .now) (s .args .fill .now) (s .args .off .now) (s .args .low) (s .args .c) (d3q19 .weight) g
 
 pub traded-mass-spec : {M : Type 1} → statement M
 traded-mass-spec =

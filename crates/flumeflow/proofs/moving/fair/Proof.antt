@@ -23,18 +23,18 @@ at-density-requires c κs = search needs
 
 steady-requires : tie.Need-steady-requires
 steady-requires c κs =
-    let s = c .before .before .before in
-    let v = c .before .flow-of .result in
-    let e = c .before .flow-of .ensures .1 in
+    let after-flow-of : tie.After-flow-of = search in let s : tie.Start = search in
+    let v = after-flow-of .flow-of .result in
+    let e = after-flow-of .flow-of .ensures .1 in
     subst (λ (w : Flow). Within (w .x) 400000000 × Within (w .y) 400000000 × Within (w .z) 400000000) (sym (c .at-density .ensures))
     (flow-x (s .args .f) (s .pre .0) v e 400000000 tt, flow-y (s .args .f) (s .pre .0) v e 400000000 tt, flow-z (s .args .f) (s .pre .0) v e 400000000 tt)
 
 returns : tie.Need-returns
 returns c =
-    let s = c .before .before .before .before in
-    let d = c .before .at-density .ensures in
-    ap₂ _&&_ (c .before .before .before .all-inside .ensures) (c .steady .ensures)
-    ∙ body-is (s .args .f) (c .before .at-density .result) (ap (λ (w : Flow). w .rho) d ∙ toZ-ofZ (s .fits .rho) ∙ sym (s .pre .1)) (ap vec d ∙ c .before .before .flow-of .ensures .1)
+    let after-at-density : tie.After-at-density = search in let after-flow-of : tie.After-flow-of = search in let after-all-inside : tie.After-all-inside = search in let s : tie.Start = search in
+    let d = after-at-density .at-density .ensures in
+    ap₂ _&&_ (after-all-inside .all-inside .ensures) (c .steady .ensures)
+    ∙ body-is (s .args .f) (after-at-density .at-density .result) (ap (λ (w : Flow). w .rho) d ∙ toZ-ofZ (s .fits .rho) ∙ sym (s .pre .1)) (ap vec d ∙ after-flow-of .flow-of .ensures .1)
 
 pub fair-spec : {M : Type 1} → statement M
 fair-spec = tie.close (tie.spec all-inside-requires flow-of-requires at-density-requires steady-requires returns)

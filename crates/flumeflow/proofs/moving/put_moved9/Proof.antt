@@ -32,7 +32,7 @@ flow-of-requires c κs = wide-bound c
 
 pulled-requires : tie.Need-pulled-requires
 pulled-requires c κs =
-    let s = c .before in
+    let s : tie.Start = search in
     let b = wide-bound s in
     let r = c .flow-of .ensures .0 in
     let j = c .flow-of .ensures .1 in
@@ -40,27 +40,28 @@ pulled-requires c κs =
 
 steady-requires : tie.Need-steady-requires
 steady-requires c κs =
-    let s = c .before .before in
+    let after-flow-of : tie.After-flow-of = search in let s : tie.Start = search in
     let b = wide-bound s in
-    let r = c .before .flow-of .ensures .0 in
-    let j = c .before .flow-of .ensures .1 in
+    let r = after-flow-of .flow-of .ensures .0 in
+    let j = after-flow-of .flow-of .ensures .1 in
     let g = s .pre .2 in
     (pulled-x _ b _ r j _ g _ (c .pulled .ensures), pulled-y _ b _ r j _ g _ (c .pulled .ensures), pulled-z _ b _ r j _ g _ (c .pulled .ensures))
 
 returns : tie.Need-returns
 returns c flags parts fills off low l e =
-    let u = c .before .before .before .flow-of .ensures in
+    let after-steady : tie.After-steady = search in let after-pulled : tie.After-pulled = search in let after-flow-of : tie.After-flow-of = search in let u = after-flow-of .flow-of .ensures in
     record {
       kept = refl;
-      told = told-refused (spreadLattice .weight) flags (partOf9 parts) fills off low _ _ _ e _ _ (u .0) (u .1) (c .before .before .pulled .ensures) l _ refl (sym (c .before .steady .ensures) ∙ not-true _ (c .if1 .taken));
+      told = told-refused (spreadLattice .weight) flags (partOf9 parts) fills off low _ _ _ e _ _ (u .0) (u .1) (after-pulled .pulled .ensures) l _ refl (sym (after-steady .steady .ensures) ∙ not-true _ (c .if1 .taken));
       parts = λ h. absurd (false≢true h);
     }
 
 relaxation9-requires : tie.Need-relaxation9-requires
 relaxation9-requires c κs =
-    let s = c .before .before .before .before in (
+    let after-steady : tie.After-steady = search in
+    let s : tie.Start = search in (
       s .pre .0,
-      sym (c .before .steady .ensures) ∙ not-false _ (c .if1 .left),
+      sym (after-steady .steady .ensures) ∙ not-false _ (c .if1 .left),
       s .pre .2,
       s .pre .4,
       s .pre .1,
@@ -72,27 +73,28 @@ handed c = toZ-ofZ (record { sfits = c .relaxation9 .ok })
 
 collided9-requires : tie.Need-collided9-requires
 collided9-requires c κs =
-    let s = c .before .before .before .before .before in (
+    let else1 : tie.Else1 = search in let after-steady : tie.After-steady = search in
+    let s : tie.Start = search in (
       s .pre .0,
-      sym (c .before .before .steady .ensures) ∙ not-false _ (c .before .if1 .left),
+      sym (after-steady .steady .ensures) ∙ not-false _ (else1 .if1 .left),
       ap relaxationGood (handed c) ∙ c .relaxation9 .ensures .1,
       s .pre .1,
     )
 
 quieted-requires : tie.Need-quieted-requires
-quieted-requires c κs = quiet-collided _ _ _ _ _ (c .before .before .before .before .before .before .pre .1) (c .collided9 .ensures .0)
+quieted-requires c κs = let start : tie.Start = search in quiet-collided _ _ _ _ _ (start .pre .1) (c .collided9 .ensures .0)
 
 paste9-requires : tie.Need-paste9-requires
 paste9-requires c κs = search needs
 
 fair-requires : tie.Need-fair-requires
 fair-requires c κs =
-    let q = c .before .before .before .before in
-    let k = q .before in
-    let s = k .before .before .before .before .before .before in
-    let v = k .before .before .before .before .pulled .result in (
+    let after-relaxation9 : tie.After-relaxation9 = search in let after-pulled : tie.After-pulled = search in let q : tie.After-quieted = search in
+    let k : tie.After-collided9 = search in
+    let s : tie.Start = search in
+    let v = after-pulled .pulled .result in (
       subst (λ (x : List ℤ). Bounded x 1073741824 33554432) (sym (q .quieted .ensures)) (k .collided9 .ensures .1),
-      density-made (v .rho) (vec v) (toZ w64 (ofZ w64 (k .before .relaxation9 .result))) (s .args .f) (q .quieted .result) (q .quieted .ensures ∙ k .collided9 .ensures .0) ∙ sym (toZ-ofZ {w = w32} (record { sfits = c .struct-told .given .0 .1 })),
+      density-made (v .rho) (vec v) (toZ w64 (ofZ w64 (after-relaxation9 .relaxation9 .result))) (s .args .f) (q .quieted .result) (q .quieted .ensures ∙ k .collided9 .ensures .0) ∙ sym (toZ-ofZ {w = w32} (record { sfits = c .struct-told .given .0 .1 })),
     )
 
 same-length : tie.Need-same-length
@@ -100,19 +102,20 @@ same-length c = search needs
 
 returns-2 : tie.Need-returns-2
 returns-2 c flags parts fills off low l e =
-    let w = c .before .before .before .before .before .before in
-    let k = w .before in
-    let a = k .before .before .before in
-    let s = a .before .before .before in
-    let u = a .before .before .flow-of .ensures in
-    let made = subst (λ (p : ℤ). k .collided9 .result ≡ tab 19 (collidedPart spreadLattice (a .before .pulled .result .rho) (vec (a .before .pulled .result)) p (partsOf (s .args .f)))) (handed (k .before) ∙ k .before .relaxation9 .ensures .0) (k .collided9 .ensures .0) in
-    let quiet : w .quieted .result ≡ tab 19 (collidedPart spreadLattice (a .before .pulled .result .rho) (vec (a .before .pulled .result)) (relaxedBy (s .args .g .turbulent) spreadLattice (a .before .pulled .result .rho) (vec (a .before .pulled .result)) (s .args .g .p) (partsOf (s .args .f))) (partsOf (s .args .f))) = w .quieted .ensures ∙ made in
-    let put = c .before .before .before .before .paste9 .ensures in
+    let after-fair : tie.After-fair = search in let after-paste9 : tie.After-paste9 = search in let after-relaxation9 : tie.After-relaxation9 = search in let else1 : tie.Else1 = search in
+    let after-pulled : tie.After-pulled = search in let after-flow-of : tie.After-flow-of = search in let w : tie.After-quieted = search in
+    let k : tie.After-collided9 = search in
+    let a : tie.After-steady = search in
+    let s : tie.Start = search in
+    let u = after-flow-of .flow-of .ensures in
+    let made = subst (λ (p : ℤ). k .collided9 .result ≡ tab 19 (collidedPart spreadLattice (after-pulled .pulled .result .rho) (vec (after-pulled .pulled .result)) p (partsOf (s .args .f)))) (handed (search) ∙ after-relaxation9 .relaxation9 .ensures .0) (k .collided9 .ensures .0) in
+    let quiet : w .quieted .result ≡ tab 19 (collidedPart spreadLattice (after-pulled .pulled .result .rho) (vec (after-pulled .pulled .result)) (relaxedBy (s .args .g .turbulent) spreadLattice (after-pulled .pulled .result .rho) (vec (after-pulled .pulled .result)) (s .args .g .p) (partsOf (s .args .f))) (partsOf (s .args .f))) = w .quieted .ensures ∙ made in
+    let put = after-paste9 .paste9 .ensures in
     record {
       kept = ap length put ∙ length-pasted9 _ _ _ (s .pre .3);
-      told = told-accepted (spreadLattice .weight) flags (partOf9 parts) fills off low _ _ _ e _ _ (u .0) (u .1) (a .before .pulled .ensures) l (w .quieted .result) quiet _ refl
-          (sym (a .steady .ensures) ∙ not-false _ (k .before .before .if1 .left)) (toZ-ofZ (record { sfits = c .struct-told2 .given .0 .1 })) (c .before .fair .ensures);
-      parts = λ h. put ∙ ap (pasted9 (s .args .parts2 .now) (s .args .c)) (moved (spreadLattice .weight) flags (partOf9 parts) fills off low _ _ _ e _ _ (u .0) (u .1) (a .before .pulled .ensures) l (w .quieted .result) quiet);
+      told = told-accepted (spreadLattice .weight) flags (partOf9 parts) fills off low _ _ _ e _ _ (u .0) (u .1) (after-pulled .pulled .ensures) l (w .quieted .result) quiet _ refl
+          (sym (a .steady .ensures) ∙ not-false _ (else1 .if1 .left)) (toZ-ofZ (record { sfits = c .struct-told2 .given .0 .1 })) (after-fair .fair .ensures);
+      parts = λ h. put ∙ ap (pasted9 (s .args .parts2 .now) (s .args .c)) (moved (spreadLattice .weight) flags (partOf9 parts) fills off low _ _ _ e _ _ (u .0) (u .1) (after-pulled .pulled .ensures) l (w .quieted .result) quiet);
     }
 
 pub put-moved9-spec : {M : Type 1} → statement M

@@ -1,7 +1,7 @@
 -- `flumeflow::passing::flowing9`: pass 1. The invariant is Walked: the first c cells have gone through stages 1 to 4. Assumes nothing.
 use mathlib.Core.Path.{_≡_, refl, sym, ap, _∙_, subst}
 use mathlib.Core.Bool.{Bool, true, false, not}
-use mathlib.Core.List.{List}
+use mathlib.Core.List.{List, []}
 use Prim.Native.Nat.{ℕ, _+_, _-_, _≤_, _<_}
 use native.Mathlib.Nat.{le-refl}
 use native.Mathlib.Omega.{arith}
@@ -10,8 +10,7 @@ use borrow.Author.Tests.{not-true, not-false}
 use mir.Syntax.{w32}
 use mir.Facts.{toZ-ofZ}
 use Rattle.whole.specs.Fold.{tab}
-use Rattle.grid.specs.State.{liquid}
-use Rattle.grid.specs.Between.{uncarried}
+use Rattle.grid.specs.State.{lent, liquid}
 use Rattle.grid.specs.Passes.{Amid}
 use Rattle.grid.specs.Sight.{Around}
 use Rattle.grid.proofs.Lists.{getD-there}
@@ -47,24 +46,24 @@ too-fast {t = false} e f = sym f ∙ e
 -- ---- inside the loop: the offsets, the cell, and what a function of one cell asks
 module _ (d : tie.In-loop Inv-loop μ-loop) where
   abbrev start : tie.Start Inv-loop μ-loop
-  start = d .before .before .before .before .before .before .before .before .before
+  start = search
 
   abbrev cell : ℕ
   cell = d .before .loop .c
 
   abbrev off : List ℕ
-  off = d .before .before .before .before .before .offsets .result
+  off = let after-offsets : tie.After-offsets Inv-loop μ-loop = search in after-offsets .offsets .result
 
   abbrev low : ℕ
-  low = d .before .before .before .before .low-of .result
+  low = let after-low-of : tie.After-low-of Inv-loop μ-loop = search in after-low-of .low-of .result
 
   table : off ≡ tab 19 (flumeOffset (start .args .s))
-  table = d .before .before .before .before .before .offsets .ensures
+  table = let after-offsets : tie.After-offsets Inv-loop μ-loop = search in after-offsets .offsets .ensures
 
   lowest : low ≡ flumeLow (start .args .s)
-  lowest = d .before .before .before .before .low-of .ensures
+  lowest = let after-low-of : tie.After-low-of Inv-loop μ-loop = search in after-low-of .low-of .ensures
 
-  poise : FlumePoised (start .args .s) (alongSettings (start .args .g)) (uncarried (start .args .flags .now) (start .args .parts .now) (start .args .mass .now) (start .args .fill .now))
+  poise : FlumePoised (start .args .s) (alongSettings (start .args .g)) (lent (start .args .flags .now) (start .args .parts .now) (start .args .mass .now) (start .args .fill .now) [])
   poise = start .pre .poised
 
   walked : Walked (spreadLattice .weight) (start .args .flags .now) (partOf9 (start .args .parts .now)) (start .args .mass .now) (start .args .fill .now) off low (start .args .g) (start .args .marks .now)
@@ -89,60 +88,60 @@ module _ (d : tie.In-loop Inv-loop μ-loop) where
   all-traders = traders (start .args .s) _ _ _ _ _ poise
 
   putting : Putting9 (start .args .flags .now) (start .args .parts .now) (start .args .fill .now) (d .before .loop .parts2) (getD (d .before .loop .marks) cell 0) off (d .before .before .before .sources9 .result) low cell (start .args .g) (d .before .before .keeping .result)
-  putting = record {
+  putting = let after-keeping : tie.After-keeping Inv-loop μ-loop = search in let after-sources9 : tie.After-sources9 Inv-loop μ-loop = search in record {
     bodied = all-traders .bodied;
     filled = all-traders .fills-good;
     is-cell = d .loop-test .taken;
     around = around-it;
     mirrored = mirrored (start .args .s) off low table lowest (omega (arith, low-few (start .args .s) (poise .sides), lowest));
-    sources = d .before .before .before .sources9 .ensures;
+    sources = after-sources9 .sources9 .ensures;
     marked = λ l e.
         let m : getD (start .args .marks .now) cell 0 ≡ 1 = sym (walked .marks-left cell (le-refl cell)) ∙ e in
         immersed (start .args .s) off low table lowest cell (inner-cell cell is-cell l) (start .args .flags .now)
         (start .pre .marked-fluid cell is-cell l m) (start .pre .marked cell is-cell l m);
     settings = settings-good (start .args .s) (start .args .g) poise (start .pre .level);
-    keeps = d .before .before .keeping .ensures;
+    keeps = after-keeping .keeping .ensures;
     size = d .before .loop .inv .1 ∙ start .pre .parts-room ∙ sym (poise .parts);
   }
 
 offsets-requires : tie.Need-offsets-requires Inv-loop μ-loop
-offsets-requires c κs = c .before .before .before .pre .poised .sides
+offsets-requires c κs = let the-start : tie.Start Inv-loop μ-loop = search in the-start .pre .poised .sides
 
 low-of-requires : tie.Need-low-of-requires Inv-loop μ-loop
-low-of-requires c κs = c .before .before .before .before .pre .poised .sides
+low-of-requires c κs = let the-start : tie.Start Inv-loop μ-loop = search in the-start .pre .poised .sides
 
 sources9-requires : tie.Need-sources9-requires Inv-loop μ-loop
 sources9-requires c κs =
-    let s = c .before .before .before .before .before .args .s in
-    let p = c .before .before .before .before .before .pre .poised in
-    mirrored s (c .before .offsets .result) (c .low-of .result) (c .before .offsets .ensures) (c .low-of .ensures) (omega (arith, low-few s (p .sides), c .low-of .ensures))
+    let after-offsets : tie.After-offsets Inv-loop μ-loop = search in let the-start : tie.Start Inv-loop μ-loop = search in let s = the-start .args .s in
+    let p = the-start .pre .poised in
+    mirrored s (after-offsets .offsets .result) (c .low-of .result) (after-offsets .offsets .ensures) (c .low-of .ensures) (omega (arith, low-few s (p .sides), c .low-of .ensures))
 
 keeping-requires : tie.Need-keeping-requires Inv-loop μ-loop
-keeping-requires c κs = let t = c .before .before .before .before .before .before in settings-good (t .args .s) (t .args .g) (t .pre .poised) (t .pre .level)
+keeping-requires c κs = let t : tie.Start Inv-loop μ-loop = search in settings-good (t .args .s) (t .args .g) (t .pre .poised) (t .pre .level)
 
 loop-holds : tie.Need-loop-holds Inv-loop μ-loop
 loop-holds c = (omega arith, refl, refl, refl, walked-first _ _ _ _ _ _ _ _ _ _ _)
 
 slice-read-put-parts9 : tie.Need-slice-read-put-parts9 Inv-loop μ-loop
-slice-read-put-parts9 c = let d = c .before .before in let h = is-cell d in omega (arith, d .before .loop .inv .3, start d .pre .marks-room)
+slice-read-put-parts9 c = let d : tie.In-loop Inv-loop μ-loop = search in let h = is-cell d in omega (arith, d .before .loop .inv .3, start d .pre .marks-room)
 
 put-parts9-requires : tie.Need-put-parts9-requires Inv-loop μ-loop
-put-parts9-requires c κs = putting (c .before .before .before .before)
+put-parts9-requires c κs = putting (search)
 
 same-length : tie.Need-same-length Inv-loop μ-loop
 same-length c = c .before .before .before .put-parts9 .ensures .kept ∙ c .before .before .before .before .before .before .before .before .before .loop .inv .1
 
 same-length-2 : tie.Need-same-length-2 Inv-loop μ-loop
-same-length-2 c = c .before .before .before .before .before .before .before .before .before .loop .inv .2
+same-length-2 c = let at-loop : tie.At-loop Inv-loop μ-loop = search in at-loop .loop .inv .2
 
 same-length-3 : tie.Need-same-length-3 Inv-loop μ-loop
-same-length-3 c = c .before .before .before .before .before .before .before .before .before .loop .inv .3
+same-length-3 c = let at-loop : tie.At-loop Inv-loop μ-loop = search in at-loop .loop .inv .3
 
 returns : tie.Need-returns Inv-loop μ-loop
 returns c =
-    let d = c .before .before .before .before .before .before .before .before in
+    let after-put-parts9 : tie.After-put-parts9 Inv-loop μ-loop = search in let d : tie.In-loop Inv-loop μ-loop = search in
     let t = start d in
-    let o = c .before .before .before .put-parts9 in
+    let o = after-put-parts9 .put-parts9 in
     record {
       went = stopped (is-cell d) (walked-stopped (spreadLattice .weight) (spreadGrid (flumeGrid (t .args .s))) (t .args .g) _ _ _ _ (off d) (low d) _ (placed-all d) _ _ _ _ _ _ (cell d) (is-cell d) (walked d)
           (too-fast (o .ensures .told .ok) (not-true _ (c .if1 .taken))));
@@ -152,38 +151,40 @@ returns c =
     }
 
 new-mass9-requires : tie.Need-new-mass9-requires Inv-loop μ-loop
-new-mass9-requires c κs = let d = c .before .before .before .before .before .before .before .before .before .before in (all-traders d, d .loop-test .taken, λ f. around-it d (ap liquid f))
+new-mass9-requires c κs = let d : tie.In-loop Inv-loop μ-loop = search in (all-traders d, d .loop-test .taken, λ f. around-it d (ap liquid f))
 
 shared-slice-read-new-mark : tie.Need-shared-slice-read-new-mark Inv-loop μ-loop
-shared-slice-read-new-mark c = c .before .before .before .before .before .before .before .before .before .before .before .before .loop-test .taken
+shared-slice-read-new-mark c = let in-loop : tie.In-loop Inv-loop μ-loop = search in in-loop .loop-test .taken
 
 new-mark-requires : tie.Need-new-mark-requires Inv-loop μ-loop
 new-mark-requires c κs = tt
 
 mul-m : tie.Need-mul-m Inv-loop μ-loop
-mul-m c = let h = is-cell (c .before .before .before .before .before .before .before .before .before .before .before .before .before .before) in record { fits = omega (arith, few (start (c .before .before .before .before .before .before .before .before .before .before .before .before .before .before) .args .s) (poise (c .before .before .before .before .before .before .before .before .before .before .before .before .before .before) .sides)) }
+mul-m c = let h = is-cell (search) in record { fits = omega (arith, few (start (search) .args .s) (poise (search) .sides)) }
 
 slice-set-from-m : tie.Need-slice-set-from-m Inv-loop μ-loop
-slice-set-from-m c = let d = c .before .before .before .before .before .before .before .before .before .before .before .before .before .before in let h = is-cell d in omega (arith, d .before .loop .inv .2, start d .pre .masses-room)
+slice-set-from-m c = let d : tie.In-loop Inv-loop μ-loop = search in let h = is-cell d in omega (arith, d .before .loop .inv .2, start d .pre .masses-room)
 
 slice-write-marks : tie.Need-slice-write-marks Inv-loop μ-loop
-slice-write-marks c = let d = c .before .before .before .before .before .before .before .before .before .before .before .before .before .before in let h = is-cell d in omega (arith, d .before .loop .inv .3, start d .pre .marks-room)
+slice-write-marks c = let d : tie.In-loop Inv-loop μ-loop = search in let h = is-cell d in omega (arith, d .before .loop .inv .3, start d .pre .marks-room)
 
 add-c : tie.Need-add-c Inv-loop μ-loop
-add-c c = let h = is-cell (c .before .before .before .before .before .before .before .before .before .before .before .before .before .before .before) in record { fits = omega (arith, few (start (c .before .before .before .before .before .before .before .before .before .before .before .before .before .before .before) .args .s) (poise (c .before .before .before .before .before .before .before .before .before .before .before .before .before .before .before) .sides)) }
+add-c c = let h = is-cell (search) in record { fits = omega (arith, few (start (search) .args .s) (poise (search) .sides)) }
 
 loop-less : tie.Need-loop-less Inv-loop μ-loop
-loop-less c = let h = c .before .before .before .before .before .before .before .before .before .before .before .before .before .before .before .loop-test .taken in omega arith
+loop-less c = let in-loop : tie.In-loop Inv-loop μ-loop = search in let h = in-loop .loop-test .taken in omega arith
 
 loop-again : tie.Need-loop-again Inv-loop μ-loop
 loop-again c =
-    let d = c .before .before .before .before .before .before .before .before .before .before .before .before .before .before .before in
+    let after-new-mark : tie.After-new-mark Inv-loop μ-loop = search in let after-struct-told2 : tie.After-struct-told2 Inv-loop μ-loop = search in let after-new-mass9 : tie.After-new-mass9 Inv-loop μ-loop = search in
+    let after-struct-told : tie.After-struct-told Inv-loop μ-loop = search in let else1 : tie.Else1 Inv-loop μ-loop = search in let after-put-parts9 : tie.After-put-parts9 Inv-loop μ-loop = search in
+    let d : tie.In-loop Inv-loop μ-loop = search in
     let t = start d in
     let l = d .before .loop in
-    let put = c .before .before .before .before .before .before .before .before .before .before .put-parts9 in
-    let gained = c .before .before .before .before .new-mass9 in
-    let mark = c .before .new-mark in
-    let ok = not-false _ (c .before .before .before .before .before .before .before .if1 .left) in
+    let put = after-put-parts9 .put-parts9 in
+    let gained = after-new-mass9 .new-mass9 in
+    let mark = after-new-mark .new-mark in
+    let ok = not-false _ (else1 .if1 .left) in
     let h = is-cell d in (
       omega arith,
       put .ensures .kept ∙ l .inv .1,
@@ -194,9 +195,9 @@ loop-again c =
           (put-more (t .args .flags .now) (t .args .parts .now) (t .args .fill .now) (off d) (low d) (t .args .g) (l .parts2) (put .last .1 .1 .1 .0) (l .c) (omega (arith, l .inv .1, t .pre .parts-room)) (put .ensures .parts ok))
           (gained .result) _ _ _ _ (mark .result) _ (getD-there (t .args .flags .now) (l .c) 0 3 (d .loop-test .taken))
           (omega (arith, l .inv .2, t .pre .masses-room)) (omega (arith, l .inv .3, t .pre .marks-room))
-          (gained .ensures) (toZ-ofZ {w = w32} (record { sfits = c .before .before .before .before .before .struct-told .given .1 .1 .0 .1 }))
+          (gained .ensures (t .args .g)) (toZ-ofZ {w = w32} (record { sfits = after-struct-told .struct-told .given .1 .1 .0 .1 }))
           (toZ-ofZ {w = w32} (record { sfits = gained .ok })) (mark .ensures) (toZ-ofZ {w = w32} (record { sfits = gained .ok }))
-          (toZ-ofZ {w = w32} (record { sfits = c .before .before .struct-told2 .given .1 .1 .0 .1 })),
+          (toZ-ofZ {w = w32} (record { sfits = after-struct-told2 .struct-told2 .given .1 .1 .0 .1 })),
     )
 
 same-length-4 : tie.Need-same-length-4 Inv-loop μ-loop
@@ -210,17 +211,17 @@ same-length-6 c = c .before .loop .inv .3
 
 returns-2 : tie.Need-returns-2 Inv-loop μ-loop
 returns-2 c =
-    let t = c .before .before .before .before .before .before .before .before .before in
+    let after-low-of : tie.After-low-of Inv-loop μ-loop = search in let after-offsets : tie.After-offsets Inv-loop μ-loop = search in let t : tie.Start Inv-loop μ-loop = search in
     let p = t .pre .poised in
     let l = c .before .loop in
     let e : l .c ≡ flumeCells (t .args .s) = omega (arith, p .flags, l .inv .0) in
     record {
       went = through
           (walked-moved (spreadLattice .weight) (spreadGrid (flumeGrid (t .args .s))) (t .args .g) (t .args .flags .now) (partOf9 (t .args .parts .now)) (t .args .mass .now) (t .args .fill .now)
-          (c .before .before .before .before .before .offsets .result) (c .before .before .before .before .low-of .result) (flumeCells (t .args .s)) (λ j h l. placed (t .args .s) _ _ (c .before .before .before .before .before .offsets .ensures) (c .before .before .before .before .low-of .ensures) j (liquid-inner (t .args .s) _ _ _ _ _ p j h l))
+          (after-offsets .offsets .result) (after-low-of .low-of .result) (flumeCells (t .args .s)) (λ j h l. placed (t .args .s) _ _ (after-offsets .offsets .ensures) (after-low-of .low-of .ensures) j (liquid-inner (t .args .s) _ _ _ _ _ p j h l))
           (t .args .marks .now) (partOf9 (l .parts2)) (l .mass2) (l .marks) (l .fair) (l .still)
           (l .inv .2 ∙ t .pre .masses-room) (l .inv .3 ∙ t .pre .marks-room)
-          (subst (λ (n : ℕ). Walked (spreadLattice .weight) (t .args .flags .now) (partOf9 (t .args .parts .now)) (t .args .mass .now) (t .args .fill .now) (c .before .before .before .before .before .offsets .result) (c .before .before .before .before .low-of .result) (t .args .g) (t .args .marks .now) (partOf9 (l .parts2)) (l .mass2) (l .marks) (l .fair) (l .still) n) e (l .inv .4)));
+          (subst (λ (n : ℕ). Walked (spreadLattice .weight) (t .args .flags .now) (partOf9 (t .args .parts .now)) (t .args .mass .now) (t .args .fill .now) (after-offsets .offsets .result) (after-low-of .low-of .result) (t .args .g) (t .args .marks .now) (partOf9 (l .parts2)) (l .mass2) (l .marks) (l .fair) (l .still) n) e (l .inv .4)));
       parts-kept = l .inv .1 ∙ t .pre .parts-room;
       masses-kept = l .inv .2 ∙ t .pre .masses-room;
       marks-kept = l .inv .3 ∙ t .pre .marks-room;

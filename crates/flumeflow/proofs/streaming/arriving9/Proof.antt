@@ -17,7 +17,7 @@ use Rattle.lattice.specs.Lattice.{V3, dot, d3q19, density, momentum}
 use Rattle.lattice.specs.Cell.{gas, isPositive}
 use Rattle.lattice.specs.Body.{vec}
 use Rattle.lattice.proofs.Reading.{inside}
-use Rattle.grid.specs.Sight.{Body, noSettings}
+use Rattle.grid.specs.Sight.{Body}
 use Rattle.grid.proofs.Lists.{getD-there}
 use Rattle.flow.proofs.Arrivals.{arrives-wall, arrives-rebuilt, arrives-liquid}
 use Rattle.flow.proofs.Leans.{above-zero}
@@ -36,7 +36,7 @@ flag s = getD-there (s .args .flags .now) (s .args .b) 0 3 (s .pre .is-near)
 
 -- what is not above 2 is no wall
 no-wall : (c : tie.Else1) → getD (c .before .before .before .args .flags .now) (c .before .before .before .args .b) 3 ≤ 2
-no-wall c = subst (λ (f : ℕ). f ≤ 2) (flag (c .before .before .before)) (c .if1 .left)
+no-wall c = subst (λ (f : ℕ). f ≤ 2) (flag (search)) (c .if1 .left)
 
 -- the code's test is stage 1's
 tested : (s : tie.Start) {l : Bool} → isPositive (s .args .lean) ≡ l
@@ -72,27 +72,27 @@ whole-gas : (c : tie.After-rebuilt) →
     let s = c .before .before .before .before .before .before in
     c .rebuilt .result ≡ gas (spreadLattice .weight (s .args .i)) (ρ s) (dot (d3q19 .e (s .args .i)) (j s)) (dot (j s) (j s))
 whole-gas c =
-    let s = c .before .before .before .before .before .before in
+    let after-weight9 : tie.After-weight9 = search in let s : tie.Start = search in
     c .rebuilt .ensures
     ∙ ap (λ (z : ℤ). gas (natAbs z) (s .args .v .rho) (toZ w32 (ofZ w32 (s .args .d))) (dot (vec (s .args .v)) (vec (s .args .v))))
-    (toZ-ofZ (sfits-of {w = w64} (c .before .weight9 .ok)) ∙ c .before .weight9 .ensures)
+    (toZ-ofZ (sfits-of {w = w64} (after-weight9 .weight9 .ok)) ∙ after-weight9 .weight9 .ensures)
     ∙ gas-same (spreadLattice .weight (s .args .i)) (s .pre .flows .density) (toZ-ofZ (s .fits .d) ∙ along s) (s .pre .flows .momentum)
 
 own-part : (c : tie.After-wide) →
     let s = c .before .before .before .before .before .before .before .before in
     c .wide .result ≡ own s (s .args .i)
 own-part c =
-    let s = c .before .before .before .before .before .before .before .before in
-    c .wide .ensures ∙ toZ-ofZ (sfits-of {w = w32} (c .before .wide-arg .given)) ∙ own-is s
+    let after-wide-arg : tie.After-wide-arg = search in let s : tie.Start = search in
+    c .wide .ensures ∙ toZ-ofZ (sfits-of {w = w32} (after-wide-arg .wide-arg .given)) ∙ own-is s
 
 abbrev gas-read : (c : tie.After-rebuilt) → Val (c .rebuilt .result)
 gas-read c =
-    let s = c .before .before .before .before .before .before in
+    let s : tie.Start = search in
     same (whole-gas c) (inside (gas-body (own s) (body s) light9 (s .args .i) (s .pre .some) (s .pre .low)))
 
 abbrev part-read : (c : tie.After-wide) → Val (c .wide .result)
 part-read c =
-    let s = c .before .before .before .before .before .before .before .before in
+    let s : tie.Start = search in
     same (own-part c) (inside (body s .parts (s .args .i) (omega (arith, s .pre .low))))
 
 shared-slice-read-f : tie.Need-shared-slice-read-f
@@ -111,18 +111,18 @@ shared-slice-copy-out-result : tie.Need-shared-slice-copy-out-result
 shared-slice-copy-out-result c = search needs
 
 returns : tie.Need-returns
-returns c fills off low e n =
-    let s = c .before .before .before .before in
+returns c fills off low g e n =
+    let then1 : tie.Then1 = search in let s : tie.Start = search in
     toZ-ofZ (sfits-of {w = w32} (c .result .given))
     ∙ own-is s
-    ∙ sym (arrives-wall (spreadLattice .weight) _ (partOf9 (s .args .parts .now)) fills off low noSettings _ _ _ _ e (subst (λ (f : ℕ). 2 < f) (flag s) (c .before .if1 .taken)))
+    ∙ sym (arrives-wall (spreadLattice .weight) _ (partOf9 (s .args .parts .now)) fills off low g _ _ _ _ e (subst (λ (f : ℕ). 2 < f) (flag s) (then1 .if1 .taken)))
 
 weight9-requires : tie.Need-weight9-requires
 weight9-requires c κs = search needs
 
 rebuilt-requires : tie.Need-rebuilt-requires
 rebuilt-requires c κs =
-    let s = c .before .before .before .before .before in (
+    let s : tie.Start = search in (
       tame-body (own s) (body s) (s .args .v) (s .pre .flows .density) (s .pre .flows .momentum),
       subst (λ (z : ℤ). pos 0 ≤ℤ z) (sym (toZ-ofZ (sfits-of {w = w64} (c .weight9 .ok)) ∙ c .weight9 .ensures)) (parts-≤ (omega arith)),
       within-by (v64 (same (c .weight9 .ensures) (inside (weight-in (s .args .i) (s .pre .some) (s .pre .low))))) tt,
@@ -146,23 +146,23 @@ wide-requires c κs = search needs
 
 sub-result : tie.Need-sub-result
 sub-result c =
-    let g = gas-read (c .before .before) in
+    let g = gas-read (search) in
     let p = part-read c in
     does-fit (search machine depth 30 fits 5000) tt
 
 cast-result : tie.Need-cast-result
 cast-result c =
-    let g = gas-read (c .before .before) in
+    let g = gas-read (search) in
     let p = part-read c in
     does-fit (search machine depth 30 fits 5000) tt
 
 returns-2 : tie.Need-returns-2
-returns-2 c fills off low e n =
-    let s = c .before .before .before .before .before .before .before .before in
-    let g = gas-read (c .before .before) in
+returns-2 c fills off low g e n =
+    let then2 : tie.Then2 = search in let s : tie.Start = search in
+    let a = gas-read (search) in
     let p = part-read c in
     reads-as (search machine depth 30 fits 5000) tt
-    ∙ sym (arrives-rebuilt (spreadLattice .weight) _ (partOf9 (s .args .parts .now)) fills off low noSettings _ _ _ _ e (no-wall (c .before .before .before .before .before)) (tested s n ∙ c .before .before .before .before .if2 .taken))
+    ∙ sym (arrives-rebuilt (spreadLattice .weight) _ (partOf9 (s .args .parts .now)) fills off low g _ _ _ _ e (no-wall (search)) (tested s n ∙ then2 .if2 .taken))
 
 mul-result-3 : tie.Need-mul-result-3
 mul-result-3 c = search needs
@@ -177,11 +177,11 @@ shared-slice-copy-out-result-2 : tie.Need-shared-slice-copy-out-result-2
 shared-slice-copy-out-result-2 c = search needs
 
 returns-3 : tie.Need-returns-3
-returns-3 c fills off low e n =
-    let s = c .before .before .before .before .before in
+returns-3 c fills off low g e n =
+    let else2 : tie.Else2 = search in let s : tie.Start = search in
     toZ-ofZ (sfits-of {w = w32} (c .result2 .given))
     ∙ sym (part-at (s .args .parts .now) (s .args .b) (s .args .m) (s .pre .part))
-    ∙ sym (arrives-liquid (spreadLattice .weight) _ (partOf9 (s .args .parts .now)) fills off low noSettings _ _ _ _ e (no-wall (c .before .before)) (tested s n ∙ c .before .if2 .left))
+    ∙ sym (arrives-liquid (spreadLattice .weight) _ (partOf9 (s .args .parts .now)) fills off low g _ _ _ _ e (no-wall (search)) (tested s n ∙ else2 .if2 .left))
 
 pub arriving9-spec : {M : Type 1} → statement M
 arriving9-spec =

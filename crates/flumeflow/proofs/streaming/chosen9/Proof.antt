@@ -7,7 +7,6 @@ use lib.IntN.{pos}
 use lib.ListN.{getD}
 use Rattle.whole.specs.Tab.{getD-tab}
 use Rattle.lattice.specs.Lattice.{pairOpp}
-use Rattle.grid.specs.Sight.{noSettings}
 use Rattle.flow.proofs.Arrivals.{streamed-straight, opposite-low}
 use Rattle.flume.specs.Spread.{wide, spreadLattice}
 use Rattle.nine.specs.Cells.{partOf9}
@@ -28,18 +27,18 @@ mul-streamed-open9 c = search needs
 
 streamed-open9-requires : tie.Need-streamed-open9-requires
 streamed-open9-requires c κs k h =
-    let s = c .before .before .before in
+    let s : tie.Start = search in
     omega (arith, source s k h, at-source (s .args .off .now) (s .args .low) (s .args .c) k, s .pre .2 .each (pairOpp (wide k)) (opposite-low (wide k) (place-low k h)), s .pre .0 .count)
 
 returns : tie.Need-returns
-returns c =
-    let s = c .before .before .before .before in
+returns c g =
+    let then1 : tie.Then1 = search in let s : tie.Start = search in
     c .streamed-open9 .ensures
     ∙ streamed-spread _ _ _ _ _ _ _ _
     (λ k h. ap (λ (n : ℕ). getD (s .args .parts .now) (9 * (s .args .c - s .args .low) + n) (pos 0)) (source s k h)
     ∙ ap (λ (n : ℕ). getD (s .args .parts .now) n (pos 0)) (at-source (s .args .off .now) (s .args .low) (s .args .c) k)
     ∙ sym (part-at (s .args .parts .now) (s .args .c - s .args .low + getD (s .args .off .now) (pairOpp (wide k)) 0) k h)
-    ∙ streamed-straight (spreadLattice .weight) (s .args .flags .now) (partOf9 (s .args .parts .now)) _ _ _ noSettings (s .pre .4) _ (s .pre .2 .from) (s .pre .6 (c .before .if1 .taken)) (wide k) (place-low k h))
+    ∙ streamed-straight (spreadLattice .weight) (s .args .flags .now) (partOf9 (s .args .parts .now)) _ _ _ g (s .pre .4) _ (s .pre .2 .from) (s .pre .6 (then1 .if1 .taken)) (wide k) (place-low k h))
 
 streamed9-requires : tie.Need-streamed9-requires
 streamed9-requires c κs = search needs

@@ -32,7 +32,7 @@ array-read-f : tie.Need-array-read-f Inv-loop μ-loop
 array-read-f c = search needs
 
 sub-f : tie.Need-sub-f Inv-loop μ-loop
-sub-f c = let s = c .before .before .before in omega (arith, s .pre .pair (c .place .result) (c .place .ensures .1))
+sub-f c = let s : tie.Start Inv-loop μ-loop = search in omega (arith, s .pre .pair (c .place .result) (c .place .ensures .1))
 
 mul-f-2 : tie.Need-mul-f-2 Inv-loop μ-loop
 mul-f-2 c = search needs
@@ -54,10 +54,10 @@ loop-less c = search needs
 
 loop-again : tie.Need-loop-again Inv-loop μ-loop
 loop-again c =
-    let l = c .before .before in
-    let t = c .before .loop-test .taken in
+    let in-loop : tie.In-loop Inv-loop μ-loop = search in let start : tie.Start Inv-loop μ-loop = search in let l : tie.At-loop Inv-loop μ-loop = search in
+    let t = in-loop .loop-test .taken in
     let h : l .loop .k < length (l .loop .f) = omega (arith, l .loop .inv .1, t) in
-    (omega arith, simp length-set (l .loop .inv .1), upto-more 0 (sourceOf9 (l .before .args .t1)) (l .loop .f) (l .loop .k) _ h (l .loop .inv .2) (source-is _ _ _ _ (l .before .pre) t (c .place .ensures .0)))
+    (omega arith, simp length-set (l .loop .inv .1), upto-more 0 (sourceOf9 (start .args .t1)) (l .loop .f) (l .loop .k) _ h (l .loop .inv .2) (source-is _ _ _ _ (start .pre) t (c .place .ensures .0)))
 
 returns : tie.Need-returns Inv-loop μ-loop
 returns c =

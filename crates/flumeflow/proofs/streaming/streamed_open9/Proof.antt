@@ -27,13 +27,15 @@ element-copy-out-f : tie.Need-element-copy-out-f Inv-loop μ-loop
 element-copy-out-f c = search needs
 
 add-f : tie.Need-add-f Inv-loop μ-loop
-add-f c = omega (arith, c .before .before .before .pre (c .before .before .loop .k) (c .before .loop-test .taken))
+add-f c = let in-loop : tie.In-loop Inv-loop μ-loop = search in let at-loop : tie.At-loop Inv-loop μ-loop = search in let start : tie.Start Inv-loop μ-loop = search in omega (arith, start .pre (at-loop .loop .k) (in-loop .loop-test .taken))
 
 mul-f-2 : tie.Need-mul-f-2 Inv-loop μ-loop
-mul-f-2 c = omega (arith, c .before .before .before .pre (c .before .before .loop .k) (c .before .loop-test .taken))
+mul-f-2 c = let in-loop : tie.In-loop Inv-loop μ-loop = search in let at-loop : tie.At-loop Inv-loop μ-loop = search in let start : tie.Start Inv-loop μ-loop = search in omega (arith, start .pre (at-loop .loop .k) (in-loop .loop-test .taken))
 
 shared-slice-copy-out-f : tie.Need-shared-slice-copy-out-f Inv-loop μ-loop
-shared-slice-copy-out-f c = omega (arith, c .before .before .before .pre (c .before .before .loop .k) (c .before .loop-test .taken))
+shared-slice-copy-out-f c =
+    let in-loop : tie.In-loop Inv-loop μ-loop = search in let at-loop : tie.At-loop Inv-loop μ-loop = search in let start : tie.Start Inv-loop μ-loop = search in
+    omega (arith, start .pre (at-loop .loop .k) (in-loop .loop-test .taken))
 
 place-requires : tie.Need-place-requires Inv-loop μ-loop
 place-requires c κs = search needs
@@ -52,9 +54,9 @@ loop-less c = search needs
 
 loop-again : tie.Need-loop-again Inv-loop μ-loop
 loop-again c =
-    let l = c .before .before .before .before in
-    let s = l .before in
-    filled-more (λ (j : ℕ). getD (s .args .parts .now) (s .args .a + getD (s .args .from .now) j 0) (pos 0)) (l .loop .f) (l .loop .k) (c .place .result) _ (l .loop .inv) (c .before .before .before .loop-test .taken) (c .place .ensures .0) (c .place .ensures .1) (toZ-ofZ (sfits-of {w = w32} (c .before .f2 .given)))
+    let after-f2 : tie.After-f2 Inv-loop μ-loop = search in let in-loop : tie.In-loop Inv-loop μ-loop = search in let l : tie.At-loop Inv-loop μ-loop = search in
+    let s : tie.Start Inv-loop μ-loop = search in
+    filled-more (λ (j : ℕ). getD (s .args .parts .now) (s .args .a + getD (s .args .from .now) j 0) (pos 0)) (l .loop .f) (l .loop .k) (c .place .result) _ (l .loop .inv) (in-loop .loop-test .taken) (c .place .ensures .0) (c .place .ensures .1) (toZ-ofZ (sfits-of {w = w32} (after-f2 .f2 .given)))
 
 returns : tie.Need-returns Inv-loop μ-loop
 returns c =

@@ -28,10 +28,10 @@ abbrev μ-loop : tie.MeasureT-loop
 -- the pair of a turn, where the function began, and the place of the pair's second
 module _ (p : tie.After-place Inv-loop μ-loop) where
   abbrev start : tie.Start Inv-loop μ-loop
-  start = p .before .before .before .before .before .before .before
+  start = search
 
   at-pair : Paired (p .before .before .loop .k)
-  at-pair = paired (p .before .before .loop .k) (omega arith) (p .before .loop-test .taken) (p .before .before .loop .inv .2)
+  at-pair = let in-loop : tie.In-loop Inv-loop μ-loop = search in let at-loop : tie.At-loop Inv-loop μ-loop = search in paired (at-loop .loop .k) (omega arith) (in-loop .loop-test .taken) (at-loop .loop .inv .2)
 
   second : p .place .result + 1 < 19
   second = omega (arith, at-pair .low, p .place .ensures .0)
@@ -51,11 +51,12 @@ wide-requires c κs = search needs
 loop-holds : tie.Need-loop-holds Inv-loop μ-loop
 unfolding gained9
 loop-holds c =
-    let s = c .before .before .before .before in (
+    let after-wide-arg : tie.After-wide-arg Inv-loop μ-loop = search in
+    let s : tie.Start Inv-loop μ-loop = search in (
       omega arith,
       omega arith,
       refl,
-      held64 (c .wide .result) (c .wide .ok) ∙ c .wide .ensures ∙ held32 (getD (s .args .mass .now) (s .args .c) (pos 0)) (c .before .wide-arg .given) ∙ amassed-none (getD (s .args .mass .now) (s .args .c) (pos 0)) (gain9 (s .args .flags .now) (s .args .parts .now) (s .args .mass .now) (s .args .fill .now) (s .args .off .now) (s .args .low) (s .args .c)),
+      held64 (c .wide .result) (c .wide .ok) ∙ c .wide .ensures ∙ held32 (getD (s .args .mass .now) (s .args .c) (pos 0)) (after-wide-arg .wide-arg .given) ∙ amassed-none (getD (s .args .mass .now) (s .args .c) (pos 0)) (gain9 (s .args .flags .now) (s .args .parts .now) (s .args .mass .now) (s .args .fill .now) (s .args .off .now) (s .args .low) (s .args .c)),
     )
 
 place-requires : tie.Need-place-requires Inv-loop μ-loop
@@ -69,47 +70,47 @@ element-copy-out-traded9 c = search needs
 
 add-traded9 : tie.Need-add-traded9 Inv-loop μ-loop
 add-traded9 c =
-    let s = c .before .before .before .before .before .before .before .before in
-    record { fits = omega (arith, s .pre .1 .each (c .before .place .result) (c .before .place .ensures .1), s .pre .0 .bodied .bodies .few) }
+    let after-place : tie.After-place Inv-loop μ-loop = search in let s : tie.Start Inv-loop μ-loop = search in
+    record { fits = omega (arith, s .pre .1 .each (after-place .place .result) (after-place .place .ensures .1), s .pre .0 .bodied .bodies .few) }
 
 add-traded9-2 : tie.Need-add-traded9-2 Inv-loop μ-loop
 add-traded9-2 c = search needs
 
 traded9-requires : tie.Need-traded9-requires Inv-loop μ-loop
 traded9-requires c κs =
-    let s = c .before .before .before .before .before .before .before .before in
-    let p = c .before in
-    (s .pre .0 .bodied, s .pre .0 .fills-good, s .pre .1 .is-cell, s .pre .1 .each (p .place .result) (p .place .ensures .1), p .before .loop-test .taken, omega arith)
+    let in-loop : tie.In-loop Inv-loop μ-loop = search in let s : tie.Start Inv-loop μ-loop = search in
+    let p : tie.After-place Inv-loop μ-loop = search in
+    (s .pre .0 .bodied, s .pre .0 .fills-good, s .pre .1 .is-cell, s .pre .1 .each (p .place .result) (p .place .ensures .1), in-loop .loop-test .taken, omega arith)
 
 -- what stands in m, and what the two calls give
 abbrev so-far : (c : tie.At-loop Inv-loop μ-loop) → Val (toZ w64 (c .loop .m))
 so-far c =
-    let s = c .before .before .before .before .before in
+    let s : tie.Start Inv-loop μ-loop = search in
     same (c .loop .inv .3)
     (known (gained9 (s .args .flags .now) (s .args .parts .now) (s .args .mass .now) (s .args .fill .now) (s .args .off .now) (s .args .low) (s .args .c) (c .loop .k - 1)) 44826624
     (gained-within (s .args .flags .now) (s .args .parts .now) (s .args .mass .now) (s .args .fill .now) (s .args .off .now) (s .args .low) (s .args .c) (trading9 (s .pre .0)) (s .pre .1) (s .pre .2) (c .loop .k - 1) (omega arith) .abs))
 
 abbrev one : (c : tie.After-traded9 Inv-loop μ-loop) → Val (c .traded9 .result)
 one c =
-    let p = c .before .before in
+    let at-loop : tie.At-loop Inv-loop μ-loop = search in let p : tie.After-place Inv-loop μ-loop = search in
     let s = start p in
-    let k = p .before .before .loop .k in
+    let k = at-loop .loop .k in
     same (c .traded9 .ensures ∙ ap (λ (i : ℕ). passed (s .args .flags .now) (partOf9 (s .args .parts .now)) (s .args .fill .now) (s .args .c) (s .args .c - s .args .low + getD (s .args .off .now) i 0) (wide k) (wide (k + 1))) (p .place .ensures .0) ∙ first-is (s .args .flags .now) (s .args .parts .now) (s .args .mass .now) (s .args .fill .now) (s .args .off .now) (s .args .low) (s .args .c) k (at-pair p))
     (known (gain9 (s .args .flags .now) (s .args .parts .now) (s .args .mass .now) (s .args .fill .now) (s .args .off .now) (s .args .low) (s .args .c) k) 2359296
     (gain-within (s .args .flags .now) (s .args .parts .now) (s .args .mass .now) (s .args .fill .now) (s .args .off .now) (s .args .low) (s .args .c) (trading9 (s .pre .0)) (s .pre .1) (s .pre .2) k (omega arith) (omega arith) .abs))
 
 abbrev other : (c : tie.After-traded92 Inv-loop μ-loop) → Val (c .traded92 .result)
 other c =
-    let p = c .before .before .before .before in
+    let at-loop : tie.At-loop Inv-loop μ-loop = search in let p : tie.After-place Inv-loop μ-loop = search in
     let s = start p in
-    let k = p .before .before .loop .k in
+    let k = at-loop .loop .k in
     same (c .traded92 .ensures ∙ ap (λ (i : ℕ). passed (s .args .flags .now) (partOf9 (s .args .parts .now)) (s .args .fill .now) (s .args .c) (s .args .c - s .args .low + getD (s .args .off .now) (i + 1) 0) (wide (k + 1)) (wide k)) (p .place .ensures .0) ∙ second-is (s .args .flags .now) (s .args .parts .now) (s .args .mass .now) (s .args .fill .now) (s .args .off .now) (s .args .low) (s .args .c) k (at-pair p))
     (known (gain9 (s .args .flags .now) (s .args .parts .now) (s .args .mass .now) (s .args .fill .now) (s .args .off .now) (s .args .low) (s .args .c) (k + 1)) 2359296
     (gain-within (s .args .flags .now) (s .args .parts .now) (s .args .mass .now) (s .args .fill .now) (s .args .off .now) (s .args .low) (s .args .c) (trading9 (s .pre .0)) (s .pre .1) (s .pre .2) (k + 1) (omega arith) (omega arith) .abs))
 
 add-m : tie.Need-add-m Inv-loop μ-loop
 add-m c =
-    let m = so-far (c .before .before .before .before) in
+    let m = so-far (search) in
     let x = one c in
     does-fit (search machine depth 20) tt
 
@@ -120,11 +121,11 @@ mul-traded9-2 : tie.Need-mul-traded9-2 Inv-loop μ-loop
 mul-traded9-2 c = search needs
 
 element-copy-out-traded9-2 : tie.Need-element-copy-out-traded9-2 Inv-loop μ-loop
-element-copy-out-traded9-2 c = omega (arith, second (c .before .before))
+element-copy-out-traded9-2 c = omega (arith, second (search))
 
 add-traded9-4 : tie.Need-add-traded9-4 Inv-loop μ-loop
 add-traded9-4 c =
-    let p = c .before .before .before in
+    let p : tie.After-place Inv-loop μ-loop = search in
     let s = start p in
     record { fits = omega (arith, s .pre .1 .each (p .place .result + 1) (second p), s .pre .0 .bodied .bodies .few) }
 
@@ -133,14 +134,14 @@ add-traded9-5 c = search needs
 
 traded9-requires-2 : tie.Need-traded9-requires-2 Inv-loop μ-loop
 traded9-requires-2 c κs =
-    let p = c .before .before .before in
+    let in-loop : tie.In-loop Inv-loop μ-loop = search in let p : tie.After-place Inv-loop μ-loop = search in
     let s = start p in
-    (s .pre .0 .bodied, s .pre .0 .fills-good, s .pre .1 .is-cell, s .pre .1 .each (p .place .result + 1) (second p), omega arith, p .before .loop-test .taken)
+    (s .pre .0 .bodied, s .pre .0 .fills-good, s .pre .1 .is-cell, s .pre .1 .each (p .place .result + 1) (second p), omega arith, in-loop .loop-test .taken)
 
 add-m-2 : tie.Need-add-m-2 Inv-loop μ-loop
 add-m-2 c =
-    let m = so-far (c .before .before .before .before .before .before) in
-    let x = one (c .before .before) in
+    let m = so-far (search) in
+    let x = one (search) in
     let y = other c in
     does-fit (search machine depth 20) tt
 
@@ -153,10 +154,10 @@ loop-less c = search needs
 loop-again : tie.Need-loop-again Inv-loop μ-loop
 unfolding gained9
 loop-again c =
-    let l = c .before .before .before .before .before .before in
-    let s = start (c .before .before .before .before) in
+    let l : tie.At-loop Inv-loop μ-loop = search in
+    let s = start (search) in
     let m = so-far l in
-    let x = one (c .before .before) in
+    let x = one (search) in
     let y = other c in (
       omega arith,
       omega arith,
@@ -165,10 +166,10 @@ loop-again c =
     )
 
 returns : tie.Need-returns Inv-loop μ-loop
-returns c =
-    let s = c .before .before .before .before .before .before in
+returns c g =
+    let s : tie.Start Inv-loop μ-loop = search in
     let e : c .before .loop .k - 1 ≡ 8 = omega arith in
-    c .before .loop .inv .3 ∙ ap (gained9 (s .args .flags .now) (s .args .parts .now) (s .args .mass .now) (s .args .fill .now) (s .args .off .now) (s .args .low) (s .args .c)) e ∙ gained-all (s .args .flags .now) (s .args .parts .now) (s .args .mass .now) (s .args .fill .now) (s .args .off .now) (s .args .low) (s .args .c)
+    c .before .loop .inv .3 ∙ ap (gained9 (s .args .flags .now) (s .args .parts .now) (s .args .mass .now) (s .args .fill .now) (s .args .off .now) (s .args .low) (s .args .c)) e ∙ gained-all (s .args .flags .now) (s .args .parts .now) (s .args .mass .now) (s .args .fill .now) (s .args .off .now) (s .args .low) (s .args .c) g
 
 pub traded-mass9-spec : {M : Type 1} → statement M
 traded-mass9-spec =

@@ -7,20 +7,21 @@ use mir.Syntax.{w64}
 use mir.Facts.{toZ-ofZ}
 use Rattle.lattice.specs.Cell.{carryGood}
 use mathlib.Core.Bool.{true}
+use mathlib.Core.List.{[], _∷_}
 use Prim.Native.Nat.{ℕ, _-_, _≤_, _<_}
 use native.Mathlib.Nat.{not-suc-le-zero}
 use native.Mathlib.Omega.{arith}
+use lib.IntN.{pos}
 use lib.ListN.{length}
 use Rattle.lattice.specs.Lattice.{d2q9}
-use Rattle.grid.specs.State.{stateOf}
+use Rattle.grid.specs.State.{lent, stateOf}
 use Rattle.grid.specs.Good.{cellGood}
-use Rattle.grid.specs.Passes.{carryless}
 use Rattle.flumegrid.proofs.Rules.{nine-cell, nine-carry, nine-none}
 use Rattle.flumegrid.proofs.checking.first_bad9.Statement.{statement}
 use Rattle.flumegrid.proofs.checking.first_bad9.Tie as tie
 
 abbrev Inv-loop : tie.InvT-loop
-Inv-loop flags parts masses fills carry c₀ c = (c ≤ length flags) × ((j : ℕ) → j < c → cellGood d2q9 (stateOf 8 (carryless flags parts masses fills)) j ≡ true)
+Inv-loop flags parts masses fills carry c₀ c = (c ≤ length flags) × ((j : ℕ) → j < c → cellGood d2q9 (stateOf 8 (lent flags parts masses fills (pos 0 ∷ []))) j ≡ true)
 
 abbrev μ-loop : tie.MeasureT-loop
 μ-loop flags parts masses fills carry c₀ c = length flags - c

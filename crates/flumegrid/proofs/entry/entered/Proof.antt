@@ -4,7 +4,7 @@ use borrow.Author.Tests.{not-true, not-false}
 use mathlib.Core.Path.{_≡_, sym, _∙_}
 use mathlib.Core.Bool.{true}
 use native.Mathlib.Omega.{arith}
-use Rattle.grid.specs.State.{Lent}
+use Rattle.grid.specs.State.{Lent, lent}
 use Rattle.grid.specs.Outcome.{settingsGood}
 use Rattle.flume.specs.Flume.{flumeSidesGood, levelSettings}
 use Rattle.flumegrid.proofs.GoodSides.{few}
@@ -13,10 +13,10 @@ use Rattle.flumegrid.proofs.entry.entered.Statement.{statement}
 use Rattle.flumegrid.proofs.entry.entered.Tie as tie
 
 abbrev first : tie.Start → Lent
-first w = record { flags = w .args .flags .now; parts = w .args .parts .now; masses = w .args .mass .now; fills = w .args .fill .now; carry = w .args .carry .now }
+first w = lent (w .args .flags .now) (w .args .parts .now) (w .args .mass .now) (w .args .fill .now) (w .args .carry .now)
 
 abbrev second : tie.Start → Lent
-second w = record { flags = w .args .flags2 .now; parts = w .args .parts2 .now; masses = w .args .mass2 .now; fills = w .args .fill2 .now; carry = w .args .carry2 .now }
+second w = lent (w .args .flags2 .now) (w .args .parts2 .now) (w .args .mass2 .now) (w .args .fill2 .now) (w .args .carry2 .now)
 
 sides-good : (d : tie.Else1) → flumeSidesGood (d .before .before .before .before .before .before .before .args .s) ≡ true
 sides-good d = sym (d .before .good-sides .ensures) ∙ not-false _ (d .if1 .left)

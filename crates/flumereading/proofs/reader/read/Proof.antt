@@ -2,6 +2,7 @@
 use borrow.Author.Needs.{needs}
 use mathlib.Core.Path.{_≡_, sym, ap, _∙_}
 use mathlib.Core.Bool.{true}
+use mathlib.Core.List.{[]}
 use Prim.Native.Nat.{ℕ, _*_}
 use native.Mathlib.Omega.{arith}
 use lib.ListN.{length}
@@ -10,20 +11,19 @@ use denote.Ref.{now}
 use Rattle.grid.specs.declared.Answer.{Answer}
 use Rattle.grid.specs.declared.Answer.the-variants.{Done}
 use Rattle.flume.specs.Flume.{flumeSidesGood, flumeCells}
-use Rattle.grid.specs.State.{Lent}
+use Rattle.grid.specs.State.{Lent, lent}
 use Rattle.grid.specs.Outcome.{accepted}
 use Rattle.grid.proofs.Accepted.{accepted-done, done-accepted}
 use Rattle.flumerecord.specs.Reading.{flumeCellsIn, flumeShape, flumeContent, flumeReadAnswer}
 use Rattle.flumerecord.specs.Passes.{FlumeSound}
-use Rattle.record.specs.Promise.{flagless}
 use Rattle.record.proofs.Answers.{Chain, chain-stops, chain-ok}
 use Rattle.flumerecord.proofs.Shaped.{chain-shape, sound, fitting}
 use Rattle.flumereading.proofs.ReadBy.{read-refused, read-accepted, Fitting, fits}
 use Rattle.flumereading.proofs.reader.read.Statement.{statement}
 use Rattle.flumereading.proofs.reader.read.Tie as tie
 
-abbrev lent : tie.Start → Lent
-lent d = flagless (now (d .args .parts)) (now (d .args .masses)) (now (d .args .fills)) (now (d .args .carry))
+abbrev own : tie.Start → Lent
+own d = lent [] (now (d .args .parts)) (now (d .args .masses)) (now (d .args .fills)) (now (d .args .carry))
 
 abbrev shapes : tie.Start → Answer → Answer
 shapes d =
@@ -50,7 +50,7 @@ is-fit c =
     (fitting (now (a .rec)) (length (now (a .parts))) (length (now (a .masses))) (length (now (a .fills))) (length (now (a .carry))) (shape-ok c))
 
 -- and the content
-content-is : (c : tie.After-content) → let d = c .before .before .before .before .before .before .before in c .content .result ≡ flumeReadAnswer (now (d .args .rec)) (lent d)
+content-is : (c : tie.After-content) → let d = c .before .before .before .before .before .before .before in c .content .result ≡ flumeReadAnswer (now (d .args .rec)) (own d)
 unfolding flumeReadAnswer
 content-is c =
     let d = c .before .before .before .before .before .before .before in
@@ -73,7 +73,7 @@ returns : tie.Need-returns
 unfolding flumeReadAnswer
 returns c =
     let d = c .before .before .before .before .before .before in
-    read-refused (now (d .args .rec)) (lent d) (c .before .before .before .shape .result) (c .refused .result)
+    read-refused (now (d .args .rec)) (own d) (c .before .before .before .shape .result) (c .refused .result)
     (chain-stops (shapes d) (chain d) (flumeContent (now (d .args .rec))) (c .before .before .before .shape .ensures) (c .before .before .passed .ensures) (c .before .if1 .taken))
     (sym (c .before .before .passed .ensures) ∙ not-true _ (c .before .if1 .taken))
     (c .refused .ensures)
@@ -93,7 +93,7 @@ refused-requires-2 c κs = search needs
 returns-2 : tie.Need-returns-2
 returns-2 c =
     let d = c .before .before .before .before .before .before .before .before .before .before in
-    read-refused (now (d .args .rec)) (lent d) (c .before .before .before .content .result) (c .refused2 .result)
+    read-refused (now (d .args .rec)) (own d) (c .before .before .before .content .result) (c .refused2 .result)
     (content-is (c .before .before .before))
     (sym (c .before .before .passed2 .ensures) ∙ not-true _ (c .before .if2 .taken))
     (c .refused2 .ensures)
@@ -152,7 +152,7 @@ returns-3 : tie.Need-returns-3
 returns-3 c =
     let e = c .before .before .before .before .before .before .before .before .before .before .before .before .before in
     let d = e .before .before .before .before .before .before .before .before .before in
-    read-accepted (now (d .args .rec)) (lent d) (c .before .before .before .before .before .before .before .before .before .before .before .before .before .before .before .before .sides-in .result) (c .before .settings-in .result) (c .site-in .result) _ _ _ _
+    read-accepted (now (d .args .rec)) (own d) (c .before .before .before .before .before .before .before .before .before .before .before .before .before .before .before .before .sides-in .result) (c .before .settings-in .result) (c .site-in .result) _ _ _ _
     (sym (ap accepted (content-is (e .before .before))) ∙ sym (e .before .passed2 .ensures) ∙ not-false _ (e .if2 .left))
     (c .before .before .before .before .before .before .before .before .before .before .before .before .before .before .before .before .sides-in .ensures)
     (c .before .settings-in .ensures)

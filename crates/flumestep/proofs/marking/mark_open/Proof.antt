@@ -27,19 +27,19 @@ low-of-requires c κs = search needs
 
 mark-open9-requires : tie.Need-mark-open9-requires
 mark-open9-requires c κs =
-    let b = c .before .before in
-    let s = b .before .before .before .before in
-    (reached (s .args .s) (s .pre .0) (b .before .offsets .ensures) (b .low-of .ensures) (s .pre .1), idling (s .args .s) (b .before .offsets .ensures) (b .low-of .ensures), s .pre .2 ∙ sym (s .pre .1))
+    let after-offsets : tie.After-offsets = search in let b : tie.After-low-of = search in
+    let s : tie.Start = search in
+    (reached (s .args .s) (s .pre .0) (after-offsets .offsets .ensures) (b .low-of .ensures) (s .pre .1), idling (s .args .s) (after-offsets .offsets .ensures) (b .low-of .ensures), s .pre .2 ∙ sym (s .pre .1))
 
 same-length : tie.Need-same-length
 same-length c = search needs
 
 returns : tie.Need-returns
 returns c =
-    let b = c .before .before .before .before .before in
-    let s = b .before .before .before .before in
-    c .before .before .mark-open9 .ensures
-    ∙ ap₂ (λ (o : List ℕ) (l : ℕ). tab (length (s .args .flags .now)) (openedBy (s .args .flags .now) (s .args .marks .now) o l)) (b .before .offsets .ensures) (b .low-of .ensures)
+    let after-mark-open9 : tie.After-mark-open9 = search in let after-offsets : tie.After-offsets = search in let b : tie.After-low-of = search in
+    let s : tie.Start = search in
+    after-mark-open9 .mark-open9 .ensures
+    ∙ ap₂ (λ (o : List ℕ) (l : ℕ). tab (length (s .args .flags .now)) (openedBy (s .args .flags .now) (s .args .marks .now) o l)) (after-offsets .offsets .ensures) (b .low-of .ensures)
 
 pub mark-open-spec : {M : Type 1} → statement M
 mark-open-spec =

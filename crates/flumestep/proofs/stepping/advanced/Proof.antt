@@ -1,23 +1,18 @@
 -- `flumestep::stepping::advanced`: pass 0, pass 1, and the rest where pass 1 went through. Assumes nothing.
 use borrow.Author.Needs.{needs}
-use mathlib.Core.Path.{sym, _∙_}
-use Rattle.flume.specs.Flume.{flumeCells}
-use Rattle.grid.specs.State.{Lent}
-use Rattle.flumestep.proofs.Finishes.{flowing, next-lengths, cleared, stopped-tried, finishing, tried-finished}
+use mathlib.Core.Path.{_∙_}
+use Rattle.flumestep.proofs.Finishes.{flowing, stopped-tried, finishing, tried-finished}
 use Rattle.flumestep.proofs.stepping.advanced.Statement.{statement}
 use Rattle.flumestep.proofs.stepping.advanced.Tie as tie
 
-abbrev first : tie.Start → Lent
-first w = record { flags = w .args .flags .now; parts = w .args .parts .now; masses = w .args .mass .now; fills = w .args .fill .now; carry = w .args .carry .now }
-
 mark-open-requires : tie.Need-mark-open-requires
-mark-open-requires c κs = let w = c .before .before .before .before .before .before in (w .pre .ready .sides, w .pre .ready .sized .flags, w .pre .marks-room)
+mark-open-requires c κs = let w : tie.Start = search in (w .pre .ready .sides, w .pre .ready .sized .flags, w .pre .marks-room)
 
 level-requires : tie.Need-level-requires
 level-requires c κs = search needs
 
 flowing9-requires : tie.Need-flowing9-requires
-flowing9-requires c κs = flowing (c .before .before .before .before .before .before .before .before .before .before .before .before .before .pre) (c .before .before .before .level .ensures) (c .before .before .before .before .before .before .mark-open .ensures)
+flowing9-requires c κs = let after-level : tie.After-level = search in let after-mark-open : tie.After-mark-open = search in let start : tie.Start = search in flowing (start .pre) (after-level .level .ensures) (after-mark-open .mark-open .ensures)
 
 enum-known-a : tie.Need-enum-known-a
 enum-known-a c = search needs
@@ -26,40 +21,43 @@ enum-known-a-2 : tie.Need-enum-known-a-2
 enum-known-a-2 c = search needs
 
 finished-requires : tie.Need-finished-requires
-finished-requires c κs = finishing (c .before .before .before .before .before .before .before .before .before .before .before .before .before .before .before .before .before .before .before .before .before .before .before .before .before .before .before .pre) (c .before .before .before .before .before .before .before .before .before .before .before .before .before .before .before .before .before .level .ensures) (c .before .before .before .before .before .before .before .before .before .before .before .before .before .flowing9 .ensures) _ _ (c .before .before .before .before .before .before .before .a2 .given .1)
+finished-requires c κs =
+    let after-a2 : tie.After-a2 = search in let after-flowing9 = after-a2 .before .before .before .before .before .before in let after-level = after-flowing9 .before .before .before .before in
+    let start = after-level .before .before .before .before .before .before .before .before .before .before in
+    finishing (start .pre) (after-level .level .ensures) (after-flowing9 .flowing9 .ensures) _ _ (after-a2 .a2 .given .1)
 
 same-length : tie.Need-same-length
-same-length c = c .before .before .before .before .before .before .before .flowing9 .ensures .parts-kept ∙ sym (c .before .before .before .before .before .before .before .before .before .before .before .before .before .before .before .before .before .before .before .before .before .pre .second .parts)
+same-length c = let after-parts2 : tie.After-parts2 = search in after-parts2 .parts2 .given
 
 same-length-2 : tie.Need-same-length-2
-same-length-2 c = c .before .before .before .before .before .before .before .flowing9 .ensures .masses-kept ∙ sym (c .before .before .before .before .before .before .before .before .before .before .before .before .before .before .before .before .before .before .before .before .before .pre .second .masses)
+same-length-2 c = let after-mass2 : tie.After-mass2 = search in after-mass2 .mass2 .given
 
 same-length-3 : tie.Need-same-length-3
-same-length-3 c = c .before .before .before .before .before .before .before .flowing9 .ensures .marks-kept ∙ sym (c .before .before .before .before .before .before .before .before .before .before .before .before .before .before .before .before .before .before .before .before .before .pre .marks-room)
+same-length-3 c = let after-marks2 : tie.After-marks2 = search in let after-marks : tie.After-marks = search in after-marks2 .marks2 .given ∙ after-marks .marks .given
 
 returns : tie.Need-returns
-returns c = stopped-tried (c .before .before .before .before .before .before .before .before .before .before .before .before .before .before .before .before .before .before .before .before .before .pre) (c .before .before .before .before .before .before .before .before .before .before .before .level .ensures) (c .before .before .before .before .before .before .before .flowing9 .ensures) _ (c .before .a .given .1)
+returns c = let start : tie.Start = search in let after-level : tie.After-level = search in let after-flowing9 : tie.After-flowing9 = search in let after-a : tie.After-a = search in stopped-tried (start .pre) (after-level .level .ensures) (after-flowing9 .flowing9 .ensures) _ (after-a .a .given .1)
 
 same-length-4 : tie.Need-same-length-4
-same-length-4 c = let w = c .before .before .before .before .before .before .before .before .before .before .before .before .before .before .before .before .before .before .before .before .before .before .before .before .before .before .before .before .before .before .before .before .before .before .before .before .before in next-lengths (w .args .s) (w .args .g) (first w) (c .before .before .before .before .before .before .before .before .before .finished .ensures .second-is) .flags ∙ sym (w .pre .second .flags)
+same-length-4 c = let after-flags2 : tie.After-flags2 = search in after-flags2 .flags2 .given
 
 same-length-5 : tie.Need-same-length-5
-same-length-5 c = let w = c .before .before .before .before .before .before .before .before .before .before .before .before .before .before .before .before .before .before .before .before .before .before .before .before .before .before .before .before .before .before .before .before .before .before .before .before .before in next-lengths (w .args .s) (w .args .g) (first w) (c .before .before .before .before .before .before .before .before .before .finished .ensures .second-is) .parts ∙ sym (w .pre .second .parts)
+same-length-5 c = let after-parts22 : tie.After-parts22 = search in let after-parts2 : tie.After-parts2 = search in after-parts22 .parts22 .given ∙ after-parts2 .parts2 .given
 
 same-length-6 : tie.Need-same-length-6
-same-length-6 c = let w = c .before .before .before .before .before .before .before .before .before .before .before .before .before .before .before .before .before .before .before .before .before .before .before .before .before .before .before .before .before .before .before .before .before .before .before .before .before in next-lengths (w .args .s) (w .args .g) (first w) (c .before .before .before .before .before .before .before .before .before .finished .ensures .second-is) .masses ∙ sym (w .pre .second .masses)
+same-length-6 c = let after-mass22 : tie.After-mass22 = search in let after-mass2 : tie.After-mass2 = search in after-mass22 .mass22 .given ∙ after-mass2 .mass2 .given
 
 same-length-7 : tie.Need-same-length-7
-same-length-7 c = let w = c .before .before .before .before .before .before .before .before .before .before .before .before .before .before .before .before .before .before .before .before .before .before .before .before .before .before .before .before .before .before .before .before .before .before .before .before .before in next-lengths (w .args .s) (w .args .g) (first w) (c .before .before .before .before .before .before .before .before .before .finished .ensures .second-is) .fills ∙ sym (w .pre .second .fills)
+same-length-7 c = let after-fill2 : tie.After-fill2 = search in after-fill2 .fill2 .given
 
 same-length-8 : tie.Need-same-length-8
-same-length-8 c = let w = c .before .before .before .before .before .before .before .before .before .before .before .before .before .before .before .before .before .before .before .before .before .before .before .before .before .before .before .before .before .before .before .before .before .before .before .before .before in next-lengths (w .args .s) (w .args .g) (first w) (c .before .before .before .before .before .before .before .before .before .finished .ensures .second-is) .carry ∙ sym (w .pre .second .carry)
+same-length-8 c = let after-carry2 : tie.After-carry2 = search in after-carry2 .carry2 .given
 
 same-length-9 : tie.Need-same-length-9
-same-length-9 c = let w = c .before .before .before .before .before .before .before .before .before .before .before .before .before .before .before .before .before .before .before .before .before .before .before .before .before .before .before .before .before .before .before .before .before .before .before .before .before in cleared (flumeCells (w .args .s)) (c .before .before .before .before .before .before .before .before .before .finished .ensures .marks-are) ∙ sym (w .pre .marks-room)
+same-length-9 c = let after-marks3 : tie.After-marks3 = search in let after-marks2 : tie.After-marks2 = search in let after-marks : tie.After-marks = search in after-marks3 .marks3 .given ∙ after-marks2 .marks2 .given ∙ after-marks .marks .given
 
 returns-2 : tie.Need-returns-2
-returns-2 c = tried-finished (c .before .before .before .before .before .before .before .before .before .finished .ensures)
+returns-2 c = let after-finished : tie.After-finished = search in tried-finished (after-finished .finished .ensures)
 
 pub advanced-spec : {M : Type 1} → statement M
 advanced-spec =

@@ -18,13 +18,13 @@ use Rattle.flumeturn.proofs.birth.flow_at9.Tie as tie
 
 streamed9-requires : tie.Need-streamed9-requires
 streamed9-requires c κs =
-    let s = c .before .before in
+    let s : tie.Start = search in
     (record { count = s .pre .0 .count; bodies = s .pre .0 .cells .bodies }, s .pre .0 .fills-good, s .pre .0 .cells .around (s .args .b) (s .pre .1) (wet-low _ (s .pre .2)), s .pre .2)
 
 bounded : (c : tie.After-streamed9) → Bounded (c .streamed9 .result) 1073741824 33554432
 bounded c =
-    let s = c .before .before .before in
-    bounded-now (spreadLattice .weight) (s .args .flags .now) (partOf9 (s .args .parts .now)) (s .args .fill .now) (s .args .off .now) (s .args .low) (s .args .g) (s .args .b) (c .streamed9 .result) (c .streamed9 .ensures) light9 (s .pre .0 .cells .bodies)
+    let s : tie.Start = search in
+    bounded-now (spreadLattice .weight) (s .args .flags .now) (partOf9 (s .args .parts .now)) (s .args .fill .now) (s .args .off .now) (s .args .low) (s .args .g) (s .args .b) (c .streamed9 .result) (c .streamed9 .ensures (s .args .g)) light9 (s .pre .0 .cells .bodies)
     (s .pre .0 .cells .around (s .args .b) (s .pre .1) (wet-low _ (s .pre .2))) (s .pre .2)
 
 flow-of-requires : tie.Need-flow-of-requires
@@ -39,20 +39,20 @@ looser {z} {y} e h = record { abs = omega (arith, ap natAbs e, h .abs) }
 
 pulled-requires : tie.Need-pulled-requires
 pulled-requires c κs =
-    let l = c .before .streamed9 .result in
-    let b = bounded (c .before) in
+    let after-streamed9 : tie.After-streamed9 = search in let start : tie.Start = search in let l = after-streamed9 .streamed9 .result in
+    let b = bounded (search) in
     let e = c .flow-of .ensures in
-    (looser (e .0) (density-in l b), loose (ap (λ (v : V3). v .x) (e .1)) (x-in l b), loose (ap (λ (v : V3). v .y) (e .1)) (y-in l b), loose (ap (λ (v : V3). v .z) (e .1)) (z-in l b), c .before .before .before .before .pre .0 .gravity)
+    (looser (e .0) (density-in l b), loose (ap (λ (v : V3). v .x) (e .1)) (x-in l b), loose (ap (λ (v : V3). v .y) (e .1)) (y-in l b), loose (ap (λ (v : V3). v .z) (e .1)) (z-in l b), start .pre .0 .gravity)
 
 returns : tie.Need-returns
 unfolding newMomentum sight momentum
 returns c =
-    let s = c .before .before .before .before .before in
-    let l = c .before .before .streamed9 .result in
-    let e = c .before .flow-of .ensures in
+    let after-flow-of : tie.After-flow-of = search in let after-streamed9 : tie.After-streamed9 = search in let s : tie.Start = search in
+    let l = after-streamed9 .streamed9 .result in
+    let e = after-flow-of .flow-of .ensures in
     let p = c .pulled .ensures in
-    let ρ = e .0 ∙ density-now (spreadLattice .weight) (s .args .flags .now) (partOf9 (s .args .parts .now)) (s .args .fill .now) (s .args .off .now) (s .args .low) (s .args .g) (s .args .b) l (c .before .before .streamed9 .ensures) in
-    let j = e .1 ∙ momentum-now (spreadLattice .weight) (s .args .flags .now) (partOf9 (s .args .parts .now)) (s .args .fill .now) (s .args .off .now) (s .args .low) (s .args .g) (s .args .b) l (c .before .before .streamed9 .ensures) in
+    let ρ = e .0 ∙ density-now (spreadLattice .weight) (s .args .flags .now) (partOf9 (s .args .parts .now)) (s .args .fill .now) (s .args .off .now) (s .args .low) (s .args .g) (s .args .b) l (after-streamed9 .streamed9 .ensures (s .args .g)) in
+    let j = e .1 ∙ momentum-now (spreadLattice .weight) (s .args .flags .now) (partOf9 (s .args .parts .now)) (s .args .fill .now) (s .args .off .now) (s .args .low) (s .args .g) (s .args .b) l (after-streamed9 .streamed9 .ensures (s .args .g)) in
     record {
       rho = p .rho ∙ ρ;
       x = p .x ∙ ap₂ (λ (a r : ℤ). a +ℤ pull r (s .args .g .gx)) (ap (λ (v : V3). v .x) j) ρ;

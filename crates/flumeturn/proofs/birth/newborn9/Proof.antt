@@ -2,6 +2,7 @@
 use borrow.Author.Needs.{needs}
 use mathlib.Core.Path.{_≡_, refl, _∙_, ap, ap₂, subst}
 use mathlib.Core.Bool.{Bool, _&&_}
+use mathlib.Core.List.{[]}
 use Prim.Native.Nat.{ℕ, _+_, _*_, _-_, _≤_, _<_}
 use native.Mathlib.Omega.{arith}
 use lib.ListN.{length}
@@ -10,53 +11,53 @@ use Rattle.turn.specs.Born.{newlyBorn, laterFair}
 use Rattle.turn.proofs.Weighed.{all-none, all-more}
 use Rattle.turn.proofs.Newborns.{Reached, reached-zero, reached-more, reached-past, unborn}
 use Rattle.nine.specs.Cells.{partOf9}
-use Rattle.flumeturn.specs.Born.{flowSight9}
+use Rattle.flumeflow.specs.Seen.{sight9}
 use Rattle.flumeturn.proofs.Newborns.{visited-size, visited-list}
 use Rattle.flumeturn.proofs.birth.newborn9.Statement.{statement}
 use Rattle.flumeturn.proofs.birth.newborn9.Tie as tie
 
 abbrev Inv-loop : tie.InvT-loop
 Inv-loop flags parts fill flags2 parts2₀ off low g fair₀ c₀ parts2 fair c =
-    (c ≤ length flags) × Reached (flowSight9 flags parts fill off low g) (newlyBorn flags flags2) (partOf9 parts2₀) (partOf9 parts2) c
-    × (length parts2 ≡ length parts2₀) × (fair ≡ all c (laterFair (flowSight9 flags parts fill off low g) (newlyBorn flags flags2)))
+    (c ≤ length flags) × Reached (sight9 flags parts [] fill off low g) (newlyBorn flags flags2) (partOf9 parts2₀) (partOf9 parts2) c
+    × (length parts2 ≡ length parts2₀) × (fair ≡ all c (laterFair (sight9 flags parts [] fill off low g) (newlyBorn flags flags2)))
 
 abbrev μ-loop : tie.MeasureT-loop
 μ-loop flags parts fill flags2 parts2₀ off low g fair₀ c₀ parts2 fair c = length flags - c
 
 loop-holds : tie.Need-loop-holds Inv-loop μ-loop
 loop-holds c =
-    let a = c .before .before .before .args in
-    let S = flowSight9 (a .flags .now) (a .parts .now) (a .fill .now) (a .off .now) (a .low) (a .g) in
+    let start : tie.Start Inv-loop μ-loop = search in let a = start .args in
+    let S = sight9 (a .flags .now) (a .parts .now) [] (a .fill .now) (a .off .now) (a .low) (a .g) in
     let w = newlyBorn (a .flags .now) (a .flags2 .now) in
     (omega arith, reached-zero S w (partOf9 (a .parts2 .now)), refl, all-none (laterFair S w))
 
 visit9-requires : tie.Need-visit9-requires Inv-loop μ-loop
 visit9-requires c κs =
-    let s = c .before .before .before .before .before .before in
-    (s .pre .0, c .before .loop-test .taken, c .before .before .loop .inv .2 ∙ s .pre .1)
+    let in-loop : tie.In-loop Inv-loop μ-loop = search in let at-loop : tie.At-loop Inv-loop μ-loop = search in let s : tie.Start Inv-loop μ-loop = search in
+    (s .pre .0, in-loop .loop-test .taken, at-loop .loop .inv .2 ∙ s .pre .1)
 
 add-next-of : tie.Need-add-next-of Inv-loop μ-loop
 add-next-of c = search needs
 
 next-of-requires : tie.Need-next-of-requires Inv-loop μ-loop
 next-of-requires c κs =
-    let s = c .before .before .before .before .before .before .before .before in
-    omega (arith, s .pre .0 .count, c .before .before .before .loop-test .taken)
+    let in-loop : tie.In-loop Inv-loop μ-loop = search in let s : tie.Start Inv-loop μ-loop = search in
+    omega (arith, s .pre .0 .count, in-loop .loop-test .taken)
 
 loop-less : tie.Need-loop-less Inv-loop μ-loop
 loop-less c =
-    let s = c .before .before .before .before .before .before .before .before .before in
-    omega (arith, c .next-of .ensures .least, c .next-of .ensures .most, s .pre .0 .count, c .before .before .before .before .loop-test .taken)
+    let in-loop : tie.In-loop Inv-loop μ-loop = search in let s : tie.Start Inv-loop μ-loop = search in
+    omega (arith, c .next-of .ensures .least, c .next-of .ensures .most, s .pre .0 .count, in-loop .loop-test .taken)
 
 loop-again : tie.Need-loop-again Inv-loop μ-loop
 loop-again c =
-    let v = c .before .before in
-    let s = v .before .before .before .before .before .before .before in
+    let in-loop : tie.In-loop Inv-loop μ-loop = search in let at-loop : tie.At-loop Inv-loop μ-loop = search in let v : tie.After-visit9 Inv-loop μ-loop = search in
+    let s : tie.Start Inv-loop μ-loop = search in
     let a = s .args in
-    let l = v .before .before .before .loop in
-    let S = flowSight9 (a .flags .now) (a .parts .now) (a .fill .now) (a .off .now) (a .low) (a .g) in
+    let l = at-loop .loop in
+    let S = sight9 (a .flags .now) (a .parts .now) [] (a .fill .now) (a .off .now) (a .low) (a .g) in
     let w = newlyBorn (a .flags .now) (a .flags2 .now) in
-    let h : l .c < length (a .flags .now) = v .before .before .loop-test .taken in
+    let h : l .c < length (a .flags .now) = in-loop .loop-test .taken in
     let room : 9 * l .c + 9 ≤ length (l .parts2) = omega (arith, l .inv .2, s .pre .1) in
     let n = c .next-of .ensures in
     let m : c .next-of .result ≤ length (a .flags .now) = omega (arith, n .most, s .pre .0 .count) in
@@ -75,10 +76,10 @@ same-length c = c .before .loop .inv .2
 
 returns : tie.Need-returns Inv-loop μ-loop
 returns c =
-    let s = c .before .before .before .before .before in
+    let s : tie.Start Inv-loop μ-loop = search in
     let a = s .args in
     let l = c .before .loop in
-    let S = flowSight9 (a .flags .now) (a .parts .now) (a .fill .now) (a .off .now) (a .low) (a .g) in
+    let S = sight9 (a .flags .now) (a .parts .now) [] (a .fill .now) (a .off .now) (a .low) (a .g) in
     let w = newlyBorn (a .flags .now) (a .flags2 .now) in
     let e : l .c ≡ length (a .flags .now) = omega arith in
     record {

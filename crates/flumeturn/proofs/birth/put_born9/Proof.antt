@@ -15,7 +15,7 @@ mean-flow9-requires c κs = search needs
 
 equilibrium9-requires : tie.Need-equilibrium9-requires
 equilibrium9-requires c κs =
-    let s = c .before .before .before in
+    let s : tie.Start = search in
     born-tame (spreadLattice .weight) (s .args .flags .now) (partOf9 (s .args .parts .now)) (s .args .fill .now) (s .args .off .now) (s .args .low) (s .args .g) (s .args .c) (s .pre .0 .cells) (s .pre .1) (c .mean-flow9 .ensures) (s .pre .2)
 
 paste9-requires : tie.Need-paste9-requires
@@ -29,11 +29,11 @@ same-length c = search needs
 
 returns : tie.Need-returns
 returns c =
-    let s = c .before .before .before .before .before .before .before .before in
-    let b = c .before .before .before .before .before .mean-flow9 .ensures in
-    let v = c .before .before .before .before .equilibrium9 in
+    let after-paste9 : tie.After-paste9 = search in let after-equilibrium9 : tie.After-equilibrium9 = search in let after-mean-flow9 : tie.After-mean-flow9 = search in let s : tie.Start = search in
+    let b = after-mean-flow9 .mean-flow9 .ensures in
+    let v = after-equilibrium9 .equilibrium9 in
     record {
-      parts = c .before .before .paste9 .ensures ∙ ap (λ (l : List ℤ). pasted9 (s .args .parts2 .now) (s .args .c) l) (born-list (spreadLattice .weight) (s .args .flags .now) (partOf9 (s .args .parts .now)) (s .args .fill .now) (s .args .off .now) (s .args .low) (s .args .g) (s .args .c) b (v .result) (v .ensures .0));
+      parts = after-paste9 .paste9 .ensures ∙ ap (λ (l : List ℤ). pasted9 (s .args .parts2 .now) (s .args .c) l) (born-list (spreadLattice .weight) (s .args .flags .now) (partOf9 (s .args .parts .now)) (s .args .fill .now) (s .args .off .now) (s .args .low) (s .args .g) (s .args .c) b (v .result) (v .ensures .0));
       fair-is = c .fair-parts .ensures ∙ born-fair (spreadLattice .weight) (s .args .flags .now) (partOf9 (s .args .parts .now)) (s .args .fill .now) (s .args .off .now) (s .args .low) (s .args .g) (s .args .c) b (v .result) (v .ensures .0);
     }
 

@@ -21,23 +21,23 @@ is-newborn-requires c κs = search needs
 reads-newborn : (c : tie.After-is-newborn) → let s = c .before .before .before .before .before .before in
     c .is-newborn .result ≡ newlyBorn (s .args .flags .now) (s .args .flags2 .now) (s .args .c)
 reads-newborn c =
-    let s = c .before .before .before .before .before .before in
+    let s : tie.Start = search in
     c .is-newborn .ensures ∙ newborn-reads (s .args .flags .now) (s .args .flags2 .now) (s .args .c) (s .pre .1) (s .pre .0 .count)
 
 put-born9-requires : tie.Need-put-born9-requires
 put-born9-requires c κs =
-    let s = c .before .before .before .before .before .before .before .before in
-    let e = sym (reads-newborn (c .before .before)) ∙ c .before .if1 .taken in
+    let then1 : tie.Then1 = search in let s : tie.Start = search in
+    let e = sym (reads-newborn (search)) ∙ then1 .if1 .taken in
     (s .pre .0 .tested, s .pre .0 .tested .cells .around (s .args .c) (s .pre .1) (newborn-empty (s .args .flags .now) (s .args .flags2 .now) (s .args .c) e), s .pre .0 .fed (s .args .c) (s .pre .1) e, omega (arith, s .pre .1, s .pre .2))
 
 same-length : tie.Need-same-length
 same-length c = search needs
 
 returns : tie.Need-returns
-returns c = visited-yes (sym (reads-newborn (c .before .before .before .before)) ∙ c .before .before .before .if1 .taken) (c .before .put-born9 .ensures)
+returns c = let after-put-born9 : tie.After-put-born9 = search in let then1 : tie.Then1 = search in visited-yes (sym (reads-newborn (search)) ∙ then1 .if1 .taken) (after-put-born9 .put-born9 .ensures)
 
 returns-2 : tie.Need-returns-2
-returns-2 c = visited-no (c .before .before .before .before .before .before .before .args .parts2 .now) (sym (reads-newborn (c .before)) ∙ c .if1 .left)
+returns-2 c = let start : tie.Start = search in visited-no (start .args .parts2 .now) (sym (reads-newborn (search)) ∙ c .if1 .left)
 
 pub visit9-spec : {M : Type 1} → statement M
 visit9-spec =

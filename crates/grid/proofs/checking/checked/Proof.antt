@@ -7,22 +7,22 @@ use mir.Syntax.{w64}
 use mir.Facts.{toZ-ofZ}
 use Rattle.lattice.specs.Lattice.{d3q19}
 use Rattle.grid.specs.Grid.{cellsOf}
-use Rattle.grid.specs.State.{Lent, stateOf}
+use Rattle.grid.specs.State.{Lent, lent, stateOf}
 use Rattle.grid.specs.Good.{badRule}
 use Rattle.grid.proofs.Checks.{stops-at-flag, stops-at-fluid, stops-at-rule, goes-through, one-carry}
 use borrow.Author.Needs.{needs}
 use Rattle.grid.proofs.checking.checked.Statement.{statement}
 use Rattle.grid.proofs.checking.checked.Tie as tie
 
-abbrev lent : tie.Start → Lent
-lent c = record { flags = c .args .flags .now; parts = c .args .parts .now; masses = c .args .masses .now; fills = c .args .fills .now; carry = c .args .carry .now }
+abbrev own : tie.Start → Lent
+own c = lent (c .args .flags .now) (c .args .parts .now) (c .args .masses .now) (c .args .fills .now) (c .args .carry .now)
 
-place : (c : tie.After-first-bad) → c .first-bad .result ≡ badRule d3q19 (cellsOf (c .before .before .before .before .before .before .before .before .args .s)) (stateOf 18 (lent (c .before .before .before .before .before .before .before .before)))
+place : (c : tie.After-first-bad) → c .first-bad .result ≡ badRule d3q19 (cellsOf (c .before .before .before .before .before .before .before .before .args .s)) (stateOf 18 (own (c .before .before .before .before .before .before .before .before)))
 place c =
     let w = c .before .before .before .before .before .before .before .before in
     c .first-bad .ensures
-    ∙ one-carry _ (lent w) _ (toZ-ofZ {w = w64} (sfits-of {w = w64} (c .before .first-bad-arg .given)))
-    ∙ ap (λ (n : ℕ). badRule d3q19 n (stateOf 18 (lent w))) (w .pre .1 .flags)
+    ∙ one-carry _ (own w) _ (toZ-ofZ {w = w64} (sfits-of {w = w64} (c .before .first-bad-arg .given)))
+    ∙ ap (λ (n : ℕ). badRule d3q19 n (stateOf 18 (own w))) (w .pre .1 .flags)
 
 first-bad-flag-requires : tie.Need-first-bad-flag-requires
 first-bad-flag-requires c κs = search needs
@@ -30,7 +30,7 @@ first-bad-flag-requires c κs = search needs
 returns : tie.Need-returns
 returns c =
     let w = c .before .before .before .before in
-    stops-at-flag (w .args .s) (lent w) _ (c .before .first-bad-flag .ensures) (omega (arith, w .pre .1 .flags, c .if1 .taken))
+    stops-at-flag (w .args .s) (own w) _ (c .before .first-bad-flag .ensures) (omega (arith, w .pre .1 .flags, c .if1 .taken))
 
 first-open-requires : tie.Need-first-open-requires
 first-open-requires c κs = search needs
@@ -38,7 +38,7 @@ first-open-requires c κs = search needs
 returns-2 : tie.Need-returns-2
 returns-2 c =
     let w = c .before .before .before .before .before .before in
-    stops-at-fluid (w .args .s) (lent w) _ (c .before .before .before .first-bad-flag .ensures) (omega (arith, w .pre .1 .flags, c .before .before .if1 .left)) _ (c .before .first-open .ensures)
+    stops-at-fluid (w .args .s) (own w) _ (c .before .before .before .first-bad-flag .ensures) (omega (arith, w .pre .1 .flags, c .before .before .if1 .left)) _ (c .before .first-open .ensures)
     (omega (arith, w .pre .1 .flags, c .if2 .taken))
 
 shared-slice-copy-out-first-bad : tie.Need-shared-slice-copy-out-first-bad
@@ -50,13 +50,13 @@ first-bad-requires c κs = search needs
 returns-3 : tie.Need-returns-3
 returns-3 c =
     let w = c .before .before .before .before .before .before .before .before .before in
-    stops-at-rule (w .args .s) (lent w) _ (c .before .before .before .before .before .before .first-bad-flag .ensures) (omega (arith, w .pre .1 .flags, c .before .before .before .before .before .if1 .left)) _ (c .before .before .before .before .first-open .ensures)
+    stops-at-rule (w .args .s) (own w) _ (c .before .before .before .before .before .before .first-bad-flag .ensures) (omega (arith, w .pre .1 .flags, c .before .before .before .before .before .if1 .left)) _ (c .before .before .before .before .first-open .ensures)
     (omega (arith, w .pre .1 .flags, c .before .before .before .if2 .left)) _ (place (c .before)) (omega (arith, w .pre .1 .flags, c .if3 .taken))
 
 returns-4 : tie.Need-returns-4
 returns-4 c =
     let w = c .before .before .before .before .before .before .before .before .before in
-    goes-through (w .args .s) (lent w) _ (c .before .before .before .before .before .before .first-bad-flag .ensures) (omega (arith, w .pre .1 .flags, c .before .before .before .before .before .if1 .left)) _ (c .before .before .before .before .first-open .ensures)
+    goes-through (w .args .s) (own w) _ (c .before .before .before .before .before .before .first-bad-flag .ensures) (omega (arith, w .pre .1 .flags, c .before .before .before .before .before .if1 .left)) _ (c .before .before .before .before .first-open .ensures)
     (omega (arith, w .pre .1 .flags, c .before .before .before .if2 .left)) _ (place (c .before)) (omega (arith, w .pre .1 .flags, c .if3 .left))
 
 pub checked-spec : {M : Type 1} → statement M

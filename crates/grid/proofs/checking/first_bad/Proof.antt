@@ -7,20 +7,21 @@ use mir.Syntax.{w64}
 use mir.Facts.{toZ-ofZ}
 use Rattle.lattice.specs.Cell.{carryGood}
 use mathlib.Core.Bool.{true}
+use mathlib.Core.List.{[], _∷_}
 use Prim.Native.Nat.{ℕ, _-_, _≤_, _<_}
 use native.Mathlib.Nat.{not-suc-le-zero}
 use native.Mathlib.Omega.{arith}
+use lib.IntN.{pos}
 use lib.ListN.{length}
 use Rattle.lattice.specs.Lattice.{d3q19}
-use Rattle.grid.specs.State.{stateOf}
+use Rattle.grid.specs.State.{lent, stateOf}
 use Rattle.grid.specs.Good.{cellGood}
-use Rattle.grid.specs.Passes.{carryless}
 use Rattle.grid.proofs.Rules.{bad-cell, bad-carry, none-bad}
 use Rattle.grid.proofs.checking.first_bad.Statement.{statement}
 use Rattle.grid.proofs.checking.first_bad.Tie as tie
 
 abbrev Inv-loop : tie.InvT-loop
-Inv-loop flags parts masses fills carry c₀ c = (c ≤ length flags) × ((j : ℕ) → j < c → cellGood d3q19 (stateOf 18 (carryless flags parts masses fills)) j ≡ true)
+Inv-loop flags parts masses fills carry c₀ c = (c ≤ length flags) × ((j : ℕ) → j < c → cellGood d3q19 (stateOf 18 (lent flags parts masses fills (pos 0 ∷ []))) j ≡ true)
 
 abbrev μ-loop : tie.MeasureT-loop
 μ-loop flags parts masses fills carry c₀ c = length flags - c

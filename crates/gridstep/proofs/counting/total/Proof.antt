@@ -10,6 +10,7 @@ use mir.Val.{toZ, ofZ}
 use mir.Facts.{toZ-ofZ}
 use Rattle.whole.specs.Machine.{Val, known, does-fit, reads-as, same, v+, v64}
 use Rattle.lattice.specs.Cell.{carryGood}
+use Rattle.gridstep.specs.Playing.{totalBy}
 use Rattle.gridstep.proofs.counting.total.Statement.{statement}
 use Rattle.gridstep.proofs.counting.total.Tie as tie
 
@@ -36,6 +37,7 @@ add-result : tie.Need-add-result
 add-result c = does-fit (both c) tt
 
 returns : tie.Need-returns
+unfolding totalBy
 returns c =
     reads-as (v64 (both c)) tt ∙ ap (λ (z : ℤ). z +ℤ c .before .before .before .args .carry) (c .mass-sum .ensures .0) ∙ simp (fair (c .before))
 
@@ -43,6 +45,7 @@ unfair : (c : tie.Else1) → carryGood (c .before .before .args .carry) ≡ fals
 unfair c = ap carryGood (sym (toZ-ofZ (c .before .before .fits .carry))) ∙ sym (c .before .fair-carry .ensures) ∙ c .if1 .left
 
 returns-2 : tie.Need-returns-2
+unfolding totalBy
 returns-2 c = simp (unfair c)
 
 pub total-spec : {M : Type 1} → statement M

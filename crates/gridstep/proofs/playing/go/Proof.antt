@@ -1,20 +1,20 @@
--- `gridstep::playing::go` tells a state before and after its step, whose slices kept their lengths. Assumes nothing.
+-- `gridstep::playing::go` tells a state, its step, and the state after it, whose slices kept their lengths. Assumes nothing.
 use borrow.Author.Needs.{needs}
 use native.Mathlib.Omega.{arith}
+use lib.IntN.{pos}
+use lib.ListN.{getD}
+use Rattle.gridstep.proofs.Going.{went}
 use Rattle.gridstep.proofs.playing.go.Statement.{statement}
 use Rattle.gridstep.proofs.playing.go.Tie as tie
 
-returns : tie.Need-returns
-returns c = search needs
+shared-slice-copy-out-counts : tie.Need-shared-slice-copy-out-counts
+shared-slice-copy-out-counts c = search needs
 
-slice-aggregate-tell : tie.Need-slice-aggregate-tell
-slice-aggregate-tell c = search needs
+shared-slice-copy-out-counts-2 : tie.Need-shared-slice-copy-out-counts-2
+shared-slice-copy-out-counts-2 c = search needs
 
-tell-requires : tie.Need-tell-requires
-tell-requires c κs = search needs
-
-shared-slice-copy-out-t25 : tie.Need-shared-slice-copy-out-t25
-shared-slice-copy-out-t25 c = search needs
+counts-requires : tie.Need-counts-requires
+counts-requires c κs = search needs
 
 slice-aggregate-step : tie.Need-slice-aggregate-step
 slice-aggregate-step c = search needs
@@ -22,17 +22,11 @@ slice-aggregate-step c = search needs
 step-requires : tie.Need-step-requires
 step-requires c κs = search needs
 
-slice-aggregate-answered : tie.Need-slice-aggregate-answered
-slice-aggregate-answered c = search needs
+slice-copy-out-counts : tie.Need-slice-copy-out-counts
+slice-copy-out-counts c = omega (arith, c .before .before .before .before .carry2 .given, c .before .before .before .before .before .before .before .before .before .before .before .before .before .before .before .before .before .before .before .before .before .before .before .before .before .before .before .pre .1 .1 .1)
 
-answered-requires : tie.Need-answered-requires
-answered-requires c κs = search needs
-
-slice-aggregate-tell-2 : tie.Need-slice-aggregate-tell-2
-slice-aggregate-tell-2 c = search needs
-
-tell-requires-2 : tie.Need-tell-requires-2
-tell-requires-2 c κs = omega (arith, c .before .before .before .before .before .before .before .before .before .before .before .masses2 .given, c .before .before .before .before .before .before .before .before .before .before .before .before .before .before .before .before .before .before .before .before .before .before .before .before .before .before .before .before .before .before .before .before .pre .1)
+counts-requires-2 : tie.Need-counts-requires-2
+counts-requires-2 c κs = omega (arith, c .before .before .before .before .before .before .before .before .masses2 .given, c .before .before .before .before .before .before .before .before .before .before .before .before .before .before .before .before .before .before .before .before .before .before .before .before .before .before .before .before .pre .1 .0)
 
 same-length : tie.Need-same-length
 same-length c = search needs
@@ -52,27 +46,28 @@ same-length-5 c = search needs
 same-length-6 : tie.Need-same-length-6
 same-length-6 c = search needs
 
-returns-2 : tie.Need-returns-2
-returns-2 c = search needs
+returns : tie.Need-returns
+returns c =
+    let first = c .before .before .before .before .before .before .before .before .before .before .before .before .before .before .before .before .before .before .before .before .before in
+    let start = first .before .before .before .before .before .before .before .before in
+    went (getD (start .args .carry .now) 0 (pos 0)) (record { sfits = first .before .counts-arg2 .given }) (record { sfits = c .before .counts-arg5 .given })
+    (first .counts .ensures) (c .before .before .before .before .before .before .before .before .before .before .before .before .before .step .ensures) (c .counts2 .ensures)
 
 pub go-spec : {M : Type 1} → statement M
 go-spec =
     tie.close
     (tie.spec
-    returns
-    slice-aggregate-tell
-    tell-requires
-    shared-slice-copy-out-t25
+    shared-slice-copy-out-counts
+    shared-slice-copy-out-counts-2
+    counts-requires
     slice-aggregate-step
     step-requires
-    slice-aggregate-answered
-    answered-requires
-    slice-aggregate-tell-2
-    tell-requires-2
+    slice-copy-out-counts
+    counts-requires-2
     same-length
     same-length-2
     same-length-3
     same-length-4
     same-length-5
     same-length-6
-    returns-2)
+    returns)

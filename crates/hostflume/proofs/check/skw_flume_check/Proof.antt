@@ -16,8 +16,8 @@ number-of-requires c κs = search needs
 
 returns : tie.Need-returns
 returns c =
-    let e = c .before .before .check .ensures in
-    record { number-is = c .number-of .ensures ∙ ap numberOf e; place-is = c .before .place-of .ensures ∙ ap placeOf e }
+    let after-place-of : tie.After-place-of = search in let after-check : tie.After-check = search in let e = after-check .check .ensures in
+    record { number-is = c .number-of .ensures ∙ ap numberOf e; place-is = after-place-of .place-of .ensures ∙ ap placeOf e }
 
 pub skw-flume-check-spec : {M : Type 1} → statement M
 skw-flume-check-spec = tie.close (tie.spec check-requires place-of-requires number-of-requires returns)

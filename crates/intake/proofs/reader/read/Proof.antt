@@ -1,6 +1,7 @@
 -- `intake::reader::read`: the outcome's definition, whatever is lent. Assumes nothing.
+use mathlib.Core.List.{[]}
+use Rattle.grid.specs.State.{lent}
 use borrow.Author.Needs.{needs}
-use Rattle.record.specs.Promise.{flagless}
 use Rattle.index.specs.Index.{index}
 use Rattle.index.specs.Held.{Held, held}
 use Rattle.intake.proofs.Readings.{refused-early, refused-late, room, read-all}
@@ -8,7 +9,7 @@ use Rattle.intake.proofs.reader.read.Statement.{statement}
 use Rattle.intake.proofs.reader.read.Tie as tie
 
 abbrev given : tie.Start → Held
-given d = held (flagless (d .args .parts .now) (d .args .masses .now) (d .args .fills .now) (d .args .carry .now)) (index (d .args .words .now) (d .args .count .now))
+given d = held (lent [] (d .args .parts .now) (d .args .masses .now) (d .args .fills .now) (d .args .carry .now)) (index (d .args .words .now) (d .args .count .now))
 
 opened-requires : tie.Need-opened-requires
 opened-requires c κs = search needs

@@ -5,7 +5,6 @@ use mathlib.Core.Path.{ap₂, _∙_}
 use Prim.Native.Nat.{ℕ}
 use Rattle.grid.specs.declared.Answer.the-variants.{Refused}
 use Rattle.profile.specs.Outcome.{columnsAnswer}
-use Rattle.tunnel.proofs.Shown.{shows}
 use Rattle.profile.proofs.testing.columns_tested.Statement.{statement}
 use Rattle.profile.proofs.testing.columns_tested.Tie as tie
 
@@ -25,7 +24,7 @@ returns : tie.Need-returns
 unfolding columnsAnswer
 returns c =
     let b = c .before .before .before in
-    let s = shows (c .before .before .look .ensures) in
+    let s = c .before .before .look .ensures .told in
     simp (← b .before .first-broken .ensures, lt-leb _ _ (b .if1 .taken))
     (ap₂ (λ (n p : ℕ). Refused n p) (c .before .depth-number .ensures ∙ s .number-is) (c .depth-place .ensures ∙ s .place-is))
 

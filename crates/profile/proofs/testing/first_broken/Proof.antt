@@ -10,7 +10,6 @@ use lib.Dec.{eqb}
 use denote.Ref.{now}
 use Rattle.whole.specs.Search.{first-is, first-all}
 use Rattle.profile.specs.Profile.{broken, survey}
-use Rattle.tunnel.proofs.Shown.{shows}
 use Rattle.profile.proofs.testing.first_broken.Statement.{statement}
 use Rattle.profile.proofs.testing.first_broken.Tie as tie
 
@@ -25,7 +24,7 @@ tested : (c : tie.After-refuses Inv-loop μ-loop) (t : Bool) → c .refuses .res
     → (let a = c .before .before .before .before .before .before .before .args in broken (survey (a .f) (now (a .flags)) (now (a .fills)) (now (a .points))) (c .before .before .before .before .loop .i) ≡ t)
 unfolding broken
 tested c t e =
-    sym (ap (λ (n : ℕ). eqb n 4 || eqb n 6) (c .before .depth-number .ensures ∙ shows (c .before .before .look .ensures) .number-is)) ∙ sym (c .refuses .ensures) ∙ e
+    sym (ap (λ (n : ℕ). eqb n 4 || eqb n 6) (c .before .depth-number .ensures ∙ c .before .before .look .ensures .told .number-is)) ∙ sym (c .refuses .ensures) ∙ e
 
 loop-holds : tie.Need-loop-holds Inv-loop μ-loop
 loop-holds c = (omega arith, λ j h. absurd (not-suc-le-zero h))

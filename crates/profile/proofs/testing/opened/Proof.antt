@@ -7,9 +7,7 @@ use mir.ValLaws.{toZ-ofZ}
 use denote.Ref.{now}
 use Rattle.tunnel.specs.Place.{placeOf, refusalNumber}
 use Rattle.tunnel.specs.Depth.{depthOf}
-use Rattle.tunnel.specs.Kinds.{readingNumber}
 use Rattle.profile.specs.Outcome.{openAnswer}
-use Rattle.tunnel.proofs.Shown.{shows}
 use Rattle.profile.proofs.testing.opened.Statement.{statement}
 use Rattle.profile.proofs.testing.opened.Tie as tie
 
@@ -17,8 +15,8 @@ use Rattle.profile.proofs.testing.opened.Tie as tie
 abbrev entry : tie.After-depth-number → tie.Start
 entry c = c .before .before .before .before .before .before
 
-depth-is : (c : tie.After-depth-number) → (let a = entry c .args in readingNumber (depthOf (a .f .sides) (now (a .flags)) (now (a .fills)) 0 0) ≡ c .depth-number .result)
-depth-is c = sym (c .depth-number .ensures ∙ shows (c .before .column-depth .ensures) .number-is)
+depth-is : (c : tie.After-depth-number) → (let a = entry c .args in depthOf (a .f .sides) (now (a .flags)) (now (a .fills)) 0 0 .number ≡ c .depth-number .result)
+depth-is c = sym (c .depth-number .ensures ∙ c .before .column-depth .ensures .told .number-is)
 
 column-depth-requires : tie.Need-column-depth-requires
 column-depth-requires c κs = search needs

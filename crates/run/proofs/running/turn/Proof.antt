@@ -6,22 +6,22 @@ use Rattle.run.proofs.running.turn.Statement.{statement}
 use Rattle.run.proofs.running.turn.Tie as tie
 
 stepped-requires : tie.Need-stepped-requires
-stepped-requires c κs = stepping-back _ _ _ _ _ _ (c .before .before .before .before .before .before .before .before .before .before .before .if1 .taken) (c .before .before .before .before .before .before .before .before .before .before .before .before .before .before .before .before .before .pre)
+stepped-requires c κs = let then1 : tie.Then1 = search in let start : tie.Start = search in stepping-back _ _ _ _ _ _ (then1 .if1 .taken) (start .pre)
 
 same-length : tie.Need-same-length
-same-length c = c .before .before .before .before .before .before .before .before .flags .given
+same-length c = let after-flags : tie.After-flags = search in after-flags .flags .given
 
 same-length-2 : tie.Need-same-length-2
-same-length-2 c = c .before .before .before .before .before .before .parts .given
+same-length-2 c = let after-parts : tie.After-parts = search in after-parts .parts .given
 
 same-length-3 : tie.Need-same-length-3
-same-length-3 c = c .before .before .before .before .before .mass .given
+same-length-3 c = let after-mass : tie.After-mass = search in after-mass .mass .given
 
 same-length-4 : tie.Need-same-length-4
-same-length-4 c = c .before .before .before .before .fill .given
+same-length-4 c = let after-fill : tie.After-fill = search in after-fill .fill .given
 
 same-length-5 : tie.Need-same-length-5
-same-length-5 c = c .before .before .carry .given
+same-length-5 c = let after-carry : tie.After-carry = search in after-carry .carry .given
 
 same-length-6 : tie.Need-same-length-6
 same-length-6 c = refl
@@ -39,13 +39,13 @@ same-length-10 : tie.Need-same-length-10
 same-length-10 c = refl
 
 same-length-11 : tie.Need-same-length-11
-same-length-11 c = c .before .marks .given
+same-length-11 c = let after-marks : tie.After-marks = search in after-marks .marks .given
 
 returns : tie.Need-returns
-returns c = crossed-back _ _ _ _ _ _ _ _ (c .before .before .before .before .before .before .before .before .before .before .before .before .before .before .before .before .before .before .before .before .before .if1 .taken) (c .before .before .before .before .before .before .before .before .before .stepped .ensures)
+returns c = let after-stepped : tie.After-stepped = search in let then1 : tie.Then1 = search in crossed-back _ _ _ _ _ _ _ _ (then1 .if1 .taken) (after-stepped .stepped .ensures)
 
 stepped-requires-2 : tie.Need-stepped-requires-2
-stepped-requires-2 c κs = stepping-forth _ _ _ _ _ _ (c .before .before .before .before .before .before .before .before .before .before .before .if1 .left) (c .before .before .before .before .before .before .before .before .before .before .before .before .before .before .before .before .before .pre)
+stepped-requires-2 c κs = let else1 : tie.Else1 = search in let start : tie.Start = search in stepping-forth _ _ _ _ _ _ (else1 .if1 .left) (start .pre)
 
 same-length-12 : tie.Need-same-length-12
 same-length-12 c = refl
@@ -63,25 +63,25 @@ same-length-16 : tie.Need-same-length-16
 same-length-16 c = refl
 
 same-length-17 : tie.Need-same-length-17
-same-length-17 c = c .before .before .before .before .before .before .before .before .flags2 .given
+same-length-17 c = let after-flags2 : tie.After-flags2 = search in after-flags2 .flags2 .given
 
 same-length-18 : tie.Need-same-length-18
-same-length-18 c = c .before .before .before .before .before .before .parts2 .given
+same-length-18 c = let after-parts2 : tie.After-parts2 = search in after-parts2 .parts2 .given
 
 same-length-19 : tie.Need-same-length-19
-same-length-19 c = c .before .before .before .before .before .mass2 .given
+same-length-19 c = let after-mass2 : tie.After-mass2 = search in after-mass2 .mass2 .given
 
 same-length-20 : tie.Need-same-length-20
-same-length-20 c = c .before .before .before .before .fill2 .given
+same-length-20 c = let after-fill2 : tie.After-fill2 = search in after-fill2 .fill2 .given
 
 same-length-21 : tie.Need-same-length-21
-same-length-21 c = c .before .before .carry2 .given
+same-length-21 c = let after-carry2 : tie.After-carry2 = search in after-carry2 .carry2 .given
 
 same-length-22 : tie.Need-same-length-22
 same-length-22 c = search needs
 
 returns-2 : tie.Need-returns-2
-returns-2 c = crossed-forth _ _ _ _ _ _ _ _ (c .before .before .before .before .before .before .before .before .before .before .before .before .before .before .before .before .before .before .before .before .before .if1 .left) (c .before .before .before .before .before .before .before .before .before .stepped2 .ensures)
+returns-2 c = let after-stepped2 : tie.After-stepped2 = search in let else1 : tie.Else1 = search in crossed-forth _ _ _ _ _ _ _ _ (else1 .if1 .left) (after-stepped2 .stepped2 .ensures)
 
 pub turn-spec : {M : Type 1} → statement M
 turn-spec =

@@ -19,27 +19,27 @@ copy-i64-requires : tie.Need-copy-i64-requires
 copy-i64-requires c κs = search needs
 
 same-length : tie.Need-same-length
-same-length c = c .before .before .before .before .before .before .before .before .before .before .before .before .before .before .flags2 .given
+same-length c = let after-flags2 : tie.After-flags2 = search in after-flags2 .flags2 .given
 
 same-length-2 : tie.Need-same-length-2
-same-length-2 c = c .before .before .before .before .before .before .before .before .before .before .parts2 .given
+same-length-2 c = let after-parts2 : tie.After-parts2 = search in after-parts2 .parts2 .given
 
 same-length-3 : tie.Need-same-length-3
-same-length-3 c = c .before .before .before .before .before .before .before .mass2 .given
+same-length-3 c = let after-mass2 : tie.After-mass2 = search in after-mass2 .mass2 .given
 
 same-length-4 : tie.Need-same-length-4
-same-length-4 c = c .before .before .before .before .fill2 .given
+same-length-4 c = let after-fill2 : tie.After-fill2 = search in after-fill2 .fill2 .given
 
 same-length-5 : tie.Need-same-length-5
 same-length-5 c = c .carry2 .given
 
 returns : tie.Need-returns
-returns c i = record {
-  flags = c .before .before .before .before .before .before .before .before .before .before .before .before .before .before .before .copy-u8 .ensures i;
-  parts = c .before .before .before .before .before .before .before .before .before .before .before .copy-i32 .ensures i;
-  masses = c .before .before .before .before .before .before .before .before .copy-i322 .ensures i;
-  fills = c .before .before .before .before .before .copy-u32 .ensures i;
-  carry = c .before .copy-i64 .ensures i;
+returns c i = let after-copy-i64 : tie.After-copy-i64 = search in let after-copy-u32 : tie.After-copy-u32 = search in let after-copy-i322 : tie.After-copy-i322 = search in let after-copy-i32 : tie.After-copy-i32 = search in let after-copy-u8 : tie.After-copy-u8 = search in record {
+  flags = after-copy-u8 .copy-u8 .ensures i;
+  parts = after-copy-i32 .copy-i32 .ensures i;
+  masses = after-copy-i322 .copy-i322 .ensures i;
+  fills = after-copy-u32 .copy-u32 .ensures i;
+  carry = after-copy-i64 .copy-i64 .ensures i;
 }
 
 pub copied-spec : {M : Type 1} → statement M

@@ -8,7 +8,7 @@ use mir.Syntax.{w64}
 use mir.Facts.{toZ-ofZ}
 use Rattle.lattice.specs.Lattice.{d3q19}
 use Rattle.grid.specs.declared.Answer.the-variants.{Done, Refused}
-use Rattle.grid.specs.State.{Lent, stateOf}
+use Rattle.grid.specs.State.{Lent, lent, stateOf}
 use Rattle.grid.specs.Good.{badRule}
 use Rattle.grid.proofs.Accepted.{skip}
 use Rattle.grid.proofs.Checks.{stop, one-carry}
@@ -16,32 +16,32 @@ use Rattle.step.proofs.stepping.judged.Statement.{statement}
 use Rattle.step.proofs.stepping.judged.Tie as tie
 
 abbrev second : tie.Start → Lent
-second w = record { flags = w .args .flags2 .now; parts = w .args .parts2 .now; masses = w .args .mass2 .now; fills = w .args .fill2 .now; carry = w .args .carry2 .now }
+second w = lent (w .args .flags2 .now) (w .args .parts2 .now) (w .args .mass2 .now) (w .args .fill2 .now) (w .args .carry2 .now)
 
 abbrev broken : tie.Start → ℕ
 broken w = badRule d3q19 (length (w .args .flags2 .now)) (stateOf 18 (second w))
 
 place : (d : tie.After-first-bad) → d .first-bad .result ≡ broken (d .before .before .before .before)
 place d =
-    let w = d .before .before .before .before in
-    d .first-bad .ensures ∙ one-carry _ (second w) _ (toZ-ofZ {w = w64} (sfits-of {w = w64} (d .before .first-bad-arg .given)))
+    let after-first-bad-arg : tie.After-first-bad-arg = search in let w : tie.Start = search in
+    d .first-bad .ensures ∙ one-carry _ (second w) _ (toZ-ofZ {w = w64} (sfits-of {w = w64} (after-first-bad-arg .first-bad-arg .given)))
 
 shared-slice-copy-out-first-bad : tie.Need-shared-slice-copy-out-first-bad
-shared-slice-copy-out-first-bad c = omega (arith, c .before .before .pre .carry)
+shared-slice-copy-out-first-bad c = let start : tie.Start = search in omega (arith, start .pre .carry)
 
 first-bad-requires : tie.Need-first-bad-requires
-first-bad-requires c κs = let p = c .before .before .before .pre in record { flags = p .flags; parts = p .parts; masses = p .masses; fills = p .fills; carry = refl }
+first-bad-requires c κs = let start : tie.Start = search in let p = start .pre in record { flags = p .flags; parts = p .parts; masses = p .masses; fills = p .fills; carry = refl }
 
 returns : tie.Need-returns
 returns c =
-    let w = c .before .before .before .before .before in
-    let e = place (c .before) in
+    let w : tie.Start = search in
+    let e = place (search) in
     sym (stop (suc (length (w .args .flags2 .now))) 8 (broken w) Done (omega (arith, c .if1 .taken)) ∙ ap (Refused 8) (sym e))
 
 returns-2 : tie.Need-returns-2
 returns-2 c =
-    let w = c .before .before .before .before .before in
-    let e = place (c .before) in
+    let w : tie.Start = search in
+    let e = place (search) in
     sym (skip (suc (length (w .args .flags2 .now))) 8 (broken w) Done (omega (arith, c .if1 .left)))
 
 pub judged-spec : {M : Type 1} → statement M

@@ -1,68 +1,68 @@
 -- `step::stepping::stepped`: the next state, or after a refusal the copy. Assumes nothing.
 use borrow.Author.Needs.{needs}
-use mathlib.Core.Path.{sym, ap, _∙_}
-use lib.ListN.{length, length-replicate}
-use Rattle.grid.specs.State.{Lent}
+use mathlib.Core.Path.{_∙_}
 use Rattle.step.proofs.Finishes.{refused-advanced, done-advanced}
 use Rattle.step.proofs.stepping.stepped.Statement.{statement}
 use Rattle.step.proofs.stepping.stepped.Tie as tie
 
 advanced-requires : tie.Need-advanced-requires
-advanced-requires c κs = c .before .before .before .before .before .before .before .before .before .before .before .pre
+advanced-requires c κs = let start : tie.Start = search in start .pre
 
 enum-known-a : tie.Need-enum-known-a
 enum-known-a c = search needs
 
 copied-requires : tie.Need-copied-requires
-copied-requires c κs = c .before .before .before .before .before .before .before .before .before .before .before .before .before .before .before .before .before .advanced .ensures .alike
+copied-requires c κs = let after-advanced : tie.After-advanced = search in after-advanced .advanced .ensures .alike
 
 clear-requires : tie.Need-clear-requires
 clear-requires c κs = search needs
 
 same-length : tie.Need-same-length
-same-length c = ap (λ (x : Lent). length (x .flags)) (c .before .before .before .before .before .before .before .before .before .before .before .copied .ensures) ∙ sym (c .before .before .before .before .before .before .before .before .before .before .before .before .before .before .before .before .before .before .before .before .before .before .before .before .before .before .before .before .before .before .before .before .before .before .before .before .before .before .before .before .before .pre .alike .flags)
+same-length c = let after-flags22 : tie.After-flags22 = search in let after-flags2 : tie.After-flags2 = search in after-flags22 .flags22 .given ∙ after-flags2 .flags2 .given
 
 same-length-2 : tie.Need-same-length-2
-same-length-2 c = ap (λ (x : Lent). length (x .parts)) (c .before .before .before .before .before .before .before .before .before .before .before .copied .ensures) ∙ sym (c .before .before .before .before .before .before .before .before .before .before .before .before .before .before .before .before .before .before .before .before .before .before .before .before .before .before .before .before .before .before .before .before .before .before .before .before .before .before .before .before .before .pre .alike .parts)
+same-length-2 c = let after-parts22 : tie.After-parts22 = search in let after-parts2 : tie.After-parts2 = search in after-parts22 .parts22 .given ∙ after-parts2 .parts2 .given
 
 same-length-3 : tie.Need-same-length-3
-same-length-3 c = ap (λ (x : Lent). length (x .masses)) (c .before .before .before .before .before .before .before .before .before .before .before .copied .ensures) ∙ sym (c .before .before .before .before .before .before .before .before .before .before .before .before .before .before .before .before .before .before .before .before .before .before .before .before .before .before .before .before .before .before .before .before .before .before .before .before .before .before .before .before .before .pre .alike .masses)
+same-length-3 c = let after-mass22 : tie.After-mass22 = search in let after-mass2 : tie.After-mass2 = search in after-mass22 .mass22 .given ∙ after-mass2 .mass2 .given
 
 same-length-4 : tie.Need-same-length-4
-same-length-4 c = ap (λ (x : Lent). length (x .fills)) (c .before .before .before .before .before .before .before .before .before .before .before .copied .ensures) ∙ sym (c .before .before .before .before .before .before .before .before .before .before .before .before .before .before .before .before .before .before .before .before .before .before .before .before .before .before .before .before .before .before .before .before .before .before .before .before .before .before .before .before .before .pre .alike .fills)
+same-length-4 c = let after-fill22 : tie.After-fill22 = search in let after-fill2 : tie.After-fill2 = search in after-fill22 .fill22 .given ∙ after-fill2 .fill2 .given
 
 same-length-5 : tie.Need-same-length-5
-same-length-5 c = ap (λ (x : Lent). length (x .carry)) (c .before .before .before .before .before .before .before .before .before .before .before .copied .ensures) ∙ sym (c .before .before .before .before .before .before .before .before .before .before .before .before .before .before .before .before .before .before .before .before .before .before .before .before .before .before .before .before .before .before .before .before .before .before .before .before .before .before .before .before .before .pre .alike .carry)
+same-length-5 c = let after-carry22 : tie.After-carry22 = search in let after-carry2 : tie.After-carry2 = search in after-carry22 .carry22 .given ∙ after-carry2 .carry2 .given
 
 same-length-6 : tie.Need-same-length-6
-same-length-6 c = ap length (c .before .before .clear .ensures) ∙ length-replicate _ 0 ∙ c .before .before .before .before .before .before .before .before .before .before .before .before .before .before .before .before .before .before .before .before .before .before .before .before .before .before .before .before .before .advanced .ensures .marks-kept ∙ sym (c .before .before .before .before .before .before .before .before .before .before .before .before .before .before .before .before .before .before .before .before .before .before .before .before .before .before .before .before .before .before .before .before .before .before .before .before .before .before .before .before .before .pre .marks-room)
+same-length-6 c = let after-marks2 : tie.After-marks2 = search in let after-marks : tie.After-marks = search in after-marks2 .marks2 .given ∙ after-marks .marks .given
 
 returns : tie.Need-returns
-returns c = refused-advanced (c .before .before .before .before .before .before .before .before .before .before .before .before .before .before .before .before .before .before .a .given .1) (c .before .before .before .before .before .before .before .before .before .before .before .before .before .before .before .before .before .before .before .before .before .before .before .before .before .before .before .before .before .advanced .ensures) (c .before .before .before .before .before .before .before .before .before .before .before .copied .ensures) (c .before .before .clear .ensures)
+returns c =
+    let after-clear : tie.After-clear = search in let after-copied : tie.After-copied = search in let after-a : tie.After-a = search in let after-advanced : tie.After-advanced = search in
+    refused-advanced (after-a .a .given .1) (after-advanced .advanced .ensures) (after-copied .copied .ensures) (after-clear .clear .ensures)
 
 enum-told : tie.Need-enum-told
 enum-told c = search needs
 
 same-length-7 : tie.Need-same-length-7
-same-length-7 c = c .before .before .before .before .before .before .before .before .before .before .before .advanced .ensures .alike .flags ∙ sym (c .before .before .before .before .before .before .before .before .before .before .before .before .before .before .before .before .before .before .before .before .before .before .before .pre .alike .flags)
+same-length-7 c = let after-flags2 : tie.After-flags2 = search in after-flags2 .flags2 .given
 
 same-length-8 : tie.Need-same-length-8
-same-length-8 c = c .before .before .before .before .before .before .before .before .before .before .before .advanced .ensures .alike .parts ∙ sym (c .before .before .before .before .before .before .before .before .before .before .before .before .before .before .before .before .before .before .before .before .before .before .before .pre .alike .parts)
+same-length-8 c = let after-parts2 : tie.After-parts2 = search in after-parts2 .parts2 .given
 
 same-length-9 : tie.Need-same-length-9
-same-length-9 c = c .before .before .before .before .before .before .before .before .before .before .before .advanced .ensures .alike .masses ∙ sym (c .before .before .before .before .before .before .before .before .before .before .before .before .before .before .before .before .before .before .before .before .before .before .before .pre .alike .masses)
+same-length-9 c = let after-mass2 : tie.After-mass2 = search in after-mass2 .mass2 .given
 
 same-length-10 : tie.Need-same-length-10
-same-length-10 c = c .before .before .before .before .before .before .before .before .before .before .before .advanced .ensures .alike .fills ∙ sym (c .before .before .before .before .before .before .before .before .before .before .before .before .before .before .before .before .before .before .before .before .before .before .before .pre .alike .fills)
+same-length-10 c = let after-fill2 : tie.After-fill2 = search in after-fill2 .fill2 .given
 
 same-length-11 : tie.Need-same-length-11
-same-length-11 c = c .before .before .before .before .before .before .before .before .before .before .before .advanced .ensures .alike .carry ∙ sym (c .before .before .before .before .before .before .before .before .before .before .before .before .before .before .before .before .before .before .before .before .before .before .before .pre .alike .carry)
+same-length-11 c = let after-carry2 : tie.After-carry2 = search in after-carry2 .carry2 .given
 
 same-length-12 : tie.Need-same-length-12
-same-length-12 c = c .before .before .before .before .before .before .before .before .before .before .before .advanced .ensures .marks-kept ∙ sym (c .before .before .before .before .before .before .before .before .before .before .before .before .before .before .before .before .before .before .before .before .before .before .before .pre .marks-room)
+same-length-12 c = let after-marks : tie.After-marks = search in after-marks .marks .given
 
 returns-2 : tie.Need-returns-2
-returns-2 c = done-advanced (c .enum-told .given .1) (c .before .before .before .before .before .before .before .before .before .before .before .advanced .ensures)
+returns-2 c = let after-advanced : tie.After-advanced = search in done-advanced (c .enum-told .given .1) (after-advanced .advanced .ensures)
 
 pub stepped-spec : {M : Type 1} → statement M
 stepped-spec =

@@ -17,13 +17,13 @@ use Rattle.turn.proofs.birth.flow_at.Tie as tie
 
 streamed-requires : tie.Need-streamed-requires
 streamed-requires c κs =
-    let s = c .before .before in
+    let s : tie.Start = search in
     (s .pre .0 .bodies, s .pre .0 .fills-good, s .pre .0 .around (s .args .b) (s .pre .1) (wet-low _ (s .pre .2)), s .pre .2)
 
 bounded : (c : tie.After-streamed) → Bounded (c .streamed .result) 1073741824 33554432
 bounded c =
-    let s = c .before .before .before in
-    bounded-now (d3q19 .weight) (s .args .flags .now) (partOf (s .args .parts .now)) (s .args .fill .now) (s .args .off .now) (s .args .low) (s .args .g) (s .args .b) (c .streamed .result) (c .streamed .ensures) light19 (bodiesOf (s .pre .0 .bodies))
+    let s : tie.Start = search in
+    bounded-now (d3q19 .weight) (s .args .flags .now) (partOf (s .args .parts .now)) (s .args .fill .now) (s .args .off .now) (s .args .low) (s .args .g) (s .args .b) (c .streamed .result) (c .streamed .ensures (s .args .g)) light19 (bodiesOf (s .pre .0 .bodies))
     (s .pre .0 .around (s .args .b) (s .pre .1) (wet-low _ (s .pre .2))) (s .pre .2)
 
 flow-of-requires : tie.Need-flow-of-requires
@@ -38,20 +38,20 @@ looser {z} {y} e h = record { abs = omega (arith, ap natAbs e, h .abs) }
 
 pulled-requires : tie.Need-pulled-requires
 pulled-requires c κs =
-    let l = c .before .streamed .result in
+    let after-streamed : tie.After-streamed = search in let start : tie.Start = search in let l = after-streamed .streamed .result in
     let b = bounded (c .before) in
     let e = c .flow-of .ensures in
-    (looser (e .0) (density-in l b), loose (ap (λ (v : V3). v .x) (e .1)) (x-in l b), loose (ap (λ (v : V3). v .y) (e .1)) (y-in l b), loose (ap (λ (v : V3). v .z) (e .1)) (z-in l b), c .before .before .before .before .pre .0 .gravity)
+    (looser (e .0) (density-in l b), loose (ap (λ (v : V3). v .x) (e .1)) (x-in l b), loose (ap (λ (v : V3). v .y) (e .1)) (y-in l b), loose (ap (λ (v : V3). v .z) (e .1)) (z-in l b), start .pre .0 .gravity)
 
 returns : tie.Need-returns
 unfolding newMomentum sight momentum
 returns c =
-    let s = c .before .before .before .before .before in
-    let l = c .before .before .streamed .result in
-    let e = c .before .flow-of .ensures in
+    let after-flow-of : tie.After-flow-of = search in let after-streamed : tie.After-streamed = search in let s : tie.Start = search in
+    let l = after-streamed .streamed .result in
+    let e = after-flow-of .flow-of .ensures in
     let p = c .pulled .ensures in
-    let ρ = e .0 ∙ density-now (d3q19 .weight) (s .args .flags .now) (partOf (s .args .parts .now)) (s .args .fill .now) (s .args .off .now) (s .args .low) (s .args .g) (s .args .b) l (c .before .before .streamed .ensures) in
-    let j = e .1 ∙ momentum-now (d3q19 .weight) (s .args .flags .now) (partOf (s .args .parts .now)) (s .args .fill .now) (s .args .off .now) (s .args .low) (s .args .g) (s .args .b) l (c .before .before .streamed .ensures) in
+    let ρ = e .0 ∙ density-now (d3q19 .weight) (s .args .flags .now) (partOf (s .args .parts .now)) (s .args .fill .now) (s .args .off .now) (s .args .low) (s .args .g) (s .args .b) l (after-streamed .streamed .ensures (s .args .g)) in
+    let j = e .1 ∙ momentum-now (d3q19 .weight) (s .args .flags .now) (partOf (s .args .parts .now)) (s .args .fill .now) (s .args .off .now) (s .args .low) (s .args .g) (s .args .b) l (after-streamed .streamed .ensures (s .args .g)) in
     record {
       rho = p .rho ∙ ρ;
       x = p .x ∙ ap₂ (λ (a r : ℤ). a +ℤ pull r (s .args .g .gx)) (ap (λ (v : V3). v .x) j) ρ;

@@ -23,14 +23,16 @@ plus-requires-5 c κs = search needs
 
 returns : tie.Need-returns
 returns c =
+    let after-struct-told9 : tie.After-struct-told9 = search in let after-struct-told8 : tie.After-struct-told8 = search in let after-plus4 : tie.After-plus4 = search in
+    let after-plus3 : tie.After-plus3 = search in let after-plus2 : tie.After-plus2 = search in let after-plus : tie.After-plus = search in let start : tie.Start = search in
     let z = c .plus5 in
-    let y = c .before .before .before .plus4 in
-    let x = c .before .before .before .before .before .before .plus3 in
-    let r = c .before .before .before .before .before .before .before .before .before .plus2 in
-    let n = c .before .before .before .before .before .before .before .before .before .before .before .before .plus in
-    let a = c .before .before .before .before .before .before .before .before .before .before .before .before .before .before .args in
-    let told = c .before .before .struct-told8 .given in
-    let flow = c .before .struct-told9 .given in
+    let y = after-plus4 .plus4 in
+    let x = after-plus3 .plus3 in
+    let r = after-plus2 .plus2 in
+    let n = after-plus .plus in
+    let a = start .args in
+    let told = after-struct-told8 .struct-told8 .given in
+    let flow = after-struct-told9 .struct-told9 .given in
     record {
       n = held64 (n .result) (n .ok) ∙ n .ensures ∙ ap (λ (k : ℤ). k +ℤ pos 1) (held64 (a .t .n) (told .0 .1));
       rho = held64 (r .result) (r .ok) ∙ r .ensures ∙ ap₂ (λ (k l : ℤ). k +ℤ l) (held64 (a .t .rho) (told .1 .0 .1)) (held32 (a .v .rho) (flow .0 .1));

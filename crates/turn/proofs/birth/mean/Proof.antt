@@ -20,12 +20,13 @@ cut-mean-requires-4 c κs = search needs
 
 returns : tie.Need-returns
 returns c =
-    let z = c .cut-mean4 in
-    let y = c .before .before .before .cut-mean3 in
-    let x = c .before .before .before .before .before .before .cut-mean2 in
-    let r = c .before .before .before .before .before .before .before .before .before .cut-mean in
-    let t = c .before .before .before .before .before .before .before .before .before .before .before .before .args .t in
-    let told = c .before .struct-told8 .given in
+    let after-struct-told8 : tie.After-struct-told8 = search in let after-cut-mean3 : tie.After-cut-mean3 = search in let after-cut-mean2 : tie.After-cut-mean2 = search in
+    let after-cut-mean : tie.After-cut-mean = search in let start : tie.Start = search in let z = c .cut-mean4 in
+    let y = after-cut-mean3 .cut-mean3 in
+    let x = after-cut-mean2 .cut-mean2 in
+    let r = after-cut-mean .cut-mean in
+    let t = start .args .t in
+    let told = after-struct-told8 .struct-told8 .given in
     let n = held64 (t .n) (told .0 .1) in
     record {
       rho = held32 (r .result) (r .ok) ∙ r .ensures ∙ ap₂ quotZ (held64 (t .rho) (told .1 .0 .1)) n;

@@ -10,12 +10,12 @@ wide-requires c κs = search needs
 
 add-result : tie.Need-add-result
 add-result c =
-    let b = same (c .wide .ensures) (any w32 (c .before .args .b) (c .before .fits .b .sfits)) in
+    let start : tie.Start = search in let b = same (c .wide .ensures) (any w32 (start .args .b) (start .fits .b .sfits)) in
     does-fit (search (machine, w64-in) depth 20) tt
 
 returns : tie.Need-returns
 returns c =
-    let b = same (c .wide .ensures) (any w32 (c .before .args .b) (c .before .fits .b .sfits)) in
+    let start : tie.Start = search in let b = same (c .wide .ensures) (any w32 (start .args .b) (start .fits .b .sfits)) in
     reads-as (search (machine, w64-in) depth 20) tt
 
 pub plus-spec : {M : Type 1} → statement M

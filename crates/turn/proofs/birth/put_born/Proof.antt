@@ -18,7 +18,7 @@ mean-flow-requires c κs = search needs
 
 equilibrium-requires : tie.Need-equilibrium-requires
 equilibrium-requires c κs =
-    let s = c .before .before .before in
+    let s : tie.Start = search in
     born-tame (d3q19 .weight) (s .args .flags .now) (partOf (s .args .parts .now)) (s .args .fill .now) (s .args .off .now) (s .args .low) (s .args .g) (s .args .c) (testedOf (s .pre .0)) (s .pre .1) (c .mean-flow .ensures) (s .pre .2)
 
 mul-paste : tie.Need-mul-paste
@@ -35,11 +35,12 @@ same-length c = search needs
 
 returns : tie.Need-returns
 returns c =
-    let s = c .before .before .before .before .before .before .before .before in
-    let b = c .before .before .before .before .before .mean-flow .ensures in
-    let v = c .before .before .before .before .equilibrium in
+    let after-paste : tie.After-paste = search in let after-equilibrium : tie.After-equilibrium = search in let after-mean-flow : tie.After-mean-flow = search in
+    let s : tie.Start = search in
+    let b = after-mean-flow .mean-flow .ensures in
+    let v = after-equilibrium .equilibrium in
     record {
-      parts = c .before .before .paste .ensures ∙ ap (λ (l : List ℤ). pasted (s .args .parts2 .now) (19 * s .args .c) l) (born-list (d3q19 .weight) (s .args .flags .now) (partOf (s .args .parts .now)) (s .args .fill .now) (s .args .off .now) (s .args .low) (s .args .g) (s .args .c) b (v .result) (v .ensures .0));
+      parts = after-paste .paste .ensures ∙ ap (λ (l : List ℤ). pasted (s .args .parts2 .now) (19 * s .args .c) l) (born-list (d3q19 .weight) (s .args .flags .now) (partOf (s .args .parts .now)) (s .args .fill .now) (s .args .off .now) (s .args .low) (s .args .g) (s .args .c) b (v .result) (v .ensures .0));
       fair-is = c .fair-parts .ensures ∙ born-fair (d3q19 .weight) (s .args .flags .now) (partOf (s .args .parts .now)) (s .args .fill .now) (s .args .off .now) (s .args .low) (s .args .g) (s .args .c) b (v .result) (v .ensures .0);
     }
 

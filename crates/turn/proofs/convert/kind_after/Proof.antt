@@ -46,28 +46,28 @@ kept-flag (suc (suc (suc (suc f)))) m filled emptied h j k e g = absurd (omega a
 
 returns : tie.Need-returns
 returns c =
-    let a = c .before in
+    let a : tie.Start = search in
     filled-flag (a .args .f) (a .args .m) (a .args .filled) (a .args .emptied) (a .pre .1) (c .if1 .taken)
 
 returns-2 : tie.Need-returns-2
 returns-2 c =
-    let a = c .before .before in
+    let a : tie.Start = search in
     emptied-flag (a .args .f) (a .args .m) (a .args .filled) (a .args .emptied) (a .pre .1) (c .if2 .taken)
 
 returns-3 : tie.Need-returns-3
 returns-3 c =
-    let a = c .before .before .before in
-    born-flag (a .args .f) (a .args .m) (a .args .filled) (a .args .emptied) (c .before .before .if1 .left) (c .before .if2 .left) (c .if3 .taken)
+    let else2 : tie.Else2 = search in let else1 : tie.Else1 = search in let a : tie.Start = search in
+    born-flag (a .args .f) (a .args .m) (a .args .filled) (a .args .emptied) (else1 .if1 .left) (else2 .if2 .left) (c .if3 .taken)
 
 returns-4 : tie.Need-returns-4
 returns-4 c =
-    let a = c .before .before .before .before in
-    bared-flag (a .args .f) (a .args .m) (a .args .filled) (a .args .emptied) (c .before .before .before .if1 .left) (c .before .before .if2 .left) (c .if4 .taken)
+    let else2 : tie.Else2 = search in let else1 : tie.Else1 = search in let a : tie.Start = search in
+    bared-flag (a .args .f) (a .args .m) (a .args .filled) (a .args .emptied) (else1 .if1 .left) (else2 .if2 .left) (c .if4 .taken)
 
 returns-5 : tie.Need-returns-5
 returns-5 c =
-    let a = c .before .before .before .before in
-    kept-flag (a .args .f) (a .args .m) (a .args .filled) (a .args .emptied) (a .pre .0) (c .before .before .before .if1 .left) (c .before .before .if2 .left) (c .before .if3 .left) (c .if4 .left)
+    let else3 : tie.Else3 = search in let else2 : tie.Else2 = search in let else1 : tie.Else1 = search in let a : tie.Start = search in
+    kept-flag (a .args .f) (a .args .m) (a .args .filled) (a .args .emptied) (a .pre .0) (else1 .if1 .left) (else2 .if2 .left) (else3 .if3 .left) (c .if4 .left)
 
 pub kind-after-spec : {M : Type 1} → statement M
 kind-after-spec = tie.close (tie.spec returns returns-2 returns-3 returns-4 returns-5)

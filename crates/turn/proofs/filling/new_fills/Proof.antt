@@ -41,28 +41,29 @@ mul-wide c = search needs
 
 shared-slice-copy-out-wide : tie.Need-shared-slice-copy-out-wide Inv-loop μ-loop
 shared-slice-copy-out-wide c =
-    let s = c .before .before .before .before .before .before .before .before .before .before in
-    omega (arith, s .pre .0 .masses-count, c .before .before .loop-test .taken)
+    let in-loop : tie.In-loop Inv-loop μ-loop = search in let s : tie.Start Inv-loop μ-loop = search in
+    omega (arith, s .pre .0 .masses-count, in-loop .loop-test .taken)
 
 wide-requires : tie.Need-wide-requires Inv-loop μ-loop
 wide-requires c κs = search needs
 
 interface-fill-requires : tie.Need-interface-fill-requires Inv-loop μ-loop
 interface-fill-requires c κs =
-    let s = c .before .before .before .before .before .before .before .before .before .before .before .before in
-    let i = c .before .before .before .before .before .loop .c in
-    let h : i < length (s .args .flags .now) = c .before .before .before .before .loop-test .taken in
-    (omega (arith, s .pre .0 .parts-count), s .pre .0 .weighty i h (getD-there (s .args .flags .now) i 3 0 h ∙ c .before .before .if1 .taken))
+    let then1 : tie.Then1 Inv-loop μ-loop = search in let in-loop : tie.In-loop Inv-loop μ-loop = search in let at-loop : tie.At-loop Inv-loop μ-loop = search in
+    let s : tie.Start Inv-loop μ-loop = search in
+    let i = at-loop .loop .c in
+    let h : i < length (s .args .flags .now) = in-loop .loop-test .taken in
+    (omega (arith, s .pre .0 .parts-count), s .pre .0 .weighty i h (getD-there (s .args .flags .now) i 3 0 h ∙ then1 .if1 .taken))
 
 -- as many fills as flags, before and after
 long : (c : tie.At-loop Inv-loop μ-loop) → let a = c .before .before .before .before .before .before .before .args in length (c .loop .fill) ≡ length (a .flags .now)
-long c = c .loop .inv .0 .size ∙ ap length (c .before .before .before .plain-fills .ensures) ∙ length-tab _ _
+long c = let after-plain-fills : tie.After-plain-fills Inv-loop μ-loop = search in c .loop .inv .0 .size ∙ ap length (after-plain-fills .plain-fills .ensures) ∙ length-tab _ _
 
 mul-fill : tie.Need-mul-fill Inv-loop μ-loop
 mul-fill c = let h = long (c .before .before .before .before .before .before) in search needs
 
 slice-write-fill : tie.Need-slice-write-fill Inv-loop μ-loop
-slice-write-fill c = omega (arith, long (c .before .before .before .before .before .before), c .before .before .before .before .before .loop-test .taken)
+slice-write-fill c = let in-loop : tie.In-loop Inv-loop μ-loop = search in omega (arith, long (search), in-loop .loop-test .taken)
 
 fair-mass-requires : tie.Need-fair-mass-requires Inv-loop μ-loop
 fair-mass-requires c κs = search needs
@@ -74,23 +75,24 @@ next-of-requires : tie.Need-next-of-requires Inv-loop μ-loop
 next-of-requires c κs = search needs
 
 loop-less : tie.Need-loop-less Inv-loop μ-loop
-loop-less c = omega (arith, c .next-of .ensures .least, c .next-of .ensures .most, c .before .before .before .loop-test .taken)
+loop-less c = let in-loop : tie.In-loop Inv-loop μ-loop = search in omega (arith, c .next-of .ensures .least, c .next-of .ensures .most, in-loop .loop-test .taken)
 
 -- the mass of the cell, as it was read
 mass-of : (c : tie.After-wide Inv-loop μ-loop)
     → let a = c .before .before .before .before .before .before .before .before .before .before .before .before .args in
     toZ w64 (ofZ w64 (c .wide .result)) ≡ getD (a .mass .now) (c .before .before .before .before .before .loop .c) (pos 0)
-mass-of c = held64 (c .wide .result) (c .wide .ok) ∙ c .wide .ensures ∙ held32 _ (c .before .wide-arg .given)
+mass-of c = let after-wide-arg : tie.After-wide-arg Inv-loop μ-loop = search in held64 (c .wide .result) (c .wide .ok) ∙ c .wide .ensures ∙ held32 _ (after-wide-arg .wide-arg .given)
 
 loop-again : tie.Need-loop-again Inv-loop μ-loop
 loop-again c =
-    let b = c .before in
-    let a = b .before .before .before .before .before .before .before .before .before .before .args in
-    let l = b .before .before .before .loop in
-    let h : l .c < length (a .flags .now) = b .before .before .loop-test .taken in
-    let is = b .before .before .before .before .before .before .plain-fills .ensures in
+    let in-loop : tie.In-loop Inv-loop μ-loop = search in let at-loop : tie.At-loop Inv-loop μ-loop = search in
+    let after-plain-fills : tie.After-plain-fills Inv-loop μ-loop = search in let start : tie.Start Inv-loop μ-loop = search in let b : tie.Joined1 Inv-loop μ-loop = search in
+    let a = start .args in
+    let l = at-loop .loop in
+    let h : l .c < length (a .flags .now) = in-loop .loop-test .taken in
+    let is = after-plain-fills .plain-fills .ensures in
     let n = c .next-of .ensures in
-    let P : List ℕ → Bool → ℕ → Type 0 = Passed (a .flags .now) (partOf (a .parts .now)) (a .mass .now) (b .before .before .before .before .before .before .plain-fills .last .1 .0) in
+    let P : List ℕ → Bool → ℕ → Type 0 = Passed (a .flags .now) (partOf (a .parts .now)) (a .mass .now) (after-plain-fills .plain-fills .last .1 .0) in
     passed-gap (a .flags .now) (partOf (a .parts .now)) (a .mass .now) _ is (b .if1 .fill) (b .if1 .fair) (l .c + 1) (c .next-of .result) (n .least) (n .most) (n .before)
     (⊎-elim
     (λ w.
@@ -111,9 +113,9 @@ same-length c = let s = c .before .before .before .before .before .before .befor
 
 returns : tie.Need-returns Inv-loop μ-loop
 returns c =
-    let s = c .before .before .before .before .before .before .before .before in
-    let l = c .before .loop in
-    refilled (s .args .flags .now) (partOf (s .args .parts .now)) (s .args .mass .now) _ (c .before .before .before .before .plain-fills .ensures) (l .fill) (l .fair) (l .c) (c .loop-test .left) (l .inv)
+    let at-loop : tie.At-loop Inv-loop μ-loop = search in let after-plain-fills : tie.After-plain-fills Inv-loop μ-loop = search in let s : tie.Start Inv-loop μ-loop = search in
+    let l = at-loop .loop in
+    refilled (s .args .flags .now) (partOf (s .args .parts .now)) (s .args .mass .now) _ (after-plain-fills .plain-fills .ensures) (l .fill) (l .fair) (l .c) (c .loop-test .left) (l .inv)
 
 pub new-fills-spec : {M : Type 1} → statement M
 new-fills-spec =

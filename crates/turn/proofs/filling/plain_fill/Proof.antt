@@ -4,10 +4,10 @@ use Rattle.turn.proofs.filling.plain_fill.Statement.{statement}
 use Rattle.turn.proofs.filling.plain_fill.Tie as tie
 
 returns : tie.Need-returns
-returns c = plain-fluid (c .before .args .f) (c .if1 .taken)
+returns c = let start : tie.Start = search in plain-fluid (start .args .f) (c .if1 .taken)
 
 returns-2 : tie.Need-returns-2
-returns-2 c = plain-dry (c .before .args .f) (c .if1 .left)
+returns-2 c = let start : tie.Start = search in plain-dry (start .args .f) (c .if1 .left)
 
 pub plain-fill-spec : {M : Type 1} → statement M
 plain-fill-spec =

@@ -16,7 +16,7 @@ abbrev μ-loop : tie.MeasureT-loop
 μ-loop flags fill₀ c₀ fill c = length flags - c
 
 loop-holds : tie.Need-loop-holds Inv-loop μ-loop
-loop-holds c = let a = c .before .before .args in (omega arith, refl, upto-zero 0 (plainAt (a .flags .now)) (a .fill .now))
+loop-holds c = let start : tie.Start Inv-loop μ-loop = search in let a = start .args in (omega arith, refl, upto-zero 0 (plainAt (a .flags .now)) (a .fill .now))
 
 shared-slice-read-plain-fill : tie.Need-shared-slice-read-plain-fill Inv-loop μ-loop
 shared-slice-read-plain-fill c = search needs
@@ -39,9 +39,9 @@ loop-less c = search needs
 loop-again : tie.Need-loop-again Inv-loop μ-loop
 unfolding plainAt
 loop-again c =
-    let s = c .before .before .before .before .before .before in
-    let l = c .before .before .before .loop in
-    let h : l .c < length (s .args .flags .now) = c .before .before .loop-test .taken in
+    let in-loop : tie.In-loop Inv-loop μ-loop = search in let at-loop : tie.At-loop Inv-loop μ-loop = search in let s : tie.Start Inv-loop μ-loop = search in
+    let l = at-loop .loop in
+    let h : l .c < length (s .args .flags .now) = in-loop .loop-test .taken in
     (omega arith, simp length-set (l .inv .1), upto-more 0 (plainAt (s .args .flags .now)) (l .fill) (l .c) (c .plain-fill .result) (omega (arith, s .pre)) (l .inv .2) (c .plain-fill .ensures))
 
 same-length : tie.Need-same-length Inv-loop μ-loop
@@ -49,8 +49,8 @@ same-length c = search needs
 
 returns : tie.Need-returns Inv-loop μ-loop
 returns c =
-    let s = c .before .before .before .before in
-    let l = c .before .loop in
+    let at-loop : tie.At-loop Inv-loop μ-loop = search in let s : tie.Start Inv-loop μ-loop = search in
+    let l = at-loop .loop in
     let e : l .c ≡ length (s .args .flags .now) = omega arith in
     upto-all 0 (plainAt (s .args .flags .now)) (l .fill) (length (s .args .flags .now)) (l .inv .1 ∙ s .pre) (subst (λ (n : ℕ). Upto 0 (plainAt (s .args .flags .now)) (l .fill) n) e (l .inv .2))
 

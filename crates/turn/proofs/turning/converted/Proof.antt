@@ -5,7 +5,7 @@ use mathlib.Core.List.{List, [], _∷_}
 use Prim.Native.Nat.{ℕ, _*_, _/_, _%_, _≤_, _<_}
 use native.Mathlib.Omega.{arith}
 use lib.IntN.{ℤ, pos, _+ℤ_}
-use lib.ListN.{length, getD, set, length-set, length-replicate}
+use lib.ListN.{length, getD, set, length-set}
 use borrow.Author.Needs.{needs}
 use mir.Syntax.{w64}
 use mir.Val.{toZ, ofZ}
@@ -17,10 +17,10 @@ use Rattle.whole.specs.Machine.{Within}
 use Rattle.whole.specs.Tab.{length-tab}
 use Rattle.lattice.specs.Cell.{carryGood}
 use Rattle.grid.specs.Grid.{cellsOf}
-use Rattle.grid.specs.State.{Lent, Scene, stateOf}
+use Rattle.grid.specs.State.{Lent, lent, stateOf, Scene}
 use Rattle.grid.specs.Step.{newFlag, newPart, newMass, newCarry}
 use Rattle.grid.specs.Outcome.{sceneOf}
-use Rattle.grid.specs.Between.{movedPart, movedMass, firstMark, gatheredMass}
+use Rattle.grid.specs.Between.{movedPart, gatheredMass}
 use Rattle.grid.specs.Halfway.{Moved, Turning, Turned}
 use Rattle.grid.specs.Passes.{lowOf, offsetOf}
 use Rattle.excess.specs.Gifts.{strayAt}
@@ -30,7 +30,7 @@ use Rattle.turn.proofs.turning.converted.Statement.{statement}
 use Rattle.turn.proofs.turning.converted.Tie as tie
 
 abbrev set-of : tie.Start → Lent
-set-of t = record { flags = t .args .flags .now; parts = t .args .parts .now; masses = t .args .mass .now; fills = t .args .fill .now; carry = t .args .carry .now }
+set-of t = lent (t .args .flags .now) (t .args .parts .now) (t .args .mass .now) (t .args .fill .now) (t .args .carry .now)
 
 -- a number within 10^12 is kept by 64 bits
 kept : (z : ℤ) → Within z 1000000000000 → toZ w64 (ofZ w64 z) ≡ z
@@ -47,7 +47,7 @@ parts-length t = ap length (t .pre .0 .moved .parts-are) ∙ length-tab (19 * ce
 
 settle-marks-requires : tie.Need-settle-marks-requires
 settle-marks-requires c κs =
-    let t = c .before .before .before .before .before in
+    let t : tie.Start = search in
     let a = set-of t in
     let r = t .pre .0 .ready in
     let m = t .pre .0 .moved in
@@ -55,150 +55,111 @@ settle-marks-requires c κs =
 
 new-flags-requires : tie.Need-new-flags-requires
 new-flags-requires c κs =
-    let t = c .before .before .before .before .before .before .before .before .before .before in
+    let after-settle-marks : tie.After-settle-marks = search in let t : tie.Start = search in
     let a = set-of t in
     let r = t .pre .0 .ready in
     let m = t .pre .0 .moved in
-    let ek = marks-settled (t .args .s) (t .args .g) a r (m .steady) _ _ (m .marks-are) (c .before .before .before .before .settle-marks .ensures) in
+    let ek = marks-settled (t .args .s) (t .args .g) a r (m .steady) _ _ (m .marks-are) (after-settle-marks .settle-marks .ensures) in
     (asks-marked (t .args .s) (t .args .g) a r (m .steady) _ ek, t .pre .1)
 
 newborn-requires : tie.Need-newborn-requires
 newborn-requires c κs =
-    let t = c .before .before .before .before .before .before .before .before .before .before .before .before .before .before .before in
+    let after-new-flags : tie.After-new-flags = search in let after-settle-marks : tie.After-settle-marks = search in let t : tie.Start = search in
     let a = set-of t in
     let r = t .pre .0 .ready in
     let m = t .pre .0 .moved in
-    let ek = marks-settled (t .args .s) (t .args .g) a r (m .steady) _ _ (m .marks-are) (c .before .before .before .before .before .before .before .before .before .settle-marks .ensures) in
-    let ef = flags-turned (t .args .s) (t .args .g) a r (m .steady) _ _ ek (c .before .before .before .before .new-flags .ensures) in
+    let ek = marks-settled (t .args .s) (t .args .g) a r (m .steady) _ _ (m .marks-are) (after-settle-marks .settle-marks .ensures) in
+    let ef = flags-turned (t .args .s) (t .args .g) a r (m .steady) _ _ ek (after-new-flags .new-flags .ensures) in
     (r .sides, asks-fertile (t .args .s) (t .args .g) a r (m .steady) _ ef, parts-length t ∙ ap (λ (n : ℕ). 19 * n) (sym (r .sized .flags)))
 
 shared-slice-copy-out-new-carry : tie.Need-shared-slice-copy-out-new-carry
-shared-slice-copy-out-new-carry c = let t = c .before .before .before .before .before .before .before .before .before .before .before .before .before .before .before .before .before .before .before .before .before in omega (arith, t .pre .0 .ready .sized .carry)
+shared-slice-copy-out-new-carry c = let t : tie.Start = search in omega (arith, t .pre .0 .ready .sized .carry)
 
 new-carry-requires : tie.Need-new-carry-requires
 new-carry-requires c κs =
-    let t = c .before .before .before .before .before .before .before .before .before .before .before .before .before .before .before .before .before .before .before .before .before .before in
+    let after-newborn : tie.After-newborn = search in let after-new-flags : tie.After-new-flags = search in let after-settle-marks : tie.After-settle-marks = search in
+    let t : tie.Start = search in
     let a = set-of t in
     let r = t .pre .0 .ready in
     let m = t .pre .0 .moved in
-    let ek = marks-settled (t .args .s) (t .args .g) a r (m .steady) _ _ (m .marks-are) (c .before .before .before .before .before .before .before .before .before .before .before .before .before .before .before .before .settle-marks .ensures) in
-    let ef = flags-turned (t .args .s) (t .args .g) a r (m .steady) _ _ ek (c .before .before .before .before .before .before .before .before .before .before .before .new-flags .ensures) in
-    let ep = parts-born (t .args .s) (t .args .g) a r (m .steady) _ ef _ _ (m .parts-are) _ (c .before .before .before .before .before .before .newborn .ensures) in
+    let ek = marks-settled (t .args .s) (t .args .g) a r (m .steady) _ _ (m .marks-are) (after-settle-marks .settle-marks .ensures) in
+    let ef = flags-turned (t .args .s) (t .args .g) a r (m .steady) _ _ ek (after-new-flags .new-flags .ensures) in
+    let ep = parts-born (t .args .s) (t .args .g) a r (m .steady) _ ef _ _ (m .parts-are) _ (after-newborn .newborn .ensures) in
     let w = midway (t .args .s) (t .args .g) a r (m .steady) _ ef _ _ _ ep (m .masses-are) ek in
     (straying w, rw (kept _ (carry-within (t .args .s) (t .args .g) a r (m .steady))) (carry-within (t .args .s) (t .args .g) a r (m .steady)))
 
 slice-set-from-k : tie.Need-slice-set-from-k
-slice-set-from-k c = let t = c .before .before .before .before .before .before .before .before .before .before .before .before .before .before .before .before .before .before .before .before .before .before .before in omega (arith, t .pre .0 .carry-room)
+slice-set-from-k c = let t : tie.Start = search in omega (arith, t .pre .0 .carry-room)
 
 gather-requires : tie.Need-gather-requires
 gather-requires c κs =
-    let t = c .before .before .before .before .before .before .before .before .before .before .before .before .before .before .before .before .before .before .before .before .before .before .before .before .before .before .before in
+    let after-newborn : tie.After-newborn = search in let after-new-flags : tie.After-new-flags = search in let after-settle-marks : tie.After-settle-marks = search in
+    let t : tie.Start = search in
     let a = set-of t in
     let r = t .pre .0 .ready in
     let m = t .pre .0 .moved in
-    let ek = marks-settled (t .args .s) (t .args .g) a r (m .steady) _ _ (m .marks-are) (c .before .before .before .before .before .before .before .before .before .before .before .before .before .before .before .before .before .before .before .before .before .settle-marks .ensures) in
-    let ef = flags-turned (t .args .s) (t .args .g) a r (m .steady) _ _ ek (c .before .before .before .before .before .before .before .before .before .before .before .before .before .before .before .before .new-flags .ensures) in
-    let ep = parts-born (t .args .s) (t .args .g) a r (m .steady) _ ef _ _ (m .parts-are) _ (c .before .before .before .before .before .before .before .before .before .before .before .newborn .ensures) in
+    let ek = marks-settled (t .args .s) (t .args .g) a r (m .steady) _ _ (m .marks-are) (after-settle-marks .settle-marks .ensures) in
+    let ef = flags-turned (t .args .s) (t .args .g) a r (m .steady) _ _ ek (after-new-flags .new-flags .ensures) in
+    let ep = parts-born (t .args .s) (t .args .g) a r (m .steady) _ ef _ _ (m .parts-are) _ (after-newborn .newborn .ensures) in
     let w = midway (t .args .s) (t .args .g) a r (m .steady) _ ef _ _ _ ep (m .masses-are) ek in
     gathering w
 
 settle-requires : tie.Need-settle-requires
 settle-requires c κs =
-    let t = c .before .before .before .before .before .before .before .before .before .before .before .before .before .before .before .before .before .before .before .before .before .before .before .before .before .before .before .before .before .before .before .before in
+    let after-gather : tie.After-gather = search in let after-newborn : tie.After-newborn = search in let after-new-flags : tie.After-new-flags = search in
+    let after-settle-marks : tie.After-settle-marks = search in let t : tie.Start = search in
     let a = set-of t in
     let r = t .pre .0 .ready in
     let m = t .pre .0 .moved in
-    let ek = marks-settled (t .args .s) (t .args .g) a r (m .steady) _ _ (m .marks-are) (c .before .before .before .before .before .before .before .before .before .before .before .before .before .before .before .before .before .before .before .before .before .before .before .before .before .before .settle-marks .ensures) in
-    let ef = flags-turned (t .args .s) (t .args .g) a r (m .steady) _ _ ek (c .before .before .before .before .before .before .before .before .before .before .before .before .before .before .before .before .before .before .before .before .before .new-flags .ensures) in
-    let ep = parts-born (t .args .s) (t .args .g) a r (m .steady) _ ef _ _ (m .parts-are) _ (c .before .before .before .before .before .before .before .before .before .before .before .before .before .before .before .before .newborn .ensures) in
+    let ek = marks-settled (t .args .s) (t .args .g) a r (m .steady) _ _ (m .marks-are) (after-settle-marks .settle-marks .ensures) in
+    let ef = flags-turned (t .args .s) (t .args .g) a r (m .steady) _ _ ek (after-new-flags .new-flags .ensures) in
+    let ep = parts-born (t .args .s) (t .args .g) a r (m .steady) _ ef _ _ (m .parts-are) _ (after-newborn .newborn .ensures) in
     let w = midway (t .args .s) (t .args .g) a r (m .steady) _ ef _ _ _ ep (m .masses-are) ek in
-    let em = c .before .before .before .before .gather .ensures ∙ gathered-box w in
+    let em = after-gather .gather .ensures ∙ gathered-box w in
     settling w _ (ap length em ∙ length-tab (cellsOf (t .args .s)) (gatheredMass (sceneOf (t .args .s) (t .args .g) a)))
 
 fair-carry-requires : tie.Need-fair-carry-requires
 fair-carry-requires c κs = tt
 
 same-length : tie.Need-same-length
-same-length c =
-    let t = c .before .before .before .before .before .before .before .before .before .before .before .before .before .before .before .before .before .before .before .before .before .before .before .before .before .before .before .before .before .before .before .before .before .before .before .before .before .before in
-    let a = set-of t in
-    let r = t .pre .0 .ready in
-    let m = t .pre .0 .moved in
-    let ek = marks-settled (t .args .s) (t .args .g) a r (m .steady) _ _ (m .marks-are) (c .before .before .before .before .before .before .before .before .before .before .before .before .before .before .before .before .before .before .before .before .before .before .before .before .before .before .before .before .before .before .before .before .settle-marks .ensures) in
-    let ef = flags-turned (t .args .s) (t .args .g) a r (m .steady) _ _ ek (c .before .before .before .before .before .before .before .before .before .before .before .before .before .before .before .before .before .before .before .before .before .before .before .before .before .before .before .new-flags .ensures) in
-    let ep = parts-born (t .args .s) (t .args .g) a r (m .steady) _ ef _ _ (m .parts-are) _ (c .before .before .before .before .before .before .before .before .before .before .before .before .before .before .before .before .before .before .before .before .before .before .newborn .ensures) in
-    let w = midway (t .args .s) (t .args .g) a r (m .steady) _ ef _ _ _ ep (m .masses-are) ek in
-    let em = c .before .before .before .before .before .before .before .before .before .before .gather .ensures ∙ gathered-box w in
-    let done = settled-is w em (c .before .before .before .before .before .settle .ensures) in
-    ap length ef ∙ length-tab (cellsOf (t .args .s)) (newFlag (sceneOf (t .args .s) (t .args .g) a)) ∙ sym (t .pre .0 .flags-room)
+same-length c = let after-flags2 : tie.After-flags2 = search in after-flags2 .flags2 .given
 
 same-length-2 : tie.Need-same-length-2
-same-length-2 c =
-    let t = c .before .before .before .before .before .before .before .before .before .before .before .before .before .before .before .before .before .before .before .before .before .before .before .before .before .before .before .before .before .before .before .before .before .before .before .before .before .before in
-    let a = set-of t in
-    let r = t .pre .0 .ready in
-    let m = t .pre .0 .moved in
-    let ek = marks-settled (t .args .s) (t .args .g) a r (m .steady) _ _ (m .marks-are) (c .before .before .before .before .before .before .before .before .before .before .before .before .before .before .before .before .before .before .before .before .before .before .before .before .before .before .before .before .before .before .before .before .settle-marks .ensures) in
-    let ef = flags-turned (t .args .s) (t .args .g) a r (m .steady) _ _ ek (c .before .before .before .before .before .before .before .before .before .before .before .before .before .before .before .before .before .before .before .before .before .before .before .before .before .before .before .new-flags .ensures) in
-    let ep = parts-born (t .args .s) (t .args .g) a r (m .steady) _ ef _ _ (m .parts-are) _ (c .before .before .before .before .before .before .before .before .before .before .before .before .before .before .before .before .before .before .before .before .before .before .newborn .ensures) in
-    let w = midway (t .args .s) (t .args .g) a r (m .steady) _ ef _ _ _ ep (m .masses-are) ek in
-    let em = c .before .before .before .before .before .before .before .before .before .before .gather .ensures ∙ gathered-box w in
-    let done = settled-is w em (c .before .before .before .before .before .settle .ensures) in
-    ap length (done .0) ∙ length-tab (19 * cellsOf (t .args .s)) (λ m. newPart (sceneOf (t .args .s) (t .args .g) a) (m / 19) (m % 19)) ∙ sym (parts-length t)
+same-length-2 c = let after-parts22 : tie.After-parts22 = search in let after-parts2 : tie.After-parts2 = search in after-parts22 .parts22 .given ∙ after-parts2 .parts2 .given
 
 same-length-3 : tie.Need-same-length-3
-same-length-3 c =
-    let t = c .before .before .before .before .before .before .before .before .before .before .before .before .before .before .before .before .before .before .before .before .before .before .before .before .before .before .before .before .before .before .before .before .before .before .before .before .before .before in
-    let a = set-of t in
-    let r = t .pre .0 .ready in
-    let m = t .pre .0 .moved in
-    let ek = marks-settled (t .args .s) (t .args .g) a r (m .steady) _ _ (m .marks-are) (c .before .before .before .before .before .before .before .before .before .before .before .before .before .before .before .before .before .before .before .before .before .before .before .before .before .before .before .before .before .before .before .before .settle-marks .ensures) in
-    let ef = flags-turned (t .args .s) (t .args .g) a r (m .steady) _ _ ek (c .before .before .before .before .before .before .before .before .before .before .before .before .before .before .before .before .before .before .before .before .before .before .before .before .before .before .before .new-flags .ensures) in
-    let ep = parts-born (t .args .s) (t .args .g) a r (m .steady) _ ef _ _ (m .parts-are) _ (c .before .before .before .before .before .before .before .before .before .before .before .before .before .before .before .before .before .before .before .before .before .before .newborn .ensures) in
-    let w = midway (t .args .s) (t .args .g) a r (m .steady) _ ef _ _ _ ep (m .masses-are) ek in
-    let em = c .before .before .before .before .before .before .before .before .before .before .gather .ensures ∙ gathered-box w in
-    let done = settled-is w em (c .before .before .before .before .before .settle .ensures) in
-    ap length (done .1) ∙ length-tab (cellsOf (t .args .s)) (newMass (sceneOf (t .args .s) (t .args .g) a)) ∙ sym (ap length (m .masses-are) ∙ length-tab (cellsOf (t .args .s)) (movedMass (sceneOf (t .args .s) (t .args .g) a)))
+same-length-3 c = let after-mass22 : tie.After-mass22 = search in let after-mass2 : tie.After-mass2 = search in after-mass22 .mass22 .given ∙ after-mass2 .mass2 .given
 
 same-length-4 : tie.Need-same-length-4
 same-length-4 c = simp length-set
 
 same-length-5 : tie.Need-same-length-5
-same-length-5 c =
-    let t = c .before .before .before .before .before .before .before .before .before .before .before .before .before .before .before .before .before .before .before .before .before .before .before .before .before .before .before .before .before .before .before .before .before .before .before .before .before .before in
-    let a = set-of t in
-    let r = t .pre .0 .ready in
-    let m = t .pre .0 .moved in
-    let ek = marks-settled (t .args .s) (t .args .g) a r (m .steady) _ _ (m .marks-are) (c .before .before .before .before .before .before .before .before .before .before .before .before .before .before .before .before .before .before .before .before .before .before .before .before .before .before .before .before .before .before .before .before .settle-marks .ensures) in
-    let ef = flags-turned (t .args .s) (t .args .g) a r (m .steady) _ _ ek (c .before .before .before .before .before .before .before .before .before .before .before .before .before .before .before .before .before .before .before .before .before .before .before .before .before .before .before .new-flags .ensures) in
-    let ep = parts-born (t .args .s) (t .args .g) a r (m .steady) _ ef _ _ (m .parts-are) _ (c .before .before .before .before .before .before .before .before .before .before .before .before .before .before .before .before .before .before .before .before .before .before .newborn .ensures) in
-    let w = midway (t .args .s) (t .args .g) a r (m .steady) _ ef _ _ _ ep (m .masses-are) ek in
-    let em = c .before .before .before .before .before .before .before .before .before .before .gather .ensures ∙ gathered-box w in
-    let done = settled-is w em (c .before .before .before .before .before .settle .ensures) in
-    ap length (done .2) ∙ length-replicate (cellsOf (t .args .s)) 0 ∙ sym (ap length (m .marks-are) ∙ length-tab (cellsOf (t .args .s)) (firstMark (sceneOf (t .args .s) (t .args .g) a)))
+same-length-5 c = let after-new-flags : tie.After-new-flags = search in let after-marks : tie.After-marks = search in let after-marks2 : tie.After-marks2 = search in after-marks2 .marks2 .given ∙ after-marks .marks .given
 
 returns : tie.Need-returns
 returns c =
-    let t = c .before .before .before .before .before .before .before .before .before .before .before .before .before .before .before .before .before .before .before .before .before .before .before .before .before .before .before .before .before .before .before .before .before .before .before .before .before .before in
+    let after-settle : tie.After-settle = search in let after-gather : tie.After-gather = search in let after-new-carry : tie.After-new-carry = search in
+    let after-newborn : tie.After-newborn = search in let after-new-flags : tie.After-new-flags = search in let after-settle-marks : tie.After-settle-marks = search in
+    let t : tie.Start = search in
     let a = set-of t in
     let r = t .pre .0 .ready in
     let m = t .pre .0 .moved in
-    let ek = marks-settled (t .args .s) (t .args .g) a r (m .steady) _ _ (m .marks-are) (c .before .before .before .before .before .before .before .before .before .before .before .before .before .before .before .before .before .before .before .before .before .before .before .before .before .before .before .before .before .before .before .before .settle-marks .ensures) in
-    let ef = flags-turned (t .args .s) (t .args .g) a r (m .steady) _ _ ek (c .before .before .before .before .before .before .before .before .before .before .before .before .before .before .before .before .before .before .before .before .before .before .before .before .before .before .before .new-flags .ensures) in
-    let ep = parts-born (t .args .s) (t .args .g) a r (m .steady) _ ef _ _ (m .parts-are) _ (c .before .before .before .before .before .before .before .before .before .before .before .before .before .before .before .before .before .before .before .before .before .before .newborn .ensures) in
+    let ek = marks-settled (t .args .s) (t .args .g) a r (m .steady) _ _ (m .marks-are) (after-settle-marks .settle-marks .ensures) in
+    let ef = flags-turned (t .args .s) (t .args .g) a r (m .steady) _ _ ek (after-new-flags .new-flags .ensures) in
+    let ep = parts-born (t .args .s) (t .args .g) a r (m .steady) _ ef _ _ (m .parts-are) _ (after-newborn .newborn .ensures) in
     let w = midway (t .args .s) (t .args .g) a r (m .steady) _ ef _ _ _ ep (m .masses-are) ek in
-    let em = c .before .before .before .before .before .before .before .before .before .before .gather .ensures ∙ gathered-box w in
-    let done = settled-is w em (c .before .before .before .before .before .settle .ensures) in
-    let carry = toZ-ofZ {w = w64} (record { sfits = c .before .before .before .before .before .before .before .before .before .before .before .before .before .before .before .new-carry .ok }) in
-    let sum-is = carry-told (t .args .s) (t .args .g) a r (m .steady) _ ef _ _ _ ep (m .masses-are) ek _ _ (kept _ (carry-within (t .args .s) (t .args .g) a r (m .steady))) (c .before .before .before .before .before .before .before .before .before .before .before .before .before .before .before .new-carry .ensures) in
+    let em = after-gather .gather .ensures ∙ gathered-box w in
+    let done = settled-is w em (after-settle .settle .ensures) in
+    let carry = toZ-ofZ {w = w64} (record { sfits = after-new-carry .new-carry .ok }) in
+    let sum-is = carry-told (t .args .s) (t .args .g) a r (m .steady) _ ef _ _ _ ep (m .masses-are) ek _ _ (kept _ (carry-within (t .args .s) (t .args .g) a r (m .steady))) (after-new-carry .new-carry .ensures) in
     record {
       flags-are = ef;
       parts-are = done .0;
       masses-are = done .1;
       carry-is = set-single (t .args .carry2 .now) _ (t .pre .0 .carry-room) ∙ ap (λ (z : ℤ). z ∷ []) (carry ∙ sum-is);
       marks-are = done .2;
-      newborn = λ e. born-fair (t .args .s) (t .args .g) a r (m .steady) _ ef _ _ (m .parts-are) _ (c .before .before .before .before .before .before .before .before .before .before .before .before .before .before .before .before .before .before .before .before .before .before .newborn .ensures) (and-left (c .before .before .before .before .before .before .before .before .before .before .before .before .before .before .before .before .before .before .before .before .before .before .newborn .result) (c .fair-carry .result) e);
-      carry-fair = λ e. ap carryGood (sym (carry ∙ sum-is)) ∙ sym (c .fair-carry .ensures) ∙ and-right (c .before .before .before .before .before .before .before .before .before .before .before .before .before .before .before .before .before .before .before .before .before .before .newborn .result) (c .fair-carry .result) e;
+      newborn = λ e. born-fair (t .args .s) (t .args .g) a r (m .steady) _ ef _ _ (m .parts-are) _ (after-newborn .newborn .ensures) (and-left (after-newborn .newborn .result) (c .fair-carry .result) e);
+      carry-fair = λ e. ap carryGood (sym (carry ∙ sum-is)) ∙ sym (c .fair-carry .ensures) ∙ and-right (after-newborn .newborn .result) (c .fair-carry .result) e;
     }
 
 pub converted-spec : {M : Type 1} → statement M
