@@ -3,7 +3,7 @@
 use oracle::record::read_within;
 
 use crate::engine::{Engine, Settings, ACCEPTED};
-use crate::float::{FloatStore, FOUR, MARGIN};
+use crate::float::{FloatStore, FOUR};
 use crate::identical::Case;
 use crate::lattice::Grid;
 use crate::native::proved;
@@ -53,7 +53,7 @@ pub fn tell(bytes: &[u8], steps: usize) -> Result<(), String> {
     let (made, why) = advance(steps, |lot| case.run(engine, lot));
     let end = water(&case.first);
 
-    let mut float = FloatStore::of(&store, MARGIN);
+    let mut float = FloatStore::laid(&grid, &store);
     let (mut second, mut marks) = (float.clone(), vec![0; store.flags.len()]);
     let float_start = float.total() * ONE;
     let (float_made, float_why) =

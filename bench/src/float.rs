@@ -41,28 +41,38 @@ type Parts = [f32; 19];
 #[derive(Clone)]
 pub struct FloatStore {
     pub flags: Vec<u8>,
-    /// With a margin at either end.
+    /// In the box with a margin at either end.
     pub parts: Vec<f32>,
     pub masses: Vec<f32>,
     pub fills: Vec<f32>,
     pub carry: f32,
+    /// In the box by cell the directions in which a wall lies, as bits: walls stay where they are.
+    walls: Vec<u32>,
 }
 
 impl FloatStore {
-    /// A set of the box with MARGIN; the flume's step needs none.
-    pub fn of(store: &Store, margin: usize) -> FloatStore {
+    /// A set of any lattice, with no margin and no walls.
+    pub fn of(store: &Store) -> FloatStore {
         let unit = |number: i64| (number as f64 / ONE) as f32;
-        let mut parts = vec![0.0; store.parts.len() + 2 * margin];
-        for (part, &whole) in parts[margin..].iter_mut().zip(&store.parts) {
-            *part = unit(whole.into());
-        }
         FloatStore {
             flags: store.flags.clone(),
-            parts,
+            parts: store.parts.iter().map(|&part| unit(part.into())).collect(),
             masses: store.masses.iter().map(|&mass| unit(mass.into())).collect(),
             fills: store.fills.iter().map(|&fill| fill as f32 / 65_536.0).collect(),
             carry: unit(store.carry[0]),
+            walls: Vec::new(),
         }
+    }
+
+    /// A set of the box.
+    pub fn laid(grid: &Grid, store: &Store) -> FloatStore {
+        let mut laid = FloatStore::of(store);
+        laid.parts.splice(0..0, [0.0; MARGIN]);
+        laid.parts.extend([0.0; MARGIN]);
+        laid.walls = vec![0; grid.n];
+        // The store has the lengths of its grid.
+        unsafe { grid.walls_beside(&laid.flags, &mut laid.walls) };
+        laid
     }
 
     pub fn copy_from(&mut self, other: &FloatStore) {
@@ -246,12 +256,12 @@ unsafe fn reflect(old: &FloatStore, c: usize, mut walls: u32, mut put: impl FnMu
 }
 
 /// Stage 1 of any liquid cell.
-unsafe fn streamed(grid: &Grid, walls: &[u32], old: &FloatStore, c: usize) -> Parts {
+unsafe fn streamed(grid: &Grid, old: &FloatStore, c: usize) -> Parts {
     if at(&old.flags, c) == INTERFACE {
         return rebuilt(grid, old, c);
     }
     let mut f = std::array::from_fn(|k| straight(grid, &old.parts, c, k));
-    reflect(old, c, at(walls, c), |k, part| f[k] = part);
+    reflect(old, c, at(&old.walls, c), |k, part| f[k] = part);
     f
 }
 
@@ -352,7 +362,6 @@ unsafe fn flowing<L: Lanes>(
     factors: Factors,
     old: &FloatStore,
     new: &mut FloatStore,
-    walls: &[u32],
     changes: &mut Changes,
 ) -> Result<bool, usize> {
     let all_fluid = 0x0202_0202 & u32::MAX >> (32 - 8 * L::COUNT);
@@ -380,7 +389,7 @@ unsafe fn flowing<L: Lanes>(
         let from: [*const f32; 19] =
             std::array::from_fn(|k| old.parts.as_ptr().wrapping_add(MARGIN.wrapping_add(grid.source(c, k))));
         let walled: [u32; 4] =
-            std::array::from_fn(|lane| if lane < L::COUNT { at(walls, c + lane) } else { 0 });
+            std::array::from_fn(|lane| if lane < L::COUNT { at(&old.walls, c + lane) } else { 0 });
         let place = new.parts.as_mut_ptr().add(first_of(c));
         if flags == all_fluid && walled == [0; 4] {
             let f = from.map(|from| L::pick::<19>(from));
@@ -443,13 +452,13 @@ unsafe fn flowing<L: Lanes>(
 }
 
 /// Stage 5's parts of a new interface cell.
-unsafe fn born(grid: &Grid, factors: Factors, walls: &[u32], old: &FloatStore, c: usize) -> Parts {
+unsafe fn born(grid: &Grid, factors: Factors, old: &FloatStore, c: usize) -> Parts {
     let (mut count, mut rho, mut j) = (0.0, 0.0, [0.0; 3]);
     for i in 1..19 {
         let b = grid.near(c, i);
         let flag = at(&old.flags, b);
         if flag == FLUID || flag == INTERFACE {
-            let flow = pushed(&flow_of(&streamed(grid, walls, old, b)), factors.gravity);
+            let flow = pushed(&flow_of(&streamed(grid, old, b)), factors.gravity);
             count += 1.0;
             rho += flow.rho;
             j = std::array::from_fn(|axis| j[axis] + flow.j[axis]);
@@ -497,7 +506,6 @@ unsafe fn converted(
     factors: Factors,
     old: &FloatStore,
     new: &mut FloatStore,
-    walls: &[u32],
     marks: &mut [u8],
     changes: &mut Changes,
 ) -> bool {
@@ -506,7 +514,7 @@ unsafe fn converted(
     changes.emptied.iter().for_each(|&c| put(marks, c, EMPTIED));
     grid.convert(&old.flags, &mut new.flags, marks, changes);
     for &c in &changes.born {
-        let f = born(grid, factors, walls, old, c);
+        let f = born(grid, factors, old, c);
         fair &= holds(inside(&f).and(steady(&flow_of(&f))));
         paste(&mut new.parts, c, &f);
     }
@@ -555,7 +563,16 @@ unsafe fn broken_place<L: Lanes>(grid: &Grid, set: &FloatStore) -> Option<usize>
             }
     };
     for c in (0..grid.n).step_by(L::COUNT) {
-        if L::COUNT > 1 && flags_of::<L>(&set.flags, c) == 0x0202_0202 {
+        let flags = flags_of::<L>(&set.flags, c);
+        if liquid_bytes(flags.into()) == 0 && c + L::COUNT <= grid.n {
+            let any = |numbers: &[f32]| numbers.iter().fold(0, |any, number| any | number.to_bits());
+            let parts = set.parts.get_unchecked(first_of(c)..first_of(c + L::COUNT));
+            let (masses, fills) = (&set.masses[c..c + L::COUNT], &set.fills[c..c + L::COUNT]);
+            if any(parts) | any(masses) | any(fills) == 0 {
+                continue;
+            }
+        }
+        if L::COUNT > 1 && flags == 0x0202_0202 {
             let f = std::array::from_fn(|k| L::pick::<19>(set.parts.as_ptr().add(first_of(c) + k)));
             let flow = flow_of(&f);
             let mass = L::read(set.masses.as_ptr().add(c));
@@ -592,18 +609,17 @@ unsafe fn inner<L: Lanes>(
     factors: Factors,
     first: &FloatStore,
     second: &mut FloatStore,
-    walls: &[u32],
     marks: &mut [u8],
     changes: &mut Changes,
 ) -> Answer {
     changes.clear();
-    let answer = match flowing::<L>(grid, factors, first, second, walls, changes) {
+    let answer = match flowing::<L>(grid, factors, first, second, changes) {
         Err(place) => Answer::refused(7, place),
         Ok(mut fair) => {
             second.flags.copy_from_slice(&first.flags);
             second.carry = first.carry;
             if !changes.none() {
-                fair &= converted(grid, factors, first, second, walls, marks, changes);
+                fair &= converted(grid, factors, first, second, marks, changes);
             }
             let broken = if fair { None } else { broken_place::<L>(grid, second) };
             broken.map_or(ACCEPTED, |place| Answer::refused(8, place))
@@ -614,14 +630,6 @@ unsafe fn inner<L: Lanes>(
         marks.fill(NOTHING);
     }
     answer
-}
-
-/// By cell the directions in which a wall lies, as bits. Walls stay where they are, so once for a run.
-fn walls_beside(grid: &Grid, flags: &[u8]) -> Vec<u32> {
-    let mut walls = vec![0; grid.n];
-    // The flags are those of this grid.
-    unsafe { grid.walls_beside(flags, &mut walls) };
-    walls
 }
 
 /// The step with its tests.
@@ -636,9 +644,8 @@ pub fn step<L: Lanes>(
     if answer != ACCEPTED {
         return answer;
     }
-    let walls = walls_beside(grid, &first.flags);
     let (factors, mut changes) = (Factors::of(settings), Changes::default());
-    unsafe { inner::<L>(grid, factors, first, second, &walls, marks, &mut changes) }
+    unsafe { inner::<L>(grid, factors, first, second, marks, &mut changes) }
 }
 
 /// The run, tested once; both stores hold the state reached.
@@ -654,11 +661,10 @@ pub fn run<L: Lanes>(
     if answer != ACCEPTED {
         return Ran { count: 0, answer };
     }
-    let walls = walls_beside(grid, &first.flags);
     let (factors, mut changes) = (Factors::of(settings), Changes::default());
     let (mut from, mut to) = (first, second);
     for count in 0..steps {
-        let answer = unsafe { inner::<L>(grid, factors, from, to, &walls, marks, &mut changes) };
+        let answer = unsafe { inner::<L>(grid, factors, from, to, marks, &mut changes) };
         if answer != ACCEPTED {
             return Ran { count, answer };
         }

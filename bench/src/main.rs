@@ -4,7 +4,7 @@ use std::process::ExitCode;
 
 use bench::beside;
 use bench::engine::{Engine, Settings, ACCEPTED};
-use bench::float::{FloatStore, FOUR, MARGIN, SINGLE};
+use bench::float::{FloatStore, FOUR, SINGLE};
 use bench::flume;
 use bench::growth;
 use bench::heights;
@@ -125,7 +125,7 @@ fn count_water(engines: &[Engine], scene: &Scene, steps: usize) -> Result<Totals
     for &other in &engines[2..] {
         (ran, after) = same_run(first, other, &start, steps)?;
     }
-    let mut float = FloatStore::of(&scene.store, MARGIN);
+    let mut float = FloatStore::laid(&scene.grid(), &scene.store);
     let float_start = float.total();
     let mut second = float.clone();
     let mut marks = vec![0; float.flags.len()];

@@ -5,7 +5,7 @@ use std::time::Instant;
 use oracle::HeldStore;
 
 use crate::engine::{Answer, Engine, Settings, ACCEPTED};
-use crate::float::{FloatEngine, FloatStore, MARGIN};
+use crate::float::{FloatEngine, FloatStore};
 use crate::lattice::Grid;
 use crate::plain::PLAIN;
 use crate::scenes::{liquid_cells, Scene};
@@ -140,9 +140,10 @@ impl Bench {
 
 impl FloatBench {
     pub fn new(bench: &Bench) -> FloatBench {
-        let start = FloatStore::of(&bench.start.set, MARGIN);
+        let grid = Grid::new(bench.sides).expect("a scene's sides are in range");
+        let start = FloatStore::laid(&grid, &bench.start.set);
         FloatBench {
-            grid: Grid::new(bench.sides).expect("a scene's sides are in range"),
+            grid,
             settings: bench.settings,
             first: start.clone(),
             second: start.clone(),

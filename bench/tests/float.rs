@@ -20,13 +20,13 @@ fn makes_the_same_step(float: FloatEngine, scene: &Scene) {
     let mut case = Case::of_scene(scene);
     let mut marks = vec![0; case.marks.len()];
     // A step finds the state of an earlier one in its second store.
-    let mut second = FloatStore::of(&case.first, MARGIN);
+    let mut second = FloatStore::laid(&scene.grid(), &case.first);
     for step in 1..=150 {
-        let first = FloatStore::of(&case.first, MARGIN);
+        let first = FloatStore::laid(&scene.grid(), &case.first);
         let answer = (float.step)(&scene.grid(), scene.settings, &first, &mut second, &mut marks);
         let which = format!("{}, {}, step {step}", float.name, scene.name);
         assert_eq!((answer, case.step(PLAIN)), (ACCEPTED, ACCEPTED), "{which}");
-        let whole = FloatStore::of(&case.second, MARGIN);
+        let whole = FloatStore::laid(&scene.grid(), &case.second);
         assert!(second.flags == whole.flags, "{which}: flags");
         let apart = furthest(&second, &whole);
         assert!(apart < rounding, "{which}: {apart} apart");
@@ -37,8 +37,8 @@ fn makes_the_same_step(float: FloatEngine, scene: &Scene) {
 
 #[test]
 fn float_makes_the_same_step() {
-    // Rows of 24 cells are parted in fours, those of 23 and 22 are not.
-    for scene in [24, 23, 22].into_iter().flat_map(scenes::all) {
+    // The cells of a cube of 24 are parted in fours, those of one of 23 are not.
+    for scene in [24, 23].into_iter().flat_map(scenes::all) {
         makes_the_same_step(SINGLE, &scene);
         makes_the_same_step(FOUR, &scene);
     }
@@ -50,7 +50,7 @@ fn float_refuses_the_same() {
     for float in [SINGLE, FOUR] {
         for scene in scenes::all(12) {
             let grid = scene.grid();
-            let start = FloatStore::of(&scene.store, MARGIN);
+            let start = FloatStore::laid(&grid, &scene.store);
             let mut marks = vec![0; start.flags.len()];
             for c in (0..grid.n).filter(|&c| start.flags[c] == 1 || start.flags[c] == 2) {
                 // A part too large at every liquid cell, then one that hurries it: test 6 names the cell.
@@ -72,7 +72,7 @@ fn float_refuses_the_same() {
 fn float_loses_by_rounding_alone() {
     for float in [SINGLE, FOUR] {
         for scene in scenes::all(24) {
-            let mut first = FloatStore::of(&scene.store, MARGIN);
+            let mut first = FloatStore::laid(&scene.grid(), &scene.store);
             let mut second = first.clone();
             let mut marks = vec![0; first.flags.len()];
             let start = first.total();

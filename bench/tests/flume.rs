@@ -163,11 +163,11 @@ fn float_makes_the_same_step() {
         let mut marks = vec![0; case.marks.len()];
         let (mut steps, mut apart) = (0, 0);
         for step in 1..=150 {
-            let first = FloatStore::of(&case.first, 0);
+            let first = FloatStore::of(&case.first);
             let mut second = first.clone();
             let answer = float::step(&scene.grid(), scene.settings, &first, &mut second, &mut marks);
             assert_eq!((answer, case.plain_step()), (ACCEPTED, ACCEPTED), "{}, step {step}", scene.name);
-            let whole = FloatStore::of(&case.second, 0);
+            let whole = FloatStore::of(&case.second);
             assert!(second.flags == whole.flags, "{}, step {step}: flags", scene.name);
             let off =
                 |a: &[f32], b: &[f32]| a.iter().zip(b).filter(|(a, b)| (**a - **b).abs() > rounding).count();

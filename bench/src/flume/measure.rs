@@ -88,7 +88,7 @@ pub fn steps_in(seconds: f64, start: &Case) -> usize {
 pub fn measure(scene: &Scene, engines: &[Engine], effort: Effort) -> Vec<Measured> {
     let start = warm(scene);
     let mut case = start.clone();
-    let float_start = FloatStore::of(&start.first, 0);
+    let float_start = FloatStore::of(&start.first);
     let mut floats = [float_start.clone(), float_start.clone()];
     let steps = steps_in(effort.seconds, &start);
     let mut rounds = vec![[Vec::new(), Vec::new()]; engines.len() + 1];

@@ -49,7 +49,7 @@ fn count_water(engines: &[Engine], scene: &Scene, steps: usize) -> Result<Vec<St
     if lost != 0 {
         return Err(format!("{lost} units lost"));
     }
-    let mut float = FloatStore::of(&scene.store, 0);
+    let mut float = FloatStore::of(&scene.store);
     let (float_start, mut second) = (float.total(), float.clone());
     let mut marks = vec![0; float.flags.len()];
     let float_ran = float::run(&scene.grid(), scene.settings, steps, &mut float, &mut second, &mut marks);
