@@ -3,7 +3,7 @@
 use oracle::record::read_within;
 
 use crate::engine::{Engine, Settings, ACCEPTED};
-use crate::float::{self, FloatStore};
+use crate::float::{FloatStore, FOUR};
 use crate::identical::Case;
 use crate::lattice::Grid;
 use crate::native::proved;
@@ -53,11 +53,11 @@ pub fn tell(bytes: &[u8], steps: usize) -> Result<(), String> {
     let (made, why) = advance(steps, |lot| case.run(engine, lot));
     let end = water(&case.first);
 
-    let mut float = FloatStore::of(&store);
+    let mut float = FloatStore::laid(&grid, &store);
     let (mut second, mut marks) = (float.clone(), vec![0; store.flags.len()]);
     let float_start = float.total() * ONE;
     let (float_made, float_why) =
-        advance(steps, |lot| float::run(&grid, settings, lot, &mut float, &mut second, &mut marks));
+        advance(steps, |lot| (FOUR.run)(&grid, settings, lot, &mut float, &mut second, &mut marks));
     let float_end = float.total() * ONE;
 
     println!(

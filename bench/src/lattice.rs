@@ -175,6 +175,17 @@ impl<const K: usize> Grid<K> {
         }
     }
 
+    /// Of each cell but those of the outer layer's ends the directions in which a wall lies, as bits.
+    ///
+    /// # Safety
+    /// There are n flags and numbers.
+    pub unsafe fn walls_beside(&self, flags: &[u8], walls: &mut [u32]) {
+        for c in self.low..self.n - self.low {
+            let wall = |i: usize| unsafe { u32::from(at(flags, self.near(c, i)) == WALL) << i };
+            put(walls, c, (1..K).fold(0, |walls, i| walls | wall(i)));
+        }
+    }
+
     /// Stage 5 but for parts and masses: those of the cells marked emptied that stay so, and the new flags.
     ///
     /// # Safety
@@ -220,6 +231,12 @@ pub struct Changes {
 }
 
 impl Changes {
+    pub fn clear(&mut self) {
+        self.filled.clear();
+        self.emptied.clear();
+        self.born.clear();
+    }
+
     pub fn none(&self) -> bool {
         self.filled.is_empty() && self.emptied.is_empty()
     }

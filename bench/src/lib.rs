@@ -7,6 +7,7 @@ pub mod flume;
 pub mod growth;
 pub mod heights;
 pub mod identical;
+pub mod lanes;
 pub mod lattice;
 pub mod measure;
 pub mod modes;

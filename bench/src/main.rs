@@ -4,7 +4,7 @@ use std::process::ExitCode;
 
 use bench::beside;
 use bench::engine::{Engine, Settings, ACCEPTED};
-use bench::float::{self, FloatStore};
+use bench::float::{FloatStore, FOUR, SINGLE};
 use bench::flume;
 use bench::growth;
 use bench::heights;
@@ -12,7 +12,7 @@ use bench::identical::{hunt, same_run, same_step, Case, Inputs, ORACLE};
 use bench::measure::{measure, Effort, WARM_UP};
 use bench::modes;
 use bench::native;
-use bench::plain::PLAIN;
+use bench::plain::{LOOKING, PLAIN};
 use bench::pools;
 use bench::report::{self, Totals};
 use bench::scenes::{self, water, Scene};
@@ -121,13 +121,15 @@ fn compare_scene(engines: &[Engine], scene: &Scene) -> Result<(), String> {
 fn count_water(engines: &[Engine], scene: &Scene, steps: usize) -> Result<Totals, String> {
     let start = Case::of_scene(scene);
     let first = engines[0];
-    let last = engines[engines.len() - 1];
-    let (ran, after) = same_run(first, last, &start, steps)?;
-    let mut float = FloatStore::of(&scene.store);
+    let (mut ran, mut after) = same_run(first, engines[1], &start, steps)?;
+    for &other in &engines[2..] {
+        (ran, after) = same_run(first, other, &start, steps)?;
+    }
+    let mut float = FloatStore::laid(&scene.grid(), &scene.store);
     let float_start = float.total();
     let mut second = float.clone();
     let mut marks = vec![0; float.flags.len()];
-    let float_ran = float::run(&scene.grid(), scene.settings, steps, &mut float, &mut second, &mut marks);
+    let float_ran = (FOUR.run)(&scene.grid(), scene.settings, steps, &mut float, &mut second, &mut marks);
     Ok(Totals {
         scene: scene.name,
         side: scene.sides[0],
@@ -161,6 +163,10 @@ fn measure_modes(wish: &Wish) {
     modes::costs(&wish.sides, wish.effort);
 }
 
+fn names(engines: &[Engine]) -> String {
+    engines.iter().map(|engine| engine.name).collect::<Vec<_>>().join("; ")
+}
+
 fn bench(wish: &Wish) -> Result<(), String> {
     let proved = native::proved();
     report::machine(proved);
@@ -180,7 +186,8 @@ fn bench(wish: &Wish) -> Result<(), String> {
         }
         return Ok(());
     }
-    let engines: Vec<Engine> = proved.into_iter().chain([PLAIN]).collect();
+    let engines: Vec<Engine> = proved.into_iter().chain([PLAIN, LOOKING]).collect();
+    let floats = [SINGLE, FOUR];
 
     compare_random(&engines, wish.seeds)?;
     let all: Vec<Scene> = wish.sides.iter().flat_map(|&side| scenes::all(side)).collect();
@@ -191,23 +198,24 @@ fn bench(wish: &Wish) -> Result<(), String> {
         totals.push(count_water(&engines, scene, wish.steps).map_err(named)?);
     }
     println!("identical   each of them and the oracle: every scene's first step, and its step from the state that is timed");
-    if engines.len() > 1 {
-        println!("identical   {} and {}: every buffer after the runs below", engines[0].name, PLAIN.name);
-    }
+    println!("identical   {}: every buffer after the runs below", names(&engines));
     println!();
     report::totals(&totals);
 
-    let measured: Vec<_> = all.iter().flat_map(|scene| measure(scene, &engines, wish.effort)).collect();
+    let measured: Vec<_> =
+        all.iter().flat_map(|scene| measure(scene, &engines, &floats, wish.effort)).collect();
     report::speeds(&measured);
+    report::ratios(&measured, engines[0].name);
 
     if let (Some(engine), Some(sweep)) = (proved, native::sweep()) {
         report::sweeps(&sweep::measure(engine, sweep, &wish.sweep_sides, wish.effort)?);
     }
 
+    let two: Vec<Engine> = proved.into_iter().chain([PLAIN]).collect();
     let largest = wish.growth_sides[wish.growth_sides.len() - 1];
-    let over_cells = growth::over_cells(&engines, &wish.growth_sides, wish.effort);
-    let over_share = growth::over_share(&engines, largest, wish.effort);
-    report::growth(&engines, &over_cells, &over_share);
+    let over_cells = growth::over_cells(&two, &wish.growth_sides, wish.effort);
+    let over_share = growth::over_share(&two, largest, wish.effort);
+    report::growth(&two, &over_cells, &over_share);
     measure_pools(wish);
     measure_heights(wish);
     flume::report::flume(wish.effort, wish.seeds, wish.steps)?;

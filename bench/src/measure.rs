@@ -5,7 +5,7 @@ use std::time::Instant;
 use oracle::HeldStore;
 
 use crate::engine::{Answer, Engine, Settings, ACCEPTED};
-use crate::float::{self, FloatStore};
+use crate::float::{FloatEngine, FloatStore};
 use crate::lattice::Grid;
 use crate::plain::PLAIN;
 use crate::scenes::{liquid_cells, Scene};
@@ -140,9 +140,10 @@ impl Bench {
 
 impl FloatBench {
     pub fn new(bench: &Bench) -> FloatBench {
-        let start = FloatStore::of(&bench.start.set);
+        let grid = Grid::new(bench.sides).expect("a scene's sides are in range");
+        let start = FloatStore::laid(&grid, &bench.start.set);
         FloatBench {
-            grid: Grid::new(bench.sides).expect("a scene's sides are in range"),
+            grid,
             settings: bench.settings,
             first: start.clone(),
             second: start.clone(),
@@ -151,16 +152,16 @@ impl FloatBench {
         }
     }
 
-    pub fn time(&mut self, way: Way, steps: usize) -> f64 {
+    pub fn time(&mut self, engine: FloatEngine, way: Way, steps: usize) -> f64 {
         let FloatBench { grid, settings, start, first, second, marks } = self;
         first.copy_from(start);
         let begin = Instant::now();
         if way == Way::Run {
-            let ran = float::run(grid, *settings, steps, first, second, marks);
-            expect_accepted("f32", ran.answer);
+            let ran = (engine.run)(grid, *settings, steps, first, second, marks);
+            expect_accepted(engine.name, ran.answer);
         } else {
             for _ in 0..steps {
-                expect_accepted("f32", float::step(grid, *settings, first, second, marks));
+                expect_accepted(engine.name, (engine.step)(grid, *settings, first, second, marks));
                 std::mem::swap(first, second);
             }
         }
@@ -185,21 +186,23 @@ pub fn steps_in(seconds: f64, bench: &mut Bench) -> usize {
 pub(crate) const RUN_STEPS: usize = 100;
 
 /// All contenders on one scene, in turns: the engines on the same buffers, then f32 on its own.
-pub fn measure(scene: &Scene, engines: &[Engine], effort: Effort) -> Vec<Measured> {
+pub fn measure(scene: &Scene, engines: &[Engine], floats: &[FloatEngine], effort: Effort) -> Vec<Measured> {
     let mut bench = Bench::new(scene, WARM_UP);
     let mut float = FloatBench::new(&bench);
     let steps = steps_in(effort.seconds, &mut bench);
-    let mut rounds = vec![[Vec::new(), Vec::new()]; engines.len() + 1];
+    let mut rounds = vec![[Vec::new(), Vec::new()]; engines.len() + floats.len()];
     for _ in 0..effort.rounds {
         let ways = [(Way::Step, steps), (Way::Run, steps.max(RUN_STEPS))];
         for (at, (way, steps)) in ways.into_iter().enumerate() {
             for (engine, rounds) in engines.iter().zip(&mut rounds) {
                 rounds[at].push(bench.time(*engine, way, steps));
             }
-            rounds[engines.len()][at].push(float.time(way, steps));
+            for (engine, rounds) in floats.iter().zip(&mut rounds[engines.len()..]) {
+                rounds[at].push(float.time(*engine, way, steps));
+            }
         }
     }
-    let names = engines.iter().map(|engine| engine.name).chain(["f32"]);
+    let names = engines.iter().map(|engine| engine.name).chain(floats.iter().map(|engine| engine.name));
     let liquid = bench.liquid();
     names
         .zip(rounds)

@@ -9,9 +9,21 @@ use crate::lattice::{
 
 pub const PLAIN: Engine = Engine {
     name: "plain i64",
-    step: |sides, settings, first, second, marks| step(sides, settings, first.set, second.set, marks),
+    step: |sides, settings, first, second, marks| {
+        step::<false>(sides, settings, first.set, second.set, marks)
+    },
     run: |sides, settings, steps, first, second, marks| {
-        run(sides, settings, steps, first.set, second.set, marks)
+        run::<false>(sides, settings, steps, first.set, second.set, marks)
+    },
+    turbulent: false,
+};
+
+/// The same, but that a dry cell's zeros are looked for before they are written, as the proved step does.
+pub const LOOKING: Engine = Engine {
+    name: "plain i64, zeros looked for",
+    step: |sides, settings, first, second, marks| step::<true>(sides, settings, first.set, second.set, marks),
+    run: |sides, settings, steps, first, second, marks| {
+        run::<true>(sides, settings, steps, first.set, second.set, marks)
     },
     turbulent: false,
 };
@@ -107,6 +119,14 @@ unsafe fn paste(parts: &mut [i32], c: usize, f: &Parts) {
     }
 }
 
+/// Zeros for a dry cell. Where they are LOOKed for first, most cells are left as they are: they were dry before.
+#[inline(always)]
+unsafe fn dry_out<const LOOK: bool>(parts: &mut [i32], c: usize) {
+    if !LOOK || (0..19).fold(0, |any, k| any | at(parts, 19 * c + k)) != 0 {
+        paste(parts, c, &[0; 19]);
+    }
+}
+
 /// Stage 1 of an open cell.
 #[inline(always)]
 unsafe fn straight(grid: &Grid, parts: &[i32], c: usize) -> Parts {
@@ -189,7 +209,7 @@ fn collided(f: &Parts, flow: &Flow, p: i64) -> Parts {
 
 /// Stages 1 to 4 and stage 5's tests, cell by cell. Answers whether every new liquid cell surely keeps the rules of
 /// test 8, or the cell that refusal 7 names.
-unsafe fn flowing(
+unsafe fn flowing<const LOOK: bool>(
     grid: &Grid,
     settings: Settings,
     old: &Set,
@@ -201,7 +221,7 @@ unsafe fn flowing(
     for c in 0..grid.n {
         let flag = at(old.flags, c);
         if flag != FLUID && flag != INTERFACE {
-            paste(new.parts, c, &[0; 19]);
+            dry_out::<LOOK>(new.parts, c);
             put(new.masses, c, 0);
             put(new.fills, c, 0);
             put(marks, c, NOTHING);
@@ -401,7 +421,7 @@ fn copy(from: &Set, to: &mut SetMut) {
     to.carry.copy_from_slice(from.carry);
 }
 
-unsafe fn next_state(
+unsafe fn next_state<const LOOK: bool>(
     grid: &Grid,
     settings: Settings,
     old: &Set,
@@ -410,7 +430,7 @@ unsafe fn next_state(
 ) -> Answer {
     let mut changes = Changes::default();
     grid.mark_open(old.flags, marks);
-    let mut fair = match flowing(grid, settings, old, new, marks, &mut changes) {
+    let mut fair = match flowing::<LOOK>(grid, settings, old, new, marks, &mut changes) {
         Ok(fair) => fair,
         Err(place) => return Answer::refused(7, place),
     };
@@ -430,14 +450,14 @@ unsafe fn next_state(
 ///
 /// # Safety
 /// The first set is a good state of this grid, and the second set and the marks have its lengths.
-pub unsafe fn inner(
+pub unsafe fn inner<const LOOK: bool>(
     grid: &Grid,
     settings: Settings,
     first: Set,
     mut second: SetMut,
     marks: &mut [u8],
 ) -> Answer {
-    let answer = next_state(grid, settings, &first, &mut second, marks);
+    let answer = next_state::<LOOK>(grid, settings, &first, &mut second, marks);
     if answer != ACCEPTED {
         copy(&first, &mut second);
         marks.fill(NOTHING);
@@ -446,16 +466,22 @@ pub unsafe fn inner(
 }
 
 /// The step with all its tests.
-pub fn step(sides: [usize; 3], settings: Settings, first: Set, second: SetMut, marks: &mut [u8]) -> Answer {
+pub fn step<const LOOK: bool>(
+    sides: [usize; 3],
+    settings: Settings,
+    first: Set,
+    second: SetMut,
+    marks: &mut [u8],
+) -> Answer {
     match tested(sides, settings, &first, &second.as_set(), marks) {
         // The state is good and the lengths are right: both have been tested.
-        Ok(grid) => unsafe { inner(&grid, settings, first, second, marks) },
+        Ok(grid) => unsafe { inner::<LOOK>(&grid, settings, first, second, marks) },
         Err(answer) => answer,
     }
 }
 
 /// The run: from the first set to the second and back, tested once.
-pub fn run<'a>(
+pub fn run<'a, const LOOK: bool>(
     sides: [usize; 3],
     settings: Settings,
     steps: usize,
@@ -472,7 +498,8 @@ pub fn run<'a>(
     };
     for count in 0..steps {
         // An accepted step leaves a good state, and a refused one has made the sets equal.
-        let answer = unsafe { inner(&grid, settings, first.as_set(), lend_again(&mut second), marks) };
+        let answer =
+            unsafe { inner::<LOOK>(&grid, settings, first.as_set(), lend_again(&mut second), marks) };
         if answer != ACCEPTED {
             return Ran { count, answer };
         }

@@ -147,6 +147,29 @@ pub fn speeds(measured: &[Measured]) {
     );
 }
 
+/// One engine's times over those of each other contender on the same scene.
+pub fn ratios(measured: &[Measured], name: &str) {
+    let ours: Vec<&Measured> = measured.iter().filter(|row| row.name == name).collect();
+    let of_scene = |row: &Measured| {
+        let (scene, side) = (row.scene, row.side);
+        measured.iter().filter(move |other| (other.scene, other.side) == (scene, side) && other.name != name)
+    };
+    let Some(first) = ours.first() else { return };
+    let over = |what: &str, row: &Measured| format!("{what} over {}", row.name);
+    let steps = of_scene(first).map(|row| over("step", row));
+    let runs = of_scene(first).map(|row| over("run", row));
+    let heading: Vec<String> = ["scene".into(), "side".into()].into_iter().chain(steps).chain(runs).collect();
+    let row = |row: &&Measured| {
+        let ratio =
+            |of: fn(&Measured) -> Time, other: &Measured| format!("{:.2}", of(row).best / of(other).best);
+        let steps = of_scene(row).map(|other| ratio(|row| row.step, other));
+        let runs = of_scene(row).map(|other| ratio(|row| row.run, other));
+        [row.scene.to_string(), row.side.to_string()].into_iter().chain(steps).chain(runs).collect()
+    };
+    println!("Ratios: {name}, time over each contender's, of a step with its tests and of a step of a run: below 1 is faster.\n");
+    table(&heading.iter().map(String::as_str).collect::<Vec<_>>(), &ours.iter().map(row).collect::<Vec<_>>());
+}
+
 pub fn totals(rows: &[Totals]) {
     let heading = [
         "scene",

@@ -3,7 +3,7 @@
 use bench::engine::Engine;
 use bench::identical::{hunt, same_run, same_step, Case, Inputs, Tally, ORACLE};
 use bench::native;
-use bench::plain::PLAIN;
+use bench::plain::{LOOKING, PLAIN};
 use bench::scenes;
 
 fn hunted(engine: Engine, seeds: std::ops::Range<u64>, steps: usize, inputs: Inputs) -> Tally {
@@ -14,15 +14,19 @@ fn hunted(engine: Engine, seeds: std::ops::Range<u64>, steps: usize, inputs: Inp
 
 #[test]
 fn plain_is_the_oracle_on_random_states() {
-    let tally = hunted(PLAIN, 0..2500, 6, Inputs::Any);
-    for (number, met) in tally.steps.iter().enumerate().take(9) {
-        assert!(*met >= 20, "refusal {number} met {met} times only");
+    for engine in [PLAIN, LOOKING] {
+        let tally = hunted(engine, 0..2500, 6, Inputs::Any);
+        for (number, met) in tally.steps.iter().enumerate().take(9) {
+            assert!(*met >= 20, "refusal {number} met {met} times only");
+        }
     }
 }
 
 #[test]
 fn plain_is_the_oracle_over_long_runs() {
-    hunted(PLAIN, 10_000..10_150, 60, Inputs::Good);
+    for engine in [PLAIN, LOOKING] {
+        hunted(engine, 10_000..10_150, 60, Inputs::Good);
+    }
 }
 
 /// Only where bench/run's library is linked: plain `cargo test` has none.
