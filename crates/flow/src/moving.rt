@@ -102,6 +102,7 @@ pub(crate) fn put_parts(
     c: usize,
     g: Settings,
     keep: u64,
+    was: u8,
 ) -> Put
     requires { ⌜ Putting (now flags) (now parts) (now fill) (now parts2) mark (now off) (now from) low c g keep ⌝ }
     ensures { λ r. ⌜ PutAt (boxSight (now (flags .entry)) (now (parts .entry)) [] (now (fill .entry)) (now (off .entry)) low g) c (now (parts2 .entry)) (now (parts2 .exit)) r ⌝ }
@@ -116,7 +117,9 @@ pub(crate) fn put_parts(
             flags[c] == 1,
         );
     }
-    dry_out(parts2, c);
+    if wet(was) {
+        dry_out(parts2, c);
+    }
     Put {
         ok: true,
         fair: true,

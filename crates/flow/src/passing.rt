@@ -19,6 +19,7 @@ pub fn flowing(
     parts: &[i32],
     mass: &[i32],
     fill: &[u32],
+    flags2: &[u8],
     parts2: &mut [i32],
     mass2: &mut [i32],
     marks: &mut [u8],
@@ -48,6 +49,7 @@ pub fn flowing(
             c,
             g,
             keep,
+            flags2[c],
         );
         if !o.ok {
             return Passed::Stopped(c);

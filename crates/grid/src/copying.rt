@@ -46,6 +46,16 @@ pub fn copy_i64(src: &[i64], dst: &mut [i64])
     }
 }
 
+// Flags of a set of which nothing is known: each cell may hold water.
+pub fn soil(flags: &mut [u8])
+{
+    let mut i = 0;
+    while i < flags.len() {
+        flags[i] = 1;
+        i += 1;
+    }
+}
+
 // Marks are 0 when a step is over.
 pub fn clear(marks: &mut [u8])
     ensures { λ r. ⌜ now (marks .exit) ≡ replicate (length (now (marks .entry))) 0 ⌝ }

@@ -267,6 +267,7 @@ pub fn run(
             answer: Answer::Refused(no, at),
         };
     }
+    copying::soil(flags2);
     going(
         steps,
         flags,

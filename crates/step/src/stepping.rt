@@ -98,7 +98,7 @@ fn advanced(
     ensures { λ r. ⌜ Tried s g (record { flags = now (flags .entry); parts = now (parts .entry); masses = now (mass .entry); fills = now (fill .entry); carry = now (carry .entry) }) r (record { flags = now (flags2 .exit); parts = now (parts2 .exit); masses = now (mass2 .exit); fills = now (fill2 .exit); carry = now (carry2 .exit) }) (now (marks .exit)) ⌝ }
 {
     marks::mark_open(flags, marks, s);
-    let a = passing::flowing(flags, parts, mass, fill, parts2, mass2, marks, s, g);
+    let a = passing::flowing(flags, parts, mass, fill, flags2, parts2, mass2, marks, s, g);
     match a {
         Passed::Stopped(c) => Answer::Refused(7, c),
         Passed::Through(fair, still) => finished(
@@ -210,6 +210,7 @@ pub fn step(
     if let Answer::Refused(no, at) = a {
         return Answer::Refused(no, at);
     }
+    copying::soil(flags2);
     stepped(
         flags,
         parts,
