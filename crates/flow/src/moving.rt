@@ -34,7 +34,7 @@ pub struct Put {
     pub rho: i32,
 }
 
-fn wet(f: u8) -> bool
+pub(crate) fn wet(f: u8) -> bool
     ensures { λ r. ⌜ r ≡ liquid f ⌝ }
 {
     (f == 1) | (f == 2)

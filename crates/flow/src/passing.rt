@@ -5,6 +5,7 @@ use crate::streaming;
 use crate::trading;
 use grid::Sides;
 use grid::neighbours;
+use grid::seeking;
 use lattice::Settings;
 ghost use Rattle.flow.specs.Flowed.{Flowable, Flowed};
 
@@ -12,6 +13,21 @@ ghost use Rattle.flow.specs.Flowed.{Flowable, Flowed};
 pub enum Passed {
     Stopped(usize),
     Through(bool, bool),
+}
+
+// Neither mass nor mark from a to b.
+fn rest_dry(mass2: &mut [i32], marks: &mut [u8], a: usize, b: usize)
+{
+    let mut c = a;
+    while c < b {
+        mass2[c] = 0;
+        c += 1;
+    }
+    c = a;
+    while c < b {
+        marks[c] = 0;
+        c += 1;
+    }
 }
 
 pub fn flowing(
@@ -37,30 +53,38 @@ pub fn flowing(
     let mut still = true;
     let mut c = 0;
     while c < flags.len() {
-        let o = moving::put_parts(
-            flags,
-            parts,
-            fill,
-            parts2,
-            marks[c],
-            &off,
-            &from,
-            low,
-            c,
-            g,
-            keep,
-            flags2[c],
-        );
-        if !o.ok {
-            return Passed::Stopped(c);
+        if !moving::wet(flags[c]) & !moving::wet(flags2[c]) {
+            mass2[c] = 0;
+            marks[c] = 0;
+            let e = seeking::past_dry(flags, flags2, c + 1);
+            rest_dry(mass2, marks, c + 1, e);
+            c = e;
+        } else {
+            let o = moving::put_parts(
+                flags,
+                parts,
+                fill,
+                parts2,
+                marks[c],
+                &off,
+                &from,
+                low,
+                c,
+                g,
+                keep,
+                flags2[c],
+            );
+            if !o.ok {
+                return Passed::Stopped(c);
+            }
+            let m = trading::new_mass(flags, parts, mass, fill, &off, low, c, o.rho);
+            let k = trading::new_mark(flags[c], m, o.rho);
+            mass2[c] = m;
+            marks[c] = k;
+            fair = fair & o.fair;
+            still = still & (k == 0);
+            c += 1;
         }
-        let m = trading::new_mass(flags, parts, mass, fill, &off, low, c, o.rho);
-        let k = trading::new_mark(flags[c], m, o.rho);
-        mass2[c] = m;
-        marks[c] = k;
-        fair = fair & o.fair;
-        still = still & (k == 0);
-        c += 1;
     }
     Passed::Through(fair, still)
 }

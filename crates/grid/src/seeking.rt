@@ -51,6 +51,36 @@ pub fn next_of(flags: &[u8], a: usize, kind: u8) -> usize
     c
 }
 
+fn wet(f: u8) -> bool
+{
+    (f == 1) | (f == 2)
+}
+
+// Whether 32 cells from a on are dry in both sets. By no way out, so that they are looked at together.
+fn dry(flags: &[u8], flags2: &[u8], a: usize) -> bool
+{
+    let mut none = true;
+    let mut k = 0;
+    while k < 32 {
+        none = none & !wet(flags[a + k]) & !wet(flags2[a + k]);
+        k += 1;
+    }
+    none
+}
+
+// Past cells from a on that are dry in both sets, 32 at a time.
+pub fn past_dry(flags: &[u8], flags2: &[u8], a: usize) -> usize
+{
+    let mut c = a;
+    while flags.len() - c >= 32 {
+        if !dry(flags, flags2, c) {
+            return c;
+        }
+        c += 32;
+    }
+    c
+}
+
 // Whether none of 32 cells from a on is marked. By no way out, so that they are looked at together.
 fn quiet(marks: &[u8], a: usize) -> bool
     requires { ⌜ a + 32 ≤ length (now marks) ⌝ }
