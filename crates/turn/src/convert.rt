@@ -1,6 +1,7 @@
 // Stage 5's new flags.
 use grid::Sides;
 use grid::neighbours;
+use grid::seeking;
 ghost use mathlib.Core.Path.{_≡_};
 ghost use Prim.Native.Nat.{_<_};
 ghost use lib.Dec.{eqb};
@@ -30,21 +31,33 @@ pub fn kind_after(f: u8, m: u8, filled: bool, emptied: bool) -> u8
     f
 }
 
+// The new flags of a cell with mark m and of its neighbours; k is c - low.
+fn turn_around(flags: &[u8], next: &mut [u8], off: &[usize; 19], k: usize, m: u8)
+{
+    let turning = if m == 1 { 0 } else { 2 };
+    next[k + off[0]] = 2 - turning;
+    let mut i = 1;
+    while i < 19 {
+        let b = k + off[i];
+        if flags[b] == turning {
+            next[b] = 1;
+        }
+        i += 1;
+    }
+}
+
 // Pass 3, by offsets: the new flags. The second set's are a copy of the old ones; the first and the last cells, all wall, are left as they are.
 pub fn new_flags_by(flags: &[u8], marks: &[u8], next: &mut [u8], off: &[usize; 19], low: usize)
     requires { ⌜ MarkedBy (now flags) (now marks) (now off) low × (now next ≡ now flags) ⌝ }
     ensures { λ r. ⌜ now (next .exit) ≡ tab (length (now (flags .entry))) (turnedBy (now (flags .entry)) (now (marks .entry)) (now (off .entry)) low) ⌝ }
 {
-    let end = flags.len() - low;
-    let mut c = low;
-    while c < end {
-        next[c] = kind_after(
-            flags[c],
-            marks[c],
-            neighbours::beside(marks, off, c - low, 1),
-            neighbours::beside(marks, off, c - low, 2),
-        );
-        c += 1;
+    let mut c = 0;
+    while c < marks.len() {
+        let m = marks[c];
+        if m != 0 {
+            turn_around(flags, next, off, c - low, m);
+        }
+        c = seeking::next_marked(marks, c + 1);
     }
 }
 
