@@ -1,7 +1,7 @@
 // Stage 4: collision. The eighteen directions go by pairs: opposite directions share the even part of Q and differ in the sign of the odd one.
 // One division a cell estimates p times every equilibrium part; a few cells in a thousand, where an estimate does not tell, go by the divider.
 use crate::estimate::ends;
-use crate::landing::highest;
+use crate::landing::all_tell;
 use crate::landing::settled;
 use lattice::Flow;
 use lattice::directions::dots;
@@ -110,7 +110,7 @@ pub fn collided(f: [i32; 19], v: Flow, p: i64) -> [i32; 19]
         r -= m + n;
         i += 2;
     }
-    if highest(e) > 4294443007 {
+    if !all_tell(e) {
         let mut b = f;
         by_divider(&mut b, v, p);
         return b;

@@ -18,6 +18,24 @@ pub fn settled(e: u64, f: i32, c: i32) -> i32
     n
 }
 
+// Whether an end's low word tells.
+fn tells(e: u64) -> bool
+{
+    (e % 4294967296) as u32 <= 4294443007
+}
+
+// Whether every end's low word tells. By pairs and with no way out, so that they are looked at together.
+pub fn all_tell(e: [u64; 18]) -> bool
+{
+    let mut w = true;
+    let mut i = 0;
+    while i < 18 {
+        w = w & tells(e[i]) & tells(e[i + 1]);
+        i += 2;
+    }
+    w
+}
+
 // The higher of the low words of two ends.
 fn higher(a: u64, b: u64) -> u32
     ensures { λ r. ⌜ (a % 4294967296 ≤ r) × (b % 4294967296 ≤ r) ⌝ }
