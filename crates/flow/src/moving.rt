@@ -6,7 +6,10 @@ use collision::gravity::pulled;
 use grid::cells::own;
 use grid::cells::paste;
 use lattice::Settings;
+use lattice::Flow;
 use lattice::moments::flow_of;
+use lattice::moments::speed_squared;
+use lattice::moments::times;
 use lattice::moments::steady;
 use lattice::rules::all_inside;
 use lattice::rules::all_zero;
@@ -40,12 +43,21 @@ pub(crate) fn wet(f: u8) -> bool
     (f == 1) | (f == 2)
 }
 
+// Whether a flow that passed stage 3's test is so far below the limit that it keeps it through the collision.
+fn calm(v: Flow) -> bool
+{
+    144 * speed_squared(v) <= 15 * times(v.rho, v.rho)
+}
+
 // Whether new parts keep test 6's rules. As lattice's `fair_parts`, which has other callers: with one alone it melts into the pass over all
 // cells, and the parts stay in registers.
-fn fair(f: [i32; 19]) -> bool
+fn fair(f: [i32; 19], v: Flow) -> bool
     requires { ⌜ Bounded f 1073741824 33554432 ⌝ }
     ensures { λ r. ⌜ r ≡ bodyGood d3q19 (partsOf f) ⌝ }
 {
+    if calm(v) {
+        return all_inside(f);
+    }
     all_inside(f) & steady(flow_of(f))
 }
 
@@ -73,7 +85,7 @@ fn put_moved(
     paste(parts2, 19 * c, r);
     Put {
         ok: true,
-        fair: fair(r),
+        fair: fair(r, v),
         rho: v.rho,
     }
 }
