@@ -40,10 +40,11 @@ fn streamed_open(parts: &[i32], from: &[usize; 19], a: usize) -> [i32; 19]
     requires { ⌜ ((i : ℕ) → i < 19 → a + getD (now from) i 0 < length (now parts)) ⌝ }
     ensures { λ r. ⌜ r ≡ tab 19 (λ (i : ℕ). getD (now (parts .entry)) (a + getD (now (from .entry)) i 0) (pos 0)) ⌝ }
 {
+    let near = &parts[a..];
     let mut f = [0i32; 19];
     let mut i = 0;
     while i < 19 {
-        f[i] = parts[a + from[i]];
+        f[i] = near[from[i]];
         i += 1;
     }
     f
