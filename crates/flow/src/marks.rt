@@ -18,6 +18,23 @@ pub fn open_mark(f: u8, walled: bool) -> u8
     0
 }
 
+fn until(a: usize, end: usize) -> usize
+{
+    if a < end {
+        return a;
+    }
+    end
+}
+
+fn unmark(marks: &mut [u8], a: usize, b: usize)
+{
+    let mut c = a;
+    while c < b {
+        marks[c] = 0;
+        c += 1;
+    }
+}
+
 // Pass 0, by offsets: marks 1 at fluid cells with no wall beside them.
 pub fn mark_open_by(flags: &[u8], marks: &mut [u8], off: &[usize; 19], low: usize)
     requires { ⌜ Reaching (length (now flags)) (now off) low × (length (now marks) ≡ length (now flags)) ⌝ }
@@ -26,8 +43,14 @@ pub fn mark_open_by(flags: &[u8], marks: &mut [u8], off: &[usize; 19], low: usiz
     let end = flags.len() - low;
     let mut c = low;
     while c < end {
-        marks[c] = open_mark(flags[c], neighbours::beside(flags, off, c - low, 3));
-        c += 1;
+        let e = until(seeking::next_of(flags, c, 2), end);
+        unmark(marks, c, e);
+        c = e;
+        let f = until(c + 32, end);
+        while c < f {
+            marks[c] = open_mark(flags[c], neighbours::beside(flags, off, c - low, 3));
+            c += 1;
+        }
     }
 }
 
