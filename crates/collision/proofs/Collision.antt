@@ -8,18 +8,19 @@ use native.Mathlib.Omega.{arith}
 use lib.IntN.{ℤ, pos, negsuc, negℤ, _+ℤ_, _-ℤ_, _*ℤ_}
 use lib.Signed.{_≤ℤ_, quotZ}
 use lib.ListN.{getD}
-use Rattle.whole.specs.Bounds.{abs-above, abs-mul}
-use Rattle.whole.specs.Ring.{ring-by, quotes}
-use Rattle.whole.specs.Order.{*ℤ-mono}
-use Rattle.whole.specs.Machine.{Within, within-by}
+use Rattle.whole.specs.laws.Bounds.{abs-above, abs-mul}
+use Rattle.whole.specs.laws.Ring.{ring-by, quotes}
+use Rattle.whole.specs.laws.Order.{*ℤ-mono}
+use Rattle.whole.specs.laws.Machine.{Within, within-by}
 use Rattle.lattice.specs.declared.Flow.{Flow}
 use Rattle.lattice.specs.Lattice.{dot, Lattice}
 use Rattle.lattice.specs.Cell.{quad, relaxed, relaxationGood}
-use Rattle.lattice.specs.Body.{partsOf, vec, Tame, relaxedDir}
+use Rattle.lattice.specs.inner.Held.{partsOf, vec, Tame}
+use Rattle.lattice.specs.Body.{relaxedDir}
 use Rattle.lattice.proofs.Ranges.{relaxation-in}
 use Rattle.lattice.proofs.Reading.{reading}
 use Rattle.collision.specs.declared.collide.Common.{Common}
-use Rattle.collision.specs.Post.{CommonIs, Ready, grown}
+use Rattle.collision.specs.inner.Post.{CommonIs, Ready, grown}
 
 pub ready : (v : Flow) (p : ℤ) (k : Common) → Tame v → relaxationGood p ≡ true → CommonIs v p k → Ready k
 ready v p k t e is =

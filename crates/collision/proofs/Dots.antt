@@ -2,10 +2,10 @@
 use mathlib.Core.Path.{_≡_}
 use mathlib.Core.List.{[], _∷_}
 use lib.IntN.{negℤ, _+ℤ_, _-ℤ_}
-use Rattle.whole.specs.Ring.{ring-by, quotes}
+use Rattle.whole.specs.laws.Ring.{ring-by, quotes}
 use Rattle.lattice.specs.declared.Flow.{Flow}
 use Rattle.lattice.specs.Lattice.{dot, d3q19, open-lattice}
-use Rattle.lattice.specs.Body.{vec}
+use Rattle.lattice.specs.inner.Held.{vec}
 
 module _ (v : Flow) where
   pub dot1 : dot (d3q19 .e 1) (vec v) ≡ v .x

@@ -7,16 +7,16 @@ use native.Mathlib.Omega.{arith}
 use lib.Dec.{T, leb, leb→le}
 use lib.IntN.{ℤ, pos, negsuc, negℤ, natAbs, _+ℤ_, _-ℤ_, _*ℤ_}
 use lib.Signed.{_≤ℤ_, _<ℤ_, leZ, shrZ}
-use Rattle.whole.specs.Bools.{and-left}
-use Rattle.whole.specs.Bounds.{abs-above}
-use Rattle.whole.specs.Ring.{ring-by, quotes}
-use Rattle.whole.specs.Order.{leZ-true}
-use Rattle.whole.specs.Machine.{Within}
+use Rattle.whole.specs.laws.Bools.{and-left}
+use Rattle.whole.specs.laws.Bounds.{abs-above}
+use Rattle.whole.specs.laws.Ring.{ring-by, quotes}
+use Rattle.whole.specs.laws.Order.{leZ-true}
+use Rattle.whole.specs.laws.Machine.{Within}
 use Rattle.lattice.specs.declared.Flow.{Flow}
 use Rattle.lattice.specs.Lattice.{dot, Lattice}
 use Rattle.lattice.specs.Cell.{quad}
-use Rattle.lattice.specs.Body.{vec}
-use Rattle.collision.specs.Estimate.{even, energy, EndsAre, CrossedAre, axisEnd, axisBack, diagonalEnd, diagonalBack, EndIs, weighed, Near}
+use Rattle.lattice.specs.inner.Held.{vec}
+use Rattle.collision.specs.inner.Estimate.{even, energy, EndsAre, CrossedAre, axisEnd, axisBack, diagonalEnd, diagonalBack, EndIs, weighed, Near}
 use Rattle.collision.specs.declared.estimate.Two.{Two}
 use Rattle.collision.specs.declared.estimate.Four.{Four}
 use Rattle.collision.proofs.Loss.{Err, floor-near}

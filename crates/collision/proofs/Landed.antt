@@ -8,18 +8,19 @@ use native.Mathlib.Omega.{arith}
 use lib.Dec.{T, leb, leb→le}
 use lib.IntN.{ℤ, pos, negsuc, negℤ, natAbs, _+ℤ_, _-ℤ_, _*ℤ_}
 use lib.Signed.{clashℤ, _≤ℤ_, _<ℤ_, quotZ, shrZ, leZ, ltZ}
-use Rattle.whole.specs.Bools.{and-left, and-right}
-use Rattle.whole.specs.Machine.{Within}
-use Rattle.whole.specs.Parts.{≤-parts, <-parts, parts-<}
-use Rattle.whole.specs.Bounds.{abs-neg}
-use Rattle.whole.specs.Ring.{ring-by, ring-from, quotes}
-use Rattle.whole.specs.Order.{leZ-true, ltZ-true, ltZ-false, <ℤ→≤ℤ, to≤, to<, of<}
-use Rattle.whole.specs.Quot.{cut-only}
+use Rattle.whole.specs.laws.Bools.{and-left, and-right}
+use Rattle.whole.specs.laws.Machine.{Within}
+use Rattle.whole.specs.laws.Parts.{≤-parts, <-parts, parts-<}
+use Rattle.whole.specs.laws.Bounds.{abs-neg}
+use Rattle.whole.specs.laws.Ring.{ring-by, ring-from, quotes}
+use Rattle.whole.specs.laws.Order.{leZ-true, ltZ-true, ltZ-false, <ℤ→≤ℤ, to≤, to<, of<}
+use Rattle.whole.specs.laws.Quot.{cut-only}
 use Rattle.lattice.specs.declared.Flow.{Flow}
 use Rattle.lattice.specs.Lattice.{dot, Lattice}
 use Rattle.lattice.specs.Cell.{quad, relaxed, relaxationGood}
-use Rattle.lattice.specs.Body.{vec, relaxedDir}
-use Rattle.collision.specs.Estimate.{landed, weighed, Near}
+use Rattle.lattice.specs.inner.Held.{vec}
+use Rattle.lattice.specs.Body.{relaxedDir}
+use Rattle.collision.specs.inner.Estimate.{landed, weighed, Near}
 use Rattle.collision.proofs.Loss.{left, floor-left, left-most}
 
 module _ (e : ℕ) (f c : ℤ) where

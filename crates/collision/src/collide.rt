@@ -13,11 +13,12 @@ ghost use mathlib.Core.Path.{_≡_};
 ghost use mathlib.Core.Bool.{true};
 ghost use lib.ListN.{length};
 ghost use Rattle.whole.specs.Fold.{tab};
-ghost use Rattle.whole.specs.Machine.{Within};
+ghost use Rattle.whole.specs.laws.Machine.{Within};
 ghost use Rattle.lattice.specs.Lattice.{d3q19};
 ghost use Rattle.lattice.specs.Cell.{relaxationGood};
-ghost use Rattle.lattice.specs.Body.{partsOf, Bounded, vec, Tame, steadyFlow, collidedPart};
-ghost use Rattle.collision.specs.Post.{CommonIs, Ready, grown, Paired};
+ghost use Rattle.lattice.specs.inner.Held.{partsOf, Bounded, vec, Tame, steadyFlow};
+ghost use Rattle.lattice.specs.Body.{collidedPart};
+ghost use Rattle.collision.specs.inner.Post.{CommonIs, Ready, grown, Paired};
 
 // What the eighteen collisions of a cell share: 2ρ² − 3|j|², −6ρ, −72ρ, 73,728ρ and p.
 // The signs keep 32 x 32 → 64 products on Arm, where a factor known to be positive is widened otherwise.

@@ -3,8 +3,8 @@ ghost use mathlib.Core.Path.{_≡_};
 ghost use Prim.Native.Nat.{ℕ, _+_, _*_, _/_, _%_, _<_, _≤_};
 ghost use lib.IntN.{natAbs};
 ghost use lib.ListN.{getD};
-ghost use Rattle.whole.specs.Machine.{Within};
-ghost use Rattle.collision.specs.Estimate.{landed};
+ghost use Rattle.whole.specs.laws.Machine.{Within};
+ghost use Rattle.collision.specs.inner.Estimate.{landed};
 
 // Part f where p times its equilibrium is e in 2^-32, with c = 1024 - p.
 pub fn settled(e: u64, f: i32, c: i32) -> i32

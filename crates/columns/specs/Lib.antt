@@ -1,1 +1,1 @@
-pub mod Contents
+pub mod inner

@@ -9,7 +9,7 @@ use tunnel::cell::number;
 ghost use mathlib.Core.Path.{_≡_};
 ghost use lib.ListN.{length};
 ghost use Rattle.whole.specs.Fold.{first};
-ghost use Rattle.tunnel.specs.Asks.{InColumn};
+ghost use Rattle.tunnel.specs.inner.Asks.{InColumn};
 ghost use Rattle.tunnel.specs.Depth.{flagBad, fillBad, measuredOf, depthOf, DepthIs};
 
 // The height of the lowest flag above 3, nz if there is none.

@@ -9,8 +9,8 @@ ghost use Prim.Native.Nat.{_≤_, _<_};
 ghost use lib.Dec.{eqb};
 ghost use lib.ListN.{length};
 ghost use Rattle.whole.specs.Fold.{first};
-ghost use Rattle.tunnel.specs.Asks.{InColumn};
-ghost use Rattle.columns.specs.Contents.{ContentsAre};
+ghost use Rattle.tunnel.specs.inner.Asks.{InColumn};
+ghost use Rattle.columns.specs.inner.Contents.{ContentsAre};
 ghost use Rattle.tunnel.specs.Depth.{fillBad, readingOf, DepthIs};
 
 // What a column holds: whether every cell is wall, and the fills of the others added up.

@@ -10,7 +10,6 @@ use borrow.Author.Tests.{lt-ltb, leb-true, leb-false, le-leb, lt-leb}
 use lib.Dec.{leb, ltb}
 use lib.ListN.{length, drop, getD, drop-of-length-le}
 use lib.Seq.{drop-cons}
-use Rattle.console.specs.declared.decimal.Spelled.{Spelled}
 use Rattle.console.specs.declared.decimal.Spelled.the-variants.{Number, Unreadable}
 use Rattle.console.specs.Decimal.{isDigit, areDigits, numberAfter, spelledBy, oneMore}
 

@@ -1,5 +1,5 @@
 -- The number that decimal digits spell. Assumes nothing.
-use mathlib.Core.Bool.{Bool, true, false, _&&_, cond}
+use mathlib.Core.Bool.{Bool, true, _&&_, cond}
 use mathlib.Core.List.{List, [], _∷_}
 use Prim.Native.Nat.{ℕ, _+_, _-_, _*_}
 use lib.Dec.{leb, ltb}
@@ -28,8 +28,3 @@ spelledBy t most = cond (ltb 0 (length t) && areDigits t && leb (numberAfter 0 t
 -- one digit more after others that spell n
 abbrev pub oneMore : ℕ → ℕ → ℕ → Spelled
 oneMore n b most = cond (isDigit b && leb (10 * n + (b - 48)) most) (Number (10 * n + (b - 48))) Unreadable
-
--- names every definition of this file: whoever unfolds this computes with all of them
-unfoldable pub open-decimal : Unit {0}
-unfolding areDigits numberAfter spelledBy
-open-decimal = tt

@@ -23,8 +23,3 @@ negated Unreadable = signed.Unreadable
 unfoldable pub signedBy : List ℕ → Signed
 signedBy [] = signed.Unreadable
 signedBy (b ∷ t) = cond (eqb b 45) (negated (spelledBy t 9223372036854775808)) (kept (spelledBy (b ∷ t) 9223372036854775807))
-
--- names every definition of this file: whoever unfolds this computes with all of them
-unfoldable pub open-signed : Unit {0}
-unfolding signedBy
-open-signed = tt

@@ -1,6 +1,6 @@
 -- The columns of a grid that passed its tests can be measured: no fill is above 65,536. Assumes nothing.
 use mathlib.Core.Path.{_≡_, sym, subst}
-use mathlib.Core.Bool.{Bool, true, false}
+use mathlib.Core.Bool.{true}
 use mathlib.Core.List.{List}
 use Prim.Native.Nat.{ℕ, zero, suc, _≤_, _<_}
 use native.Mathlib.Omega.{arith}
@@ -9,11 +9,11 @@ use borrow.Author.Tests.{eqb-true, le-ltb}
 use lib.IntN.{ℤ, pos, natAbs}
 use lib.ListN.{length, getD}
 use lib.Signed.{leZ}
-use Rattle.whole.specs.Bools.{and-left, and-right}
-use Rattle.whole.specs.Bounds.{abs-below}
+use Rattle.whole.specs.laws.Bools.{and-left, and-right}
+use Rattle.whole.specs.laws.Bounds.{abs-below}
 use Rattle.whole.specs.Fold.{first}
-use Rattle.whole.specs.Order.{leZ-true}
-use Rattle.whole.specs.Search.{first-all}
+use Rattle.whole.specs.laws.Order.{leZ-true}
+use Rattle.whole.specs.laws.Search.{first-all}
 use Rattle.lattice.specs.Lattice.{d3q19, density}
 use Rattle.lattice.specs.Cell.{edgeGood}
 use Rattle.lattice.proofs.Fills.{fill-most}
@@ -23,10 +23,10 @@ use Rattle.grid.specs.State.{Lent, stateOf, byFlag}
 use Rattle.grid.specs.Step.{fillFor}
 use Rattle.grid.specs.Good.{dryGood, interfaceGood, fluidGood, fillGood, cellGood}
 use Rattle.pumps.proofs.Checked.{Passed}
-use Rattle.tunnel.specs.Asks.{InColumn}
+use Rattle.tunnel.specs.inner.Asks.{InColumn}
 use Rattle.tunnel.specs.Depth.{columnAt, fillBad}
 use Rattle.tunnel.proofs.Columns.{below-length}
-use Rattle.depths.specs.Asks.{Measured}
+use Rattle.depths.specs.inner.Asks.{Measured}
 
 fill-cases : (f : ℕ) (m ρ : ℤ) → fillFor f m ρ ≤ 65536
 unfolding fillFor

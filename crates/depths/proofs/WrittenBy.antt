@@ -1,15 +1,15 @@
 -- The writer's promise, from what its tests give. Assumes nothing.
 use mathlib.Core.Path.{_≡_, refl, sym, ap, _∙_}
-use mathlib.Core.Bool.{Bool, true, false, cond, _&&_}
+use mathlib.Core.Bool.{true, false, _&&_}
 use mathlib.Core.List.{List, _++_}
 use Prim.Native.Nat.{ℕ, suc, _≤_, _<_}
 use native.Mathlib.Omega.{arith}
 use borrow.Author.Tests.{le-leb, lt-leb}
 use lib.Dec.{leb}
 use lib.IntN.{natAbs}
-use lib.ListN.{length, drop}
+use lib.ListN.{length}
 use lib.Seq.{sets}
-use Rattle.whole.specs.Bools.{and-left, and-right}
+use Rattle.whole.specs.laws.Bools.{and-left}
 use Rattle.lattice.specs.Lattice.{Lattice, d3q19}
 use Rattle.lattice.specs.Cell.{edgeGood, coordinateGood}
 use Rattle.grid.specs.declared.Sides.{Sides}
@@ -22,11 +22,10 @@ use Rattle.grid.specs.Outcome.{accepted, orRefuse, ifNone, goodAnswer}
 use Rattle.grid.proofs.Accepted.{accepted-done, done-accepted}
 use Rattle.pumps.specs.Three.{numberIn, totalsGood, threeLengths, threeGood}
 use Rattle.pumps.proofs.Checked.{Passed, has-passed, then-checked}
-use Rattle.record.specs.declared.Written.{Written}
 use Rattle.record.proofs.Answers.{Chain, chain-or, chain-both, chain-then, or-true, or-pass, or-fail}
 use Rattle.record.proofs.Assembled.{front-put}
 use Rattle.depths.specs.declared.Corner.{Corner}
-use Rattle.depths.specs.Asks.{Measured}
+use Rattle.depths.specs.inner.Asks.{Measured}
 use Rattle.depths.specs.Outcome.{mapOf, cornerGood, mapAnswer, mapWritten, mapRoom, Wrote}
 use Rattle.depths.proofs.Measuring.{measured}
 

@@ -1,3 +1,3 @@
 pub mod Map
 pub mod Outcome
-pub mod Asks
+pub mod inner

@@ -6,7 +6,7 @@ ghost use mathlib.Core.Bool.{cond};
 ghost use Prim.Native.Nat.{_*_, _/_, _≤_, _<_};
 ghost use lib.IntN.{pos, negsuc};
 ghost use Rattle.depths.specs.Map.{depthAt};
-ghost use Rattle.depths.specs.Asks.{Measured};
+ghost use Rattle.depths.specs.inner.Asks.{Measured};
 
 // The floor of sum times edge over 65,536; a solid column has -9999.
 fn millimetres(solid: bool, sum: u32, edge: u64) -> i64

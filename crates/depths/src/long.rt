@@ -12,7 +12,7 @@ ghost use Prim.Native.Nat.{_<_};
 ghost use lib.IntN.{natAbs};
 ghost use lib.ListN.{length};
 ghost use Rattle.depths.specs.Map.{headerText, depthAt, rowText, rowsText, mapText};
-ghost use Rattle.depths.specs.Asks.{Measured};
+ghost use Rattle.depths.specs.inner.Asks.{Measured};
 
 // Six lines: their keywords, spaces and ends, -9999, and five numbers.
 fn header_length(s: Sides, t: Corner) -> usize

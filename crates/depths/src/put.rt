@@ -16,7 +16,7 @@ ghost use lib.ListN.{length};
 ghost use lib.Seq.{sets};
 ghost use Rattle.spelling.specs.Spelling.{spellOf, wholeOf, metresOf, Put};
 ghost use Rattle.depths.specs.Map.{headerText, depthAt, behind, rowText, rowsText, mapText};
-ghost use Rattle.depths.specs.Asks.{Measured};
+ghost use Rattle.depths.specs.inner.Asks.{Measured};
 
 // A header line with a number of cells; the keyword has its space behind it.
 fn put_cells(room: &mut [u8], at: usize, key: &[u8], n: usize) -> usize

@@ -9,20 +9,19 @@ use lib.IntN.{ℤ, pos, negsuc, negℤ, natAbs, _+ℤ_, _-ℤ_, _*ℤ_}
 use lib.Signed.{_<ℤ_}
 use lib.Dec.{eqb}
 use lib.ListN.{getD, replicate}
-use Rattle.whole.specs.Bools.{cond-yes, cond-no}
-use Rattle.whole.specs.Bounds.{abs-neg, abs-add, abs-sub, abs-mul}
-use Rattle.whole.specs.Fold.{dirs, total, tab}
-use Rattle.whole.specs.Machine.{Within}
-use Rattle.whole.specs.Parts.{parts-<}
-use Rattle.whole.specs.Search.{Dir}
-use Rattle.whole.specs.Sums.{sum-cong}
-use Rattle.whole.specs.Tab.{Upto, getD-tab, tab-cong}
+use Rattle.whole.specs.laws.Bools.{cond-yes, cond-no}
+use Rattle.whole.specs.laws.Bounds.{abs-neg, abs-add, abs-sub, abs-mul}
+use Rattle.whole.specs.Fold.{dirs, tab, Dir}
+use Rattle.whole.specs.laws.Machine.{Within}
+use Rattle.whole.specs.laws.Parts.{parts-<}
+use Rattle.whole.specs.laws.Sums.{sum-cong}
+use Rattle.whole.specs.laws.Tab.{Upto, getD-tab, tab-cong}
 use Rattle.lattice.specs.Lattice.{V3, dot, d3q19}
 use Rattle.lattice.specs.Cell.{positive, isPositive}
-use Rattle.lattice.specs.Body.{partsOf, Weights}
+use Rattle.lattice.specs.inner.Held.{partsOf, Weights}
 use Rattle.lattice.proofs.Paired.{paired19}
-use Rattle.grid.specs.Passes.{normalAt}
-use Rattle.excess.specs.Gifts.{back, leaningAt, targetAt, leanWeightAt, evenAt, weightAt, ofDir, Filled}
+use Rattle.grid.specs.inner.Passes.{normalAt}
+use Rattle.excess.specs.inner.Gifts.{back, leaningAt, targetAt, leanWeightAt, evenAt, weightAt, ofDir, Filled}
 use Rattle.excess.proofs.Portions.{weights-total, term-le}
 
 -- ---- arrays of the directions

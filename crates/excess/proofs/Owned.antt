@@ -6,12 +6,12 @@ use native.Mathlib.Omega.{arith}
 use lib.IntN.{ℤ, pos}
 use lib.ListN.{getD}
 use Rattle.whole.specs.Fold.{tab}
-use Rattle.whole.specs.Machine.{Within}
-use Rattle.whole.specs.Tab.{getD-tab}
+use Rattle.whole.specs.laws.Machine.{Within}
+use Rattle.whole.specs.laws.Tab.{getD-tab}
 use Rattle.lattice.specs.Lattice.{d3q19, density}
-use Rattle.lattice.specs.Body.{partsOf, Bounded}
+use Rattle.lattice.specs.inner.Held.{partsOf, Bounded}
 use Rattle.grid.proofs.Same.{density-same}
-use Rattle.excess.specs.Gifts.{Parts, densityAt}
+use Rattle.excess.specs.inner.Gifts.{Parts, densityAt}
 
 module _ (part : ℕ → ℕ → ℤ) (c : ℕ) {v : List ℤ} (e : v ≡ tab 19 (part c)) where
   own-at : (k : ℕ) → k < 19 → getD v k (pos 0) ≡ part c k

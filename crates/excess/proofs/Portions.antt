@@ -11,12 +11,12 @@ use lib.IntN.{ℤ, pos, negsuc, negℤ, natAbs, _+ℤ_, _-ℤ_, _*ℤ_}
 use lib.Signed.{quotZ}
 use lib.Dec.{eqb}
 use Rattle.whole.specs.Fold.{sum, total, dirs}
-use Rattle.whole.specs.Bounds.{abs-neg, abs-add}
-use Rattle.whole.specs.Parts.{up, is-pos, is-add, is-neg, abs-max, one-zero}
-use Rattle.whole.specs.Quot.{quot-neg}
-use Rattle.whole.specs.Ring.{neg-*ℤ, ring-by, quotes}
-use Rattle.whole.specs.Search.{first-cong}
-use Rattle.whole.specs.Sums.{sum-cong, sum-neg}
+use Rattle.whole.specs.laws.Bounds.{abs-neg, abs-add}
+use Rattle.whole.specs.laws.Parts.{is-pos, is-add, is-neg, abs-max, one-zero}
+use Rattle.whole.specs.laws.Quot.{quot-neg}
+use Rattle.whole.specs.laws.Ring.{neg-*ℤ, ring-by, quotes}
+use Rattle.whole.specs.laws.Search.{first-cong}
+use Rattle.whole.specs.laws.Sums.{sum-cong, sum-neg}
 use Rattle.lattice.specs.Cell.{isPositive, cutShare, remainder, lowestDir, share}
 
 pub sum-pos : (n : ℕ) (f : ℕ → ℕ) → sum n (λ a. pos (f a)) ≡ pos (total n f)

@@ -9,10 +9,10 @@ use mir.Val.{SFits, toZ, ofZ}
 use mir.Facts.{toZ-ofZ}
 use borrow.Author.Needs.{sfits-of}
 use borrow.Author.Tests.{eq-eqb, ne-eqb}
-use Rattle.whole.specs.Bools.{cond-yes, cond-no}
-use Rattle.whole.specs.Machine.{Val, Within, does-fit, reads-as, known, same, v+, vneg, v32, vpos}
-use Rattle.grid.specs.Passes.{normalAt}
-use Rattle.excess.specs.Gifts.{back, leaningAt}
+use Rattle.whole.specs.laws.Bools.{cond-yes, cond-no}
+use Rattle.whole.specs.laws.Machine.{Val, Within, does-fit, reads-as, known, same, v+, vneg, v32, vpos}
+use Rattle.grid.specs.inner.Passes.{normalAt}
+use Rattle.excess.specs.inner.Gifts.{back, leaningAt}
 
 pub less-none : (x : ℤ) → pos 0 -ℤ x ≡ negℤ x
 less-none x = +ℤ-idl (negℤ x)

@@ -9,16 +9,16 @@ use lib.IntN.{ℤ, pos, natAbs, _-ℤ_}
 use lib.Dec.{eqb}
 use lib.ListN.{getD}
 use borrow.Author.Tests.{eq-eqb, ne-eqb, eqb-true, eqb-false}
-use Rattle.whole.specs.Bools.{cond-yes, cond-no, or-cases, or-left, or-right}
-use Rattle.whole.specs.Bounds.{abs-sub}
-use Rattle.whole.specs.Fold.{dirs, total, all, any, anyDir, tab, open-fold}
-use Rattle.whole.specs.Machine.{Within}
-use Rattle.whole.specs.Search.{Dir, all-at}
-use Rattle.whole.specs.Sums.{sum-cong}
+use Rattle.whole.specs.laws.Bools.{cond-yes, cond-no, or-cases, or-left, or-right}
+use Rattle.whole.specs.laws.Bounds.{abs-sub}
+use Rattle.whole.specs.Fold.{dirs, total, all, any, anyDir, tab, open-fold, Dir}
+use Rattle.whole.specs.laws.Machine.{Within}
+use Rattle.whole.specs.laws.Search.{all-at}
+use Rattle.whole.specs.laws.Sums.{sum-cong}
 use Rattle.lattice.specs.Lattice.{d3q19, open-lattice}
 use Rattle.lattice.specs.Cell.{share}
-use Rattle.lattice.specs.Body.{partsOf}
-use Rattle.excess.specs.Gifts.{targetAt, evenAt, weightAt, ofDir, densityAt, excessAt, giftAt, giftFrom, Weighed, Giver}
+use Rattle.lattice.specs.inner.Held.{partsOf}
+use Rattle.excess.specs.inner.Gifts.{targetAt, evenAt, weightAt, ofDir, densityAt, excessAt, giftAt, giftFrom, Weighed, Giver}
 use Rattle.excess.proofs.Leans.{weight-counted, dir-at}
 use Rattle.excess.proofs.Portions.{share-le, share-cong, sum-pos}
 

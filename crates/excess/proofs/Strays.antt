@@ -9,12 +9,12 @@ use lib.IntN.{ℤ, pos, _+ℤ_, +ℤ-idr, +ℤ-assoc}
 use lib.Dec.{eqb}
 use lib.ListN.{getD}
 use borrow.Author.Tests.{eq-eqb, ne-eqb, eqb-false}
-use Rattle.whole.specs.Bools.{cond-yes, cond-no}
+use Rattle.whole.specs.laws.Bools.{cond-yes, cond-no}
 use Rattle.whole.specs.Fold.{sum, anyDir}
-use Rattle.whole.specs.Machine.{Within}
-use Rattle.whole.specs.Sums.{sum-abs}
-use Rattle.grid.specs.Sight.{Around}
-use Rattle.excess.specs.Gifts.{targetAt, excessAt, lostAt, strayAt, Weighed}
+use Rattle.whole.specs.laws.Machine.{Within}
+use Rattle.whole.specs.laws.Sums.{sum-abs}
+use Rattle.grid.specs.inner.Sight.{Around}
+use Rattle.excess.specs.inner.Gifts.{targetAt, excessAt, lostAt, strayAt, Weighed}
 use Rattle.excess.proofs.Sent.{excess-in}
 
 -- the offsets that the code has are the grid's

@@ -11,16 +11,16 @@ use lib.IntN.{ℤ, pos, _+ℤ_, _-ℤ_}
 use lib.Dec.{eqb, leb, ltb}
 use lib.ListN.{length, getD}
 use borrow.Author.Tests.{eq-eqb, ne-eqb, eqb-false, le-leb, lt-ltb}
-use Rattle.whole.specs.Bools.{cond-yes, cond-no, and-true}
-use Rattle.whole.specs.Fold.{sum}
-use Rattle.whole.specs.Machine.{Within}
-use Rattle.whole.specs.Search.{Dir, as-dir}
-use Rattle.whole.specs.Sums.{sum-cong, sum-abs}
+use Rattle.whole.specs.laws.Bools.{cond-yes, cond-no, and-true}
+use Rattle.whole.specs.Fold.{sum, Dir}
+use Rattle.whole.specs.laws.Machine.{Within}
+use Rattle.whole.specs.laws.Search.{as-dir}
+use Rattle.whole.specs.laws.Sums.{sum-cong, sum-abs}
 use Rattle.lattice.specs.Lattice.{d3q19}
 use Rattle.lattice.specs.Cell.{share}
 use Rattle.lattice.proofs.Paired.{paired19}
 use Rattle.grid.proofs.Ranges.{Ranged, ranged}
-use Rattle.excess.specs.Gifts.{targetAt, weightAt, densityAt, excessAt, giftAt, giftFrom, receivedAt, gatheredAt, Giver, Giving}
+use Rattle.excess.specs.inner.Gifts.{targetAt, weightAt, densityAt, excessAt, giftAt, giftFrom, receivedAt, gatheredAt, Giver, Giving}
 use Rattle.excess.proofs.Sent.{from-in}
 
 -- what the neighbour in direction a + 1 of the cell with k = c − low gives

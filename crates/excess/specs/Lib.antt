@@ -1,1 +1,1 @@
-pub mod Gifts
+pub mod inner

@@ -12,13 +12,12 @@ ghost use mathlib.Core.Path.{_≡_};
 ghost use mathlib.Core.Bool.{true};
 ghost use Prim.Native.Nat.{_<_, _-_};
 ghost use lib.ListN.{length, getD};
-ghost use Rattle.whole.specs.Fold.{tab};
-ghost use Rattle.whole.specs.Search.{Dir};
+ghost use Rattle.whole.specs.Fold.{tab, Dir};
 ghost use Rattle.lattice.specs.Lattice.{d3q19};
 ghost use Rattle.grid.specs.Grid.{cellsOf};
-ghost use Rattle.grid.specs.Passes.{lowOf, offsetOf};
-ghost use Rattle.grid.specs.Fill.{partOf};
-ghost use Rattle.excess.specs.Gifts.{roomOf, Weighed, Giver, Giving, Gathering, targetAt, excessAt, giftAt, giftFrom, receivedAt, gatheredAt};
+ghost use Rattle.grid.specs.inner.Passes.{lowOf, offsetOf};
+ghost use Rattle.grid.specs.State.{partOf};
+ghost use Rattle.excess.specs.inner.Gifts.{roomOf, Weighed, Giver, Giving, Gathering, targetAt, excessAt, giftAt, giftFrom, receivedAt, gatheredAt};
 
 // The opposite of odd i is i + 1.
 pub fn opposite(i: usize) -> usize

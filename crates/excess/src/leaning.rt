@@ -8,9 +8,9 @@ use surface::excess::weight;
 ghost use mathlib.Core.Path.{_≡_};
 ghost use lib.ListN.{length};
 ghost use Rattle.whole.specs.Fold.{tab};
-ghost use Rattle.whole.specs.Machine.{Within};
-ghost use Rattle.lattice.specs.Body.{vec};
-ghost use Rattle.excess.specs.Gifts.{Near, Filled, leaningAt, leanWeightAt, evenAt, weightAt, ofDir};
+ghost use Rattle.whole.specs.laws.Machine.{Within};
+ghost use Rattle.lattice.specs.inner.Held.{vec};
+ghost use Rattle.excess.specs.inner.Gifts.{Near, Filled, leaningAt, leanWeightAt, evenAt, weightAt, ofDir};
 
 // The normal, turned for an emptied cell.
 fn leaning(flags: &[u8], fill: &[u32], off: &[usize; 19], k: usize, m: u8) -> Flow

@@ -11,12 +11,12 @@ ghost use Prim.Native.Nat.{_<_};
 ghost use lib.IntN.{_+ℤ_};
 ghost use lib.ListN.{length};
 ghost use Rattle.whole.specs.Fold.{sum, tab};
-ghost use Rattle.whole.specs.Machine.{Within};
+ghost use Rattle.whole.specs.laws.Machine.{Within};
 ghost use Rattle.grid.specs.Grid.{cellsOf};
-ghost use Rattle.grid.specs.Passes.{lowOf, offsetOf};
-ghost use Rattle.grid.specs.Sight.{Around};
-ghost use Rattle.grid.specs.Fill.{partOf};
-ghost use Rattle.excess.specs.Gifts.{roomOf, Weighed, Straying, lostAt, strayAt};
+ghost use Rattle.grid.specs.inner.Passes.{lowOf, offsetOf};
+ghost use Rattle.grid.specs.inner.Sight.{Around};
+ghost use Rattle.grid.specs.State.{partOf};
+ghost use Rattle.excess.specs.inner.Gifts.{roomOf, Weighed, Straying, lostAt, strayAt};
 
 // What cell c with mark m has left for no one.
 fn lost(

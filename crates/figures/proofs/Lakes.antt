@@ -5,18 +5,17 @@ use mathlib.Core.List.{List, [], _∷_, _++_}
 use Prim.Native.Nat.{ℕ}
 use lib.Dec.{T, eqb}
 use lib.IntN.{ℤ}
-use Rattle.whole.specs.Bools.{T-true}
+use Rattle.whole.specs.laws.Bools.{T-true}
 use Rattle.whole.specs.Fold.{open-fold}
 use Rattle.lattice.specs.Lattice.{open-lattice}
 use Rattle.lattice.specs.Cell.{open-cell}
 use Rattle.grid.specs.declared.Answer.{Answer}
 use Rattle.grid.specs.declared.Answer.the-variants.{Done, Refused}
 use Rattle.grid.specs.Grid.{sidesGood, gridOf, open-grid}
-use Rattle.grid.specs.State.{open-state}
+use Rattle.grid.specs.State.{open-state, flagOf}
 use Rattle.grid.specs.Step.{open-step}
 use Rattle.grid.specs.Good.{open-good}
 use Rattle.grid.specs.Outcome.{accepted, open-outcome}
-use Rattle.grid.specs.Passes.{flagOf}
 use Rattle.pumps.specs.Three.{threeGood, open-three}
 use Rattle.pools.specs.Outcome as pools
 use Rattle.pools.specs.Outcome.{tested}

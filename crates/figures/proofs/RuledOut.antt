@@ -2,15 +2,11 @@
 -- copies after the first step or invents a count. Each is computed from the definitions. Assumes nothing.
 use mathlib.Core.Path.{_≡_, sym, _∙_, subst}
 use mathlib.Core.Bool.{Bool, true, false, not}
-use mathlib.Core.List.{List}
-use Prim.Native.Nat.{ℕ}
 use lib.Dec.{T, eqb}
-use lib.IntN.{ℤ, pos}
+use lib.IntN.{pos}
 use Rattle.whole.specs.Fold.{open-fold}
 use Rattle.lattice.specs.Lattice.{open-lattice}
 use Rattle.lattice.specs.Cell.{open-cell}
-use Rattle.grid.specs.declared.Answer.{Answer}
-use Rattle.grid.specs.declared.Answer.the-variants.{Done, Refused}
 use Rattle.grid.specs.Grid.{open-grid}
 use Rattle.grid.specs.State.{Lent, open-state}
 use Rattle.grid.specs.Step.{open-step}

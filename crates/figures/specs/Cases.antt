@@ -8,7 +8,7 @@ use lib.ListN.{replicate, set}
 use lib.Seq.{sets}
 use Rattle.whole.specs.Fold.{tab}
 use Rattle.lattice.specs.Lattice.{d3q19}
-use Rattle.lattice.specs.Body.{stillPart}
+use Rattle.lattice.specs.Body.{equilibriumPart}
 use Rattle.lattice.specs.declared.Settings.{Settings}
 use Rattle.grid.specs.declared.Sides.{Sides}
 use Rattle.grid.specs.State.{Lent, lent}
@@ -68,7 +68,7 @@ abbrev pub rowSides : Sides
 rowSides = record { nx = 5; ny = 3; nz = 3 }
 
 abbrev still : ℤ → List ℤ
-still ρ = tab 19 (stillPart d3q19 ρ (record { x = pos 0; y = pos 0; z = pos 0 }))
+still ρ = tab 19 (equilibriumPart d3q19 ρ (record { x = pos 0; y = pos 0; z = pos 0 }))
 
 abbrev pub row : Lent
 row =

@@ -10,7 +10,7 @@ use Rattle.grid.specs.declared.Answer.{Answer}
 use Rattle.grid.specs.State.{Lent, Scene}
 use Rattle.grid.specs.Step.{newFlag, newPart, newMass, newFill, excess, normal, gift}
 use Rattle.lattice.specs.Body.{eqZ}
-use Rattle.grid.specs.Outcome.{numberOf, placeOf, checkAnswer, sceneOf, stepAnswer, stepSecond, stepMarks}
+use Rattle.grid.specs.Outcome.{numberOf, placeOf, checkAnswer, sceneOf, stepAnswer, stepSecond}
 use Rattle.pumps.specs.Three.{numberIn, withTotals}
 use Rattle.pumps.specs.Acts.{actedNumber, actedPlace, actedMoved, movedOf, actAnswer, actSet, actedBy}
 use Rattle.pumps.specs.Demands.{balance}
@@ -25,7 +25,7 @@ use Rattle.profile.specs.declared.Profiled.{Profiled}
 use Rattle.profile.specs.Kinds.{lineKind}
 use Rattle.profile.specs.Profile.{seen, depthAt}
 use Rattle.profile.specs.Outcome.{profileAnswer, profiledNumber, profiledPlace, wetOf, deepestOf}
-use Rattle.figures.specs.Cases.{sides, settings, falling, single, rest, fallen, caseT, marks, calm, rowSides, row, poolSides, pool}
+use Rattle.figures.specs.Cases.{sides, falling, single, fallen, caseT, marks, calm, rowSides, row, poolSides, pool}
 use Rattle.figures.specs.Gutter.{points, chainages, along}
 use Rattle.figures.specs.Surface.{wordsT, cube, two, wordsTwo, past}
 
@@ -55,7 +55,7 @@ pulledBy gx = stepAnswer sides (record { p = pos 1024; gx = gx; gy = pos 0; gz =
 -- placing in a grid of 10×3×3 cells at the height and side of its origin, where the cell's number is its place on the axis of 10
 abbrev placed : ℤ → Placed
 placed point =
-    placing.placeOf (record { nx = 10; ny = 3; nz = 3 }) (pos 50) (record { x = pos 5200000000; y = pos 0; z = pos 0 }) (record { x = point; y = pos 0; z = pos 0 })
+    placing.placingOf (record { nx = 10; ny = 3; nz = 3 }) (pos 50) (record { x = pos 5200000000; y = pos 0; z = pos 0 }) (record { x = point; y = pos 0; z = pos 0 })
 
 abbrev found : ℤ → ℕ → ℕ → Figure
 found point number cell = record { worked = pos (refusalNumber (placed point)) ∷ pos (cellNumber (placed point)) ∷ []; said = pos number ∷ pos cell ∷ [] }

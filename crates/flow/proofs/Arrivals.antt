@@ -6,17 +6,15 @@ use Prim.Native.Nat.{ℕ, zero, suc, _+_, _-_, _*_, _%_, _≤_, _<_}
 use native.Mathlib.Omega.{arith}
 use lib.Dec.{eqb}
 use lib.IntN.{ℤ, pos, _-ℤ_}
-use lib.ListN.{length, getD}
+use lib.ListN.{getD}
 use borrow.Author.Tests.{eq-eqb, ne-eqb, eqb-true}
-use Rattle.whole.specs.Fold.{tab}
-use Rattle.whole.specs.Tab.{getD-tab, tab-cong}
-use Rattle.lattice.specs.Lattice.{V3, dot, pairOpp, d3q19, density, momentum}
-use Rattle.lattice.specs.Cell.{gas}
+use Rattle.lattice.specs.Lattice.{dot, pairOpp, d3q19, density, momentum}
+use Rattle.lattice.specs.Cell.{gasPair}
 use Rattle.lattice.specs.declared.Settings.{Settings}
 use Rattle.grid.specs.State.{Scene, byFlag, liquid}
-use Rattle.grid.specs.Step.{oldDensity, oldMomentum, leansTo, rebuilt, rebuild, arrives, streamed}
-use Rattle.grid.specs.Sight.{sight, Around}
-use Rattle.flow.specs.Sources.{Mirrored, sourceOf, Immersed}
+use Rattle.grid.specs.Step.{oldDensity, oldMomentum, leansTo, rebuilds, rebuiltPart, arrives, streamed}
+use Rattle.grid.specs.inner.Sight.{sight, Around}
+use Rattle.flow.specs.inner.Sources.{Mirrored, sourceOf, Immersed}
 
 -- ---- opposite directions: an odd one and the one after it
 
@@ -54,11 +52,11 @@ wall-case (suc (suc zero)) b r a o h = absurd (omega arith)
 wall-case (suc (suc (suc n))) b r a o h = refl
 
 -- empty, or the cell leans there
-rebuilt-case : (f : ℕ) (b : Bool) (r a o : ℤ) → f ≤ 2 → (eqb f 0 || b) ≡ true → cond (byFlag f true b b false) r (byFlag f (pos 0) a a o) ≡ r
-rebuilt-case zero b r a o h e = refl
-rebuilt-case (suc zero) b r a o h e = rw e refl
-rebuilt-case (suc (suc zero)) b r a o h e = rw e refl
-rebuilt-case (suc (suc (suc n))) b r a o h e = absurd (omega arith)
+rebuilds-case : (f : ℕ) (b : Bool) (r a o : ℤ) → f ≤ 2 → (eqb f 0 || b) ≡ true → cond (byFlag f true b b false) r (byFlag f (pos 0) a a o) ≡ r
+rebuilds-case zero b r a o h e = refl
+rebuilds-case (suc zero) b r a o h e = rw e refl
+rebuilds-case (suc (suc zero)) b r a o h e = rw e refl
+rebuilds-case (suc (suc (suc n))) b r a o h e = absurd (omega arith)
 
 liquid-case : (f : ℕ) (b : Bool) (r a o : ℤ) → f ≤ 2 → (eqb f 0 || b) ≡ false → cond (byFlag f true b b false) r (byFlag f (pos 0) a a o) ≡ a
 liquid-case zero b r a o h e = absurd (false≢true (sym e))
@@ -91,21 +89,21 @@ module _ (weights : ℕ → ℕ) (flags : List ℕ) (part : ℕ → ℕ → ℤ)
 
   module _ (c b i k : ℕ) (e : b ≡ (c - low) + getD off i 0) where
     pub arrives-wall : 2 < getD flags b 3 → arrives S c i k ≡ part c i
-    unfolding arrives rebuilt sight
-    arrives-wall h = wall-case (getD flags (beside c i) 3) (leansTo S c i) (rebuild S c i) (part (beside c i) k) (part c i) (subst (λ (n : ℕ). 2 < getD flags n 3) e h)
+    unfolding arrives rebuilds sight
+    arrives-wall h = wall-case (getD flags (beside c i) 3) (leansTo S c i) (rebuiltPart S c i) (part (beside c i) k) (part c i) (subst (λ (n : ℕ). 2 < getD flags n 3) e h)
 
     pub arrives-rebuilt : getD flags b 3 ≤ 2 → (eqb (getD flags b 3) 0 || leansTo S c i) ≡ true
         → arrives S c i k
-        ≡ gas (weights i) (density d3q19 (part c)) (dot (d3q19 .e i) (momentum d3q19 (part c))) (dot (momentum d3q19 (part c)) (momentum d3q19 (part c))) -ℤ part c i
-    unfolding arrives rebuilt rebuild oldDensity oldMomentum sight density momentum
+        ≡ gasPair (weights i) (density d3q19 (part c)) (dot (d3q19 .e i) (momentum d3q19 (part c))) (dot (momentum d3q19 (part c)) (momentum d3q19 (part c))) -ℤ part c i
+    unfolding arrives rebuilds rebuiltPart oldDensity oldMomentum sight density momentum
     arrives-rebuilt h l =
-        rebuilt-case (getD flags (beside c i) 3) (leansTo S c i) (rebuild S c i) (part (beside c i) k) (part c i)
+        rebuilds-case (getD flags (beside c i) 3) (leansTo S c i) (rebuiltPart S c i) (part (beside c i) k) (part c i)
         (subst (λ (n : ℕ). getD flags n 3 ≤ 2) e h) (subst (λ (n : ℕ). (eqb (getD flags n 3) 0 || leansTo S c i) ≡ true) e l)
 
     pub arrives-liquid : getD flags b 3 ≤ 2 → (eqb (getD flags b 3) 0 || leansTo S c i) ≡ false → arrives S c i k ≡ part b k
-    unfolding arrives rebuilt sight
+    unfolding arrives rebuilds sight
     arrives-liquid h l =
-        liquid-case (getD flags (beside c i) 3) (leansTo S c i) (rebuild S c i) (part (beside c i) k) (part c i)
+        liquid-case (getD flags (beside c i) 3) (leansTo S c i) (rebuiltPart S c i) (part (beside c i) k) (part c i)
         (subst (λ (n : ℕ). getD flags n 3 ≤ 2) e h) (subst (λ (n : ℕ). (eqb (getD flags n 3) 0 || leansTo S c i) ≡ false) e l)
         ∙ ap (λ (n : ℕ). part n k) (sym e)
 

@@ -1,42 +1,43 @@
 -- Stages 3 and 4 of a cell, as the code works them out from the array of what streamed in: density, momentum, test and parts are the definitions'.
 -- Assumes nothing.
-use mathlib.Core.Path.{_≡_, refl, sym, ap, ap₂, _∙_, subst}
+use mathlib.Core.Path.{_≡_, refl, sym, ap, ap₂, _∙_}
 use mathlib.Core.Bool.{Bool, true, false, _&&_, not, false≢true}
 use mathlib.Core.List.{List, []}
 use Prim.Native.Nat.{ℕ, zero, suc, _+_, _*_, _≤_, _<_}
 use native.Mathlib.Omega.{arith}
 use lib.IntN.{ℤ, pos, natAbs, _+ℤ_, _-ℤ_}
 use lib.ListN.{length, getD, replicate}
-use Rattle.whole.specs.Bools.{and-left, and-right}
-use Rattle.whole.specs.Bounds.{abs-add}
-use Rattle.whole.specs.Fold.{sum, dirs, tab, open-fold}
-use Rattle.whole.specs.Machine.{Within}
-use Rattle.whole.specs.Sums.{sum-cong}
-use Rattle.whole.specs.Tab.{length-tab, getD-tab, tab-cong}
+use Rattle.whole.specs.laws.Bools.{and-left, and-right}
+use Rattle.whole.specs.laws.Bounds.{abs-add}
+use Rattle.whole.specs.Fold.{tab, open-fold}
+use Rattle.whole.specs.laws.Machine.{Within}
+use Rattle.whole.specs.laws.Sums.{sum-cong}
+use Rattle.whole.specs.laws.Tab.{length-tab, getD-tab, tab-cong}
 use Rattle.lattice.specs.Lattice.{V3, dot, d3q19, density, momentum}
 use Rattle.lattice.specs.Cell.{dense, slow, pull, quad, relaxed, relaxationGood, gravityGood}
-use Rattle.lattice.specs.Body.{partsOf, Bounded, vec, steadyFlow, bodyGood, relaxedDir, collidedPart}
+use Rattle.lattice.specs.inner.Held.{partsOf, Bounded, vec, steadyFlow}
+use Rattle.lattice.specs.Body.{bodyGood, relaxedDir, collidedPart}
 use Rattle.lattice.specs.declared.Flow.{Flow}
 use Rattle.lattice.specs.declared.Settings.{Settings}
 use Rattle.lattice.proofs.Momentum.{x-in, y-in, z-in, density-in}
 use Rattle.lattice.proofs.Ranges.{weak-x, weak-y, weak-z}
 use Rattle.lattice.proofs.Tame.{pull-in}
 use Rattle.lattice.proofs.Paired.{paired19}
-use Rattle.collision.specs.Post.{Pulled}
+use Rattle.collision.specs.inner.Post.{Pulled}
 use Rattle.turbulence.proofs.Laws.{own-cong}
 use Rattle.grid.specs.State.{Scene, byFlag, liquid}
-use Rattle.grid.specs.Step.{streamed, newDensity, newMomentum, tooFast, collidedDir, collided}
+use Rattle.grid.specs.Step.{streamed, streamedDensity, streamedMomentum, unsteady, collidedDir, collided}
 use Rattle.grid.specs.Mode.{ownAt, relaxIn, before}
-use Rattle.grid.specs.Between.{movedPart}
+use Rattle.grid.specs.inner.Between.{movedPart}
 use Rattle.grid.specs.Outcome.{settingsGood}
-use Rattle.grid.specs.Sight.{weighing, sight}
-use Rattle.grid.specs.Pasted.{pasted}
+use Rattle.grid.specs.inner.Sight.{weighing, sight}
+use Rattle.grid.specs.inner.Pasted.{pasted}
 use Rattle.grid.proofs.Blocks.{length-pasted}
 use Rattle.grid.proofs.Same.{density-same, momentum-same, body-same}
 use Rattle.flow.specs.declared.moving.Put.{Put}
-use Rattle.flow.specs.PutAt.{Told, PutAt}
-use Rattle.flow.specs.Relaxed.{relaxedBy}
-use Rattle.flow.proofs.Plain.{axial19, streamed-same, new-density-same, new-momentum-same}
+use Rattle.flow.specs.inner.PutAt.{Told, PutAt}
+use Rattle.flow.specs.inner.Relaxed.{relaxedBy}
+use Rattle.flow.proofs.Plain.{axial19, streamed-same, streamed-density-same, streamed-momentum-same}
 
 by-liquid {ℓ} : {A : Type ℓ} (f : ℕ) (d x : A) → liquid f ≡ true → byFlag f d x x d ≡ x
 by-liquid zero d x h = absurd (false≢true h)
@@ -52,8 +53,8 @@ module _ (weights : ℕ → ℕ) (flags : List ℕ) (part : ℕ → ℕ → ℤ)
   pub part-is : (k : ℕ) → k ≤ 18 → partsOf f k ≡ streamed S c k
   part-is k h = ap (λ (x : List ℤ). getD x k (pos 0)) e ∙ getD-tab 19 _ (pos 0) k (omega arith)
 
-  pub density-is : density d3q19 (partsOf f) ≡ newDensity S c
-  unfolding newDensity sight d3q19 density
+  pub density-is : density d3q19 (partsOf f) ≡ streamedDensity S c
+  unfolding streamedDensity sight d3q19 density
   density-is = density-same d3q19 (partsOf f) (streamed S c) part-is
 
   pub momentum-is : momentum d3q19 (partsOf f) ≡ momentum d3q19 (streamed S c)
@@ -62,17 +63,17 @@ module _ (weights : ℕ → ℕ) (flags : List ℕ) (part : ℕ → ℕ → ℤ)
 
   -- the flow with gravity
   module _ (v w : Flow) (r : v .rho ≡ density d3q19 (partsOf f)) (j : vec v ≡ momentum d3q19 (partsOf f)) (p : Pulled v g w) where
-    rho-old : v .rho ≡ newDensity S c
+    rho-old : v .rho ≡ streamedDensity S c
     rho-old = r ∙ density-is
 
     vec-old : vec v ≡ momentum d3q19 (streamed S c)
     vec-old = j ∙ momentum-is
 
-    pub rho-is : w .rho ≡ newDensity S c
+    pub rho-is : w .rho ≡ streamedDensity S c
     rho-is = p .rho ∙ rho-old
 
-    pub vec-is : vec w ≡ newMomentum S c
-    unfolding newMomentum sight momentum
+    pub vec-is : vec w ≡ streamedMomentum S c
+    unfolding streamedMomentum sight momentum
     vec-is t = record {
       x = (p .x ∙ ap₂ _+ℤ_ (ap (λ (m : V3). m .x) vec-old) (ap (λ (z : ℤ). pull z (g .gx)) rho-old)) t;
       y = (p .y ∙ ap₂ _+ℤ_ (ap (λ (m : V3). m .y) vec-old) (ap (λ (z : ℤ). pull z (g .gy)) rho-old)) t;
@@ -85,8 +86,8 @@ module _ (weights : ℕ → ℕ) (flags : List ℕ) (part : ℕ → ℕ → ℤ)
     passed false b h = absurd (false≢true h)
 
     -- stage 3's test
-    pub steady-is : liquid (getD flags c 3) ≡ true → steadyFlow w ≡ not (tooFast S c)
-    unfolding steadyFlow tooFast sight
+    pub steady-is : liquid (getD flags c 3) ≡ true → steadyFlow w ≡ not (unsteady S c)
+    unfolding steadyFlow unsteady sight
     steady-is l =
         ap₂ (λ (x : ℤ) (m : V3). dense x && slow x (dot m m)) rho-is vec-is
         ∙ passed (liquid (getD flags c 3)) _ l
@@ -95,24 +96,24 @@ module _ (weights : ℕ → ℕ) (flags : List ℕ) (part : ℕ → ℕ → ℤ)
     abbrev pace : ℤ
     pace = relaxedBy (g .turbulent) (weighing weights) (w .rho) (vec w) (g .p) (partsOf f)
 
-    abbrev calm : Scene
-    calm = before (weighing weights) (S .grid) (S .old .flag) (S .old .part) (S .old .fill) (S .g)
+    abbrev plain : Scene
+    plain = before (weighing weights) (S .grid) (S .old .flag) (S .old .part) (S .old .fill) (S .g)
 
-    pace-in : (mode : Bool) → relaxedBy mode (weighing weights) (w .rho) (vec w) (g .p) (partsOf f) ≡ relaxIn mode calm (g .p) c
+    pace-in : (mode : Bool) → relaxedBy mode (weighing weights) (w .rho) (vec w) (g .p) (partsOf f) ≡ relaxIn mode plain (g .p) c
     unfolding relaxedBy ownAt sight d3q19
     pace-in false = refl
     pace-in true =
-        own-cong (weighing weights) (w .rho) (newDensity calm c) (vec w) (newMomentum calm c) (g .p) (partsOf f) (streamed calm c)
-        (rho-is ∙ new-density-same (weighing weights) (paired19 .dir) axial19 (S .grid) (S .grid) (S .old .flag) part (S .old .fill) c (λ i h. refl) (S .old .mass) (calm .old .mass) (S .old .carry) (calm .old .carry) (S .g) (S .g) (S .relax) (calm .relax))
-        (vec-is ∙ new-momentum-same (weighing weights) (paired19 .dir) axial19 (S .grid) (S .grid) (S .old .flag) part (S .old .fill) c (λ i h. refl) (S .old .mass) (calm .old .mass) (S .old .carry) (calm .old .carry) (S .g) (S .relax) (calm .relax))
-        (λ i h. part-is i h ∙ streamed-same (weighing weights) (paired19 .dir) axial19 (S .grid) (S .grid) (S .old .flag) part (S .old .fill) c (λ i h. refl) (S .old .mass) (calm .old .mass) (S .old .carry) (calm .old .carry) (S .g) (S .g) (S .relax) (calm .relax) i h)
+        own-cong (weighing weights) (w .rho) (streamedDensity plain c) (vec w) (streamedMomentum plain c) (g .p) (partsOf f) (streamed plain c)
+        (rho-is ∙ streamed-density-same (weighing weights) (paired19 .dir) axial19 (S .grid) (S .grid) (S .old .flag) part (S .old .fill) c (λ i h. refl) (S .old .mass) (plain .old .mass) (S .old .carry) (plain .old .carry) (S .g) (S .g) (S .relax) (plain .relax))
+        (vec-is ∙ streamed-momentum-same (weighing weights) (paired19 .dir) axial19 (S .grid) (S .grid) (S .old .flag) part (S .old .fill) c (λ i h. refl) (S .old .mass) (plain .old .mass) (S .old .carry) (plain .old .carry) (S .g) (S .relax) (plain .relax))
+        (λ i h. part-is i h ∙ streamed-same (weighing weights) (paired19 .dir) axial19 (S .grid) (S .grid) (S .old .flag) part (S .old .fill) c (λ i h. refl) (S .old .mass) (plain .old .mass) (S .old .carry) (plain .old .carry) (S .g) (S .g) (S .relax) (plain .relax) i h)
 
     pace-is : pace ≡ S .relax c
     unfolding sight
     pace-is = pace-in (g .turbulent)
 
     along : (i : ℕ) → i ≤ 18 → relaxedDir (weighing weights) (w .rho) (vec w) pace (partsOf f) i ≡ collidedDir S c i
-    unfolding relaxedDir collidedDir sight
+    unfolding relaxedDir sight
     along i h t = relaxed (pace-is t) (weights i) (quad (rho-is t) (dot (d3q19 .e i) (vec-is t)) (dot (vec-is t) (vec-is t))) (rho-is t) (part-is i h t)
 
     -- stage 4
@@ -152,7 +153,7 @@ module _ (weights : ℕ → ℕ) (flags : List ℕ) (part : ℕ → ℕ → ℤ)
         unfolding sight
         told-accepted b y e r o = record {
           ok = y ∙ sym e ∙ steady-is l;
-          rho = λ h. r ∙ rho-is ∙ sym (kind (pos 0) (newDensity S c));
+          rho = λ h. r ∙ rho-is ∙ sym (kind (pos 0) (streamedDensity S c));
           fair = λ h. o ∙ fair-is ∙ sym (kind true (bodyGood d3q19 (collided S c)));
         }
 
@@ -179,15 +180,15 @@ module _ (weights : ℕ → ℕ) (flags : List ℕ) (part : ℕ → ℕ → ℤ)
   unfolding movedPart sight open-fold
   none = tab-cong 19 (movedPart T c) (λ k. pos 0) (pos 0) (λ k h. by-dry (getD flags c 3) (pos 0) (collided T c k) d)
 
-  fast : tooFast T c ≡ false
-  unfolding tooFast sight
-  fast = ap (λ (b : Bool). b && not (dense (newDensity T c) && slow (newDensity T c) (dot (newMomentum T c) (newMomentum T c)))) d
+  fast : unsteady T c ≡ false
+  unfolding unsteady sight
+  fast = ap (λ (b : Bool). b && not (dense (streamedDensity T c) && slow (streamedDensity T c) (dot (streamedMomentum T c) (streamedMomentum T c)))) d
 
   pub told-dry : Told T c (record { ok = true; fair = true; rho = pos 0 })
   unfolding sight
   told-dry = record {
     ok = sym (ap not fast);
-    rho = λ h. sym (by-dry (getD flags c 3) (pos 0) (newDensity T c) d);
+    rho = λ h. sym (by-dry (getD flags c 3) (pos 0) (streamedDensity T c) d);
     fair = λ h. sym (by-dry (getD flags c 3) true (bodyGood d3q19 (collided T c)) d);
   }
 

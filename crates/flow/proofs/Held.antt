@@ -8,8 +8,8 @@ use lib.Signed.{mag, natAbs-le}
 use mir.Syntax.{w32, w64}
 use mir.Val.{toZ, ofZ, hbits}
 use mir.Facts.{toZ-ofZ}
-use Rattle.whole.specs.Bounds.{abs-sub}
-use Rattle.whole.specs.Machine.{Within}
+use Rattle.whole.specs.laws.Bounds.{abs-sub}
+use Rattle.whole.specs.laws.Machine.{Within}
 
 pub held32 : (z : ℤ) → mag z < 2 ^ hbits w32 → toZ w32 (ofZ w32 z) ≡ z
 held32 z h = toZ-ofZ {w = w32} {z = z} (record { sfits = h })

@@ -9,21 +9,21 @@ use lib.IntN.{ℤ, pos, negsuc, natAbs, _-ℤ_}
 use lib.ListN.{getD, replicate}
 use lib.Signed.{ltZ}
 use borrow.Author.Tests.{lt-ltb, ne-eqb}
-use Rattle.whole.specs.Bounds.{abs-sub}
+use Rattle.whole.specs.laws.Bounds.{abs-sub}
 use Rattle.whole.specs.Fold.{tab, open-fold}
-use Rattle.whole.specs.Machine.{Within}
-use Rattle.whole.specs.Tab.{tab-cong}
+use Rattle.whole.specs.laws.Machine.{Within}
+use Rattle.whole.specs.laws.Tab.{tab-cong}
 use Rattle.lattice.specs.Lattice.{V3, dot, d3q19}
 use Rattle.lattice.specs.Cell.{isPositive}
-use Rattle.lattice.specs.Body.{vec}
+use Rattle.lattice.specs.inner.Held.{vec}
 use Rattle.lattice.specs.declared.Flow.{Flow}
 use Rattle.lattice.specs.declared.Settings.{Settings}
 use Rattle.grid.specs.State.{Scene, byFlag}
 use Rattle.grid.specs.Step.{seen, normal, leansTo}
-use Rattle.grid.specs.Passes.{seenAt, seenBeside, normalAt, Sloping}
-use Rattle.grid.specs.Sight.{sight}
+use Rattle.grid.specs.inner.Passes.{seenAt, seenBeside, normalAt, Sloping}
+use Rattle.grid.specs.inner.Sight.{sight}
 use Rattle.grid.proofs.Slopes.{seen-in, vector, dot-turn}
-use Rattle.flow.specs.Sources.{leanAt}
+use Rattle.flow.specs.inner.Sources.{leanAt}
 
 -- the code's test
 pub above-zero : (x : ℤ) → ltZ (pos 0) x ≡ isPositive x

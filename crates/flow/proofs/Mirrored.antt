@@ -1,24 +1,23 @@
 -- A grid's offsets are mirrored: opposite neighbours of the lowest inner cell lie as far before it as after it. One test of arithmetic for all pairs.
 -- And what the step's grid says of an inner cell is what the functions of one cell ask. Assumes nothing.
-use mathlib.Core.Path.{_≡_, refl, sym, ap, ap₂, _∙_, subst}
+use mathlib.Core.Path.{_≡_, sym, ap, ap₂, _∙_, subst}
 use mathlib.Core.Bool.{true}
 use mathlib.Core.List.{List}
 use Prim.Native.Nat.{ℕ, _+_, _-_, _≤_, _<_}
 use native.Mathlib.Omega.{arith}
 use lib.ListN.{getD}
-use Rattle.whole.specs.Fold.{tab, open-fold}
-use Rattle.whole.specs.Search.{Dir}
-use Rattle.whole.specs.Tab.{getD-tab}
+use Rattle.whole.specs.Fold.{tab, open-fold, Dir}
+use Rattle.whole.specs.laws.Tab.{getD-tab}
 use Rattle.lattice.specs.Lattice.{pairOpp, open-lattice}
 use Rattle.grid.specs.declared.Sides.{Sides}
 use Rattle.grid.specs.Grid.{cellsOf, gridOf, toward}
 use Rattle.grid.specs.State.{liquid}
-use Rattle.grid.specs.Passes.{Inner, lowOf, offsetOf}
-use Rattle.grid.specs.Sight.{Around}
+use Rattle.grid.specs.inner.Passes.{Inner, lowOf, offsetOf}
+use Rattle.grid.specs.inner.Sight.{Around}
 use Rattle.grid.proofs.Beside.{Offsets, above, place-is, place-low}
 use Rattle.grid.proofs.Offsets.{near-self}
 use Rattle.grid.proofs.Offsets.{listed}
-use Rattle.flow.specs.Sources.{Mirrored, Immersed}
+use Rattle.flow.specs.inner.Sources.{Mirrored, Immersed}
 use Rattle.flow.proofs.Arrivals.{opposite-low}
 
 sums : (s : Sides) → tab 19 (λ i. offsetOf s i + offsetOf s (pairOpp i)) ≡ tab 19 (λ i. lowOf s + lowOf s)

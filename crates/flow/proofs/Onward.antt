@@ -1,23 +1,23 @@
 -- From one cell's sight to the step's scene: the test of stage 3, the moved parts, masses and marks. A liquid cell's neighbours are where the offsets
 -- say; of any other cell nothing is asked. Assumes nothing.
-use mathlib.Core.Path.{_≡_, refl, sym, ap, ap₂, _∙_, subst}
+use mathlib.Core.Path.{_≡_, refl, ap, ap₂, _∙_}
 use mathlib.Core.Bool.{Bool, true, false, cond}
 use mathlib.Core.List.{List, []}
 use Prim.Native.Nat.{ℕ, zero, suc, _+_, _-_, _*_, _≤_, _<_}
 use native.Mathlib.Omega.{arith}
 use lib.IntN.{ℤ, pos}
-use lib.ListN.{length, getD}
+use lib.ListN.{getD}
 use Rattle.lattice.specs.Lattice.{d3q19}
 use Rattle.lattice.specs.Cell.{over, under}
 use Rattle.lattice.specs.declared.Settings.{Settings}
 use Rattle.lattice.proofs.Paired.{paired19}
 use Rattle.grid.specs.Grid.{Grid}
 use Rattle.grid.specs.State.{Scene, byFlag, liquid}
-use Rattle.grid.specs.Step.{newDensity, tradedMass, tooFast, collided}
-use Rattle.grid.specs.Between.{movedPart, movedMass, firstMark}
+use Rattle.grid.specs.Step.{streamedDensity, tradedMass, unsteady, collided}
+use Rattle.grid.specs.inner.Between.{movedPart, movedMass, firstMark}
 use Rattle.grid.specs.Mode.{sceneBy}
-use Rattle.grid.specs.Sight.{weighing, sight}
-use Rattle.flow.proofs.Plain.{axial19, new-density-same, too-fast-same, relax-same, collided-same, traded-mass-same}
+use Rattle.grid.specs.inner.Sight.{weighing, sight}
+use Rattle.flow.proofs.Plain.{axial19, streamed-density-same, unsteady-same, relax-same, collided-same, traded-mass-same}
 
 -- ---- by cases on the flag alone
 dry-part : (f : ℕ) (x y : ℤ) → (liquid f ≡ true → x ≡ y) → byFlag f (pos 0) x x (pos 0) ≡ byFlag f (pos 0) y y (pos 0)
@@ -62,16 +62,16 @@ module _ (weights : ℕ → ℕ) (G : Grid) (g : Settings) (flags : List ℕ) (p
 
   -- stages 1, 3 and 4
   module _ (l : liquid (getD flags c 3) ≡ true) where
-    pub density-seen : newDensity seen c ≡ newDensity step c
+    pub density-seen : streamedDensity seen c ≡ streamedDensity step c
     unfolding sight
     density-seen =
-        new-density-same (weighing weights) (paired19 .dir) axial19 (seen .grid) (step .grid) (step .old .flag) (step .old .part) (step .old .fill) c (near l)
+        streamed-density-same (weighing weights) (paired19 .dir) axial19 (seen .grid) (step .grid) (step .old .flag) (step .old .part) (step .old .fill) c (near l)
         (seen .old .mass) (step .old .mass) (seen .old .carry) (step .old .carry) (seen .g) (step .g) (seen .relax) (step .relax)
 
-    wet-fast : tooFast seen c ≡ tooFast step c
+    wet-fast : unsteady seen c ≡ unsteady step c
     unfolding sight
     wet-fast =
-        too-fast-same (weighing weights) (paired19 .dir) axial19 (seen .grid) (step .grid) (step .old .flag) (step .old .part) (step .old .fill) c (near l)
+        unsteady-same (weighing weights) (paired19 .dir) axial19 (seen .grid) (step .grid) (step .old .flag) (step .old .part) (step .old .fill) c (near l)
         (seen .old .mass) (step .old .mass) (seen .old .carry) (step .old .carry) (step .g) (seen .relax) (step .relax)
 
     relax-seen : seen .relax c ≡ step .relax c
@@ -92,11 +92,11 @@ module _ (weights : ℕ → ℕ) (G : Grid) (g : Settings) (flags : List ℕ) (p
         traded-mass-same (weighing weights) (paired19 .dir) axial19 (trader .grid) (step .grid) (step .old .flag) (step .old .part) (step .old .fill) c (near l)
         (step .old .mass) (trader .old .carry) (step .old .carry) (trader .g) (step .g) (trader .relax) (step .relax)
 
-  pub fast-seen : tooFast seen c ≡ tooFast step c
-  unfolding tooFast sight
+  pub fast-seen : unsteady seen c ≡ unsteady step c
+  unfolding unsteady sight
   fast-seen = go (liquid (getD flags c 3)) refl
     where
-      go : (b : Bool) → liquid (getD flags c 3) ≡ b → tooFast seen c ≡ tooFast step c
+      go : (b : Bool) → liquid (getD flags c 3) ≡ b → unsteady seen c ≡ unsteady step c
       go true l = wet-fast l
       go false l = rw l refl
 
@@ -105,19 +105,19 @@ module _ (weights : ℕ → ℕ) (G : Grid) (g : Settings) (flags : List ℕ) (p
   part-seen k m = dry-part (getD flags c 3) (collided seen c k) (collided step c k) (λ l. collided-seen l k m)
 
   -- the density that the pass hands on: that of a liquid cell, else 0
-  pub mass-seen : (rho : ℤ) → rho ≡ byFlag (getD flags c 3) (pos 0) (newDensity seen c) (newDensity seen c) (pos 0)
+  pub mass-seen : (rho : ℤ) → rho ≡ byFlag (getD flags c 3) (pos 0) (streamedDensity seen c) (streamedDensity seen c) (pos 0)
       → byFlag (getD flags c 3) rho (tradedMass trader c) rho rho ≡ movedMass step c
   unfolding movedMass sight
   mass-seen rho e =
-      dry-mass (getD flags c 3) (tradedMass trader c) (tradedMass step c) rho (newDensity step c) (λ f. traded-seen (ap liquid f))
-      (e ∙ dry-part (getD flags c 3) (newDensity seen c) (newDensity step c) density-seen)
+      dry-mass (getD flags c 3) (tradedMass trader c) (tradedMass step c) rho (streamedDensity step c) (λ f. traded-seen (ap liquid f))
+      (e ∙ dry-part (getD flags c 3) (streamedDensity seen c) (streamedDensity step c) density-seen)
 
-  pub mark-seen : (m rho : ℤ) → rho ≡ byFlag (getD flags c 3) (pos 0) (newDensity seen c) (newDensity seen c) (pos 0) → m ≡ movedMass step c
+  pub mark-seen : (m rho : ℤ) → rho ≡ byFlag (getD flags c 3) (pos 0) (streamedDensity seen c) (streamedDensity seen c) (pos 0) → m ≡ movedMass step c
       → _≡_ {A = ℕ} (byFlag (getD flags c 3) 0 (cond (over m rho) 1 (cond (under m rho) 2 0)) 0 0) (firstMark step c)
   unfolding firstMark movedMass sight
   mark-seen m rho e u =
-      mark-cases (getD flags c 3) m (tradedMass step c) rho (newDensity step c)
+      mark-cases (getD flags c 3) m (tradedMass step c) rho (streamedDensity step c)
       (λ f. (
-        u ∙ ap (λ (k : ℕ). byFlag k (pos 0) (tradedMass step c) (newDensity step c) (pos 0)) f,
-        e ∙ ap (λ (k : ℕ). byFlag k (pos 0) (newDensity seen c) (newDensity seen c) (pos 0)) f ∙ density-seen (ap liquid f),
+        u ∙ ap (λ (k : ℕ). byFlag k (pos 0) (tradedMass step c) (streamedDensity step c) (pos 0)) f,
+        e ∙ ap (λ (k : ℕ). byFlag k (pos 0) (streamedDensity seen c) (streamedDensity seen c) (pos 0)) f ∙ density-seen (ap liquid f),
       ))

@@ -5,7 +5,7 @@ use Prim.Native.Nat.{ℕ}
 use lib.IntN.{ℤ}
 use Rattle.lattice.specs.Lattice.{V3, Lattice}
 use Rattle.turbulence.specs.Turbulence.{ownRelaxation}
-use Rattle.flow.specs.Relaxed.{relaxedBy}
+use Rattle.flow.specs.inner.Relaxed.{relaxedBy}
 
 pub plain-is : (mode : Bool) (L : Lattice) (ρ : ℤ) (j : V3) (p : ℤ) (f : ℕ → ℤ) → mode ≡ false → p ≡ relaxedBy mode L ρ j p f
 unfolding relaxedBy

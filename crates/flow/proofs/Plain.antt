@@ -1,23 +1,23 @@
 -- A cell's stages turn on nothing but flags, parts, fills and masses, and on where it and its neighbours lie: two scenes that agree in these agree in what
 -- they make of the cell. So what a function of one cell promises of its sight is what the step's scene has. Assumes nothing.
-use mathlib.Core.Path.{_≡_, refl, sym, ap, ap₂, _∙_}
+use mathlib.Core.Path.{_≡_, refl, ap, ap₂, _∙_}
 use mathlib.Core.Bool.{Bool, true, false, _&&_, not, cond}
 use Prim.Native.Nat.{ℕ, zero, suc, _+_, _≤_, _<_}
 use native.Mathlib.Omega.{arith}
 use lib.Dec.{eqb}
 use lib.IntN.{ℤ, pos, _+ℤ_, _-ℤ_, _*ℤ_}
-use Rattle.whole.specs.Fold.{sum, dirs}
-use Rattle.whole.specs.Search.{Dir, as-dir}
-use Rattle.whole.specs.Sums.{sum-cong}
+use Rattle.lattice.specs.Body.{collidedPart, relaxedDir}
+use Rattle.whole.specs.Fold.{Dir}
+use Rattle.whole.specs.laws.Search.{as-dir}
+use Rattle.whole.specs.laws.Sums.{sum-cong}
 use Rattle.lattice.specs.Lattice.{V3, dot, Lattice, d3q19, density, momentum}
-use Rattle.lattice.specs.Cell.{dense, slow, gas, exchange, isPositive, pull, quad, relaxed, over, under}
+use Rattle.lattice.specs.Cell.{dense, slow, gasPair, exchange, isPositive, pull, quad, relaxed}
 use Rattle.turbulence.proofs.Laws.{own-cong}
 use Rattle.grid.specs.Grid.{Grid}
-use Rattle.grid.specs.State.{State, Scene, byFlag, liquid}
-use Rattle.grid.specs.Step.{seen, normal, oldDensity, oldMomentum, leansTo, rebuilt, rebuild, arrives, streamed, difference, traded, tradedMass, newDensity, newMomentum, tooFast, collidedDir, collided}
+use Rattle.grid.specs.State.{Scene, byFlag, liquid}
+use Rattle.grid.specs.Step.{seen, normal, oldDensity, oldMomentum, leansTo, rebuilds, rebuiltPart, arrives, streamed, difference, traded, tradedMass, streamedDensity, streamedMomentum, unsteady, collidedDir, collided}
 use Rattle.grid.specs.Mode.{ownAt, relaxIn, before}
-use Rattle.grid.specs.Between.{movedPart, movedMass, firstMark}
-use Rattle.grid.specs.Sight.{weighing}
+use Rattle.grid.specs.inner.Sight.{weighing}
 use Rattle.grid.proofs.Same.{density-same, momentum-same}
 
 -- the directions of the axes, or rest where there is no axis
@@ -61,10 +61,10 @@ module _ (L : Lattice) (turned : (i : ℕ) → Dir (L .q) i → Dir (L .q) (L .o
     }
 
     arrives-same : (i k : ℕ) → Dir (L .q) i → arrives S c i k ≡ arrives S′ c i k
-    unfolding arrives leansTo rebuilt rebuild oldDensity oldMomentum
+    unfolding arrives leansTo rebuilds rebuiltPart oldDensity oldMomentum
     arrives-same i k d =
         ap₂ (λ (n : ℕ) (v : V3). cond (byFlag (flag n) true (eqb (flag c) 1 && isPositive (dot v (L .e i))) (eqb (flag c) 1 && isPositive (dot v (L .e i))) false)
-        (gas (L .weight i) (density L (part c)) (dot (L .e i) (momentum L (part c))) (dot (momentum L (part c)) (momentum L (part c))) -ℤ part c i)
+        (gasPair (L .weight i) (density L (part c)) (dot (L .e i) (momentum L (part c))) (dot (momentum L (part c)) (momentum L (part c))) -ℤ part c i)
         (byFlag (flag n) (pos 0) (part n k) (part n k) (part c i)))
         (near i (d .most)) normal-same
 
@@ -73,9 +73,9 @@ module _ (L : Lattice) (turned : (i : ℕ) → Dir (L .q) i → Dir (L .q) (L .o
     streamed-same zero h = refl
     streamed-same (suc a) h = arrives-same (L .opp (suc a)) (suc a) (turned (suc a) (as-dir h))
 
-    pub new-density-same : newDensity S c ≡ newDensity S′ c
-    unfolding newDensity
-    new-density-same = density-same L (streamed S c) (streamed S′ c) streamed-same
+    pub streamed-density-same : streamedDensity S c ≡ streamedDensity S′ c
+    unfolding streamedDensity
+    streamed-density-same = density-same L (streamed S c) (streamed S′ c) streamed-same
 
   -- stages 3 and 4 turn on gravity and the cell's relaxation too
   module _ (mass mass′ : ℕ → ℤ) (carry carry′ : ℤ) (g : V3) (p p′ : ℕ → ℤ) where
@@ -85,15 +85,15 @@ module _ (L : Lattice) (turned : (i : ℕ) → Dir (L .q) i → Dir (L .q) (L .o
     abbrev M′ : Scene
     M′ = with-flow L H flag part mass′ fill carry′ g p′
 
-    density-is : newDensity M c ≡ newDensity M′ c
-    density-is = new-density-same mass mass′ carry carry′ g g p p′
+    density-is : streamedDensity M c ≡ streamedDensity M′ c
+    density-is = streamed-density-same mass mass′ carry carry′ g g p p′
 
     streamed-is : (k : ℕ) → k ≤ L .q → streamed M c k ≡ streamed M′ c k
     streamed-is = streamed-same mass mass′ carry carry′ g g p p′
 
-    pub new-momentum-same : newMomentum M c ≡ newMomentum M′ c
-    unfolding newMomentum
-    new-momentum-same i =
+    pub streamed-momentum-same : streamedMomentum M c ≡ streamedMomentum M′ c
+    unfolding streamedMomentum
+    streamed-momentum-same i =
         let j = momentum-same L (streamed M c) (streamed M′ c) streamed-is in
         record {
           x = (j i .x) +ℤ pull (density-is i) (g .x);
@@ -101,30 +101,26 @@ module _ (L : Lattice) (turned : (i : ℕ) → Dir (L .q) i → Dir (L .q) (L .o
           z = (j i .z) +ℤ pull (density-is i) (g .z);
         }
 
-    pub too-fast-same : tooFast M c ≡ tooFast M′ c
-    unfolding tooFast
-    too-fast-same = ap₂ (λ (ρ : ℤ) (j : V3). liquid (flag c) && not (dense ρ && slow ρ (dot j j))) density-is new-momentum-same
+    pub unsteady-same : unsteady M c ≡ unsteady M′ c
+    unfolding unsteady
+    unsteady-same = ap₂ (λ (ρ : ℤ) (j : V3). liquid (flag c) && not (dense ρ && slow ρ (dot j j))) density-is streamed-momentum-same
 
     pub own-same : (q : ℤ) → ownAt M q c ≡ ownAt M′ q c
     unfolding ownAt
     own-same q =
-        own-cong L (newDensity M c) (newDensity M′ c) (newMomentum M c) (newMomentum M′ c) q (streamed M c) (streamed M′ c) density-is new-momentum-same streamed-is
+        own-cong L (streamedDensity M c) (streamedDensity M′ c) (streamedMomentum M c) (streamedMomentum M′ c) q (streamed M c) (streamed M′ c) density-is streamed-momentum-same streamed-is
 
     module _ (alike : p c ≡ p′ c) where
       collided-dir-same : (i : ℕ) → i ≤ L .q → collidedDir M c i ≡ collidedDir M′ c i
-      unfolding collidedDir
+      unfolding relaxedDir
       collided-dir-same i h t =
-          relaxed (alike t) (L .weight i) (quad (density-is t) (dot (L .e i) (new-momentum-same t)) (dot (new-momentum-same t) (new-momentum-same t))) (density-is t) (streamed-is i h t)
+          relaxed (alike t) (L .weight i) (quad (density-is t) (dot (L .e i) (streamed-momentum-same t)) (dot (streamed-momentum-same t) (streamed-momentum-same t))) (density-is t) (streamed-is i h t)
 
       pub collided-same : (k : ℕ) → k ≤ L .q → collided M c k ≡ collided M′ c k
-      unfolding collided
+      unfolding collided collidedPart
       collided-same zero h =
           ap₂ (λ (x y : ℤ). x -ℤ y) density-is (sum-cong (L .q) (λ a. collidedDir M c (suc a)) (λ a. collidedDir M′ c (suc a)) (λ a k. collided-dir-same (suc a) k))
       collided-same (suc a) h = collided-dir-same (suc a) h
-
-      pub moved-part-same : (k : ℕ) → k ≤ L .q → movedPart M c k ≡ movedPart M′ c k
-      unfolding movedPart
-      moved-part-same k h = ap (λ (x : ℤ). byFlag (flag c) (pos 0) x x (pos 0)) (collided-same k h)
 
   -- in either mode the cell's relaxation turns on no mass, no carry and no other relaxation
   pub relax-same : (mode : Bool) (g : V3) (q : ℤ) → relaxIn mode (before L G flag part fill g) q c ≡ relaxIn mode (before L H flag part fill g) q c
@@ -147,13 +143,3 @@ module _ (L : Lattice) (turned : (i : ℕ) → Dir (L .q) i → Dir (L .q) (L .o
     pub traded-mass-same : tradedMass T c ≡ tradedMass T′ c
     unfolding tradedMass
     traded-mass-same = ap (λ (z : ℤ). mass c +ℤ z) (sum-cong (L .q) (λ a. traded T c (suc a)) (λ a. traded T′ c (suc a)) (λ a k. traded-same (suc a) (as-dir k)))
-
-    pub moved-mass-same : movedMass T c ≡ movedMass T′ c
-    unfolding movedMass
-    moved-mass-same =
-        ap₂ (λ (m ρ : ℤ). byFlag (flag c) (pos 0) m ρ (pos 0)) traded-mass-same (new-density-same mass mass carry carry′ g g′ p p′)
-
-    pub first-mark-same : firstMark T c ≡ firstMark T′ c
-    unfolding firstMark
-    first-mark-same =
-        ap₂ (λ (m ρ : ℤ). byFlag (flag c) 0 (cond (over m ρ) 1 (cond (under m ρ) 2 0)) 0 0) traded-mass-same (new-density-same mass mass carry carry′ g g′ p p′)

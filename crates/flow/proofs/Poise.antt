@@ -1,29 +1,29 @@
 -- From tests 1 to 6 to what a pass asks, and from that to what a function of one cell asks. Assumes nothing.
 use mathlib.Core.Path.{_≡_, refl, sym, ap, _∙_, subst}
-use mathlib.Core.Bool.{Bool, true, false, _&&_, false≢true}
+use mathlib.Core.Bool.{true, _&&_, false≢true}
 use mathlib.Core.List.{List, []}
 use Prim.Native.Nat.{ℕ, zero, suc, _+_, _-_, _*_, _≤_, _<_}
 use native.Mathlib.Omega.{arith}
-use lib.IntN.{ℤ, pos, natAbs}
-use lib.ListN.{length, getD}
-use Rattle.whole.specs.Machine.{Within}
+use lib.IntN.{ℤ}
+use lib.ListN.{getD}
+use Rattle.whole.specs.laws.Machine.{Within}
 use Rattle.lattice.specs.Lattice.{d3q19, density}
 use Rattle.lattice.specs.declared.Settings.{Settings}
 use Rattle.lattice.proofs.Fills.{fill-most}
 use Rattle.grid.specs.declared.Sides.{Sides}
 use Rattle.grid.specs.Grid.{cellsOf, sidesGood, gridOf, box}
-use Rattle.grid.specs.State.{Lent, lent, State, byFlag, liquid, stateOf}
+use Rattle.grid.specs.State.{Lent, lent, liquid, stateOf}
 use Rattle.grid.specs.Step.{fillFor}
 use Rattle.grid.specs.Good.{dryGood, interfaceGood, fluidGood, fillGood, cellGood}
-use Rattle.grid.specs.Between.{Sized, Ready, Poised}
-use Rattle.grid.specs.Passes.{Inner}
-use Rattle.grid.specs.Sight.{Body, Bodied}
+use Rattle.grid.specs.inner.Between.{Ready, Poised}
+use Rattle.grid.specs.inner.Passes.{Inner}
+use Rattle.grid.specs.inner.Sight.{Body, Bodied}
 use Rattle.grid.proofs.Beside.{Offsets, place-is}
 use Rattle.grid.proofs.Coordinates.{inner-of}
 use Rattle.grid.proofs.GoodSides.{good-sides}
 use Rattle.grid.proofs.Laid.{inner}
 use Rattle.grid.proofs.Prepared.{ready-sound, ready-cell, cell-body, cell-mass, cell-fill}
-use Rattle.flow.specs.Trade.{Fills}
+use Rattle.flow.specs.inner.Trade.{Fills}
 
 -- no rule of a cell reads the carry
 alone : (a : Lent) (c : ℕ) → cellGood d3q19 (stateOf 18 a) c ≡ cellGood d3q19 (stateOf 18 (lent (a .flags) (a .parts) (a .masses) (a .fills) [])) c

@@ -9,25 +9,25 @@ use native.Mathlib.Omega.{arith}
 use lib.Dec.{eqb, leb}
 use lib.ListN.{length, getD}
 use lib.IntN.{ℤ, pos, natAbs, _+ℤ_, _-ℤ_, _*ℤ_}
-use lib.Signed.{_≤ℤ_, quotZ}
+use lib.Signed.{_≤ℤ_}
 use borrow.Author.Tests.{leb-true}
-use Rattle.whole.specs.Bools.{and-true}
-use Rattle.whole.specs.Bounds.{abs-add, abs-sub, abs-mul, abs-quot, abs-above}
-use Rattle.whole.specs.Fold.{all, tab, open-fold}
-use Rattle.whole.specs.Machine.{Within}
-use Rattle.whole.specs.Order.{leZ-true, squares, slow-x}
-use Rattle.whole.specs.Ring.{ring-by, quotes}
-use Rattle.whole.specs.Search.{all-at}
-use Rattle.whole.specs.Tab.{getD-tab}
+use Rattle.whole.specs.laws.Bools.{and-true}
+use Rattle.whole.specs.laws.Bounds.{abs-add, abs-sub, abs-mul, abs-quot}
+use Rattle.whole.specs.Fold.{tab, open-fold}
+use Rattle.whole.specs.laws.Machine.{Within}
+use Rattle.whole.specs.laws.Order.{leZ-true, squares, slow-x}
+use Rattle.whole.specs.laws.Ring.{ring-by, quotes}
+use Rattle.whole.specs.laws.Search.{all-at}
+use Rattle.whole.specs.laws.Tab.{getD-tab}
 use Rattle.lattice.specs.Lattice.{V3, dot, pairOpp, d3q19, density, momentum, open-lattice}
-use Rattle.lattice.specs.Cell.{dense, slow, gas}
-use Rattle.lattice.specs.Body.{partsOf, Bounded, vec, Tame, steadyFlow}
+use Rattle.lattice.specs.Cell.{dense, slow, gasPair}
+use Rattle.lattice.specs.inner.Held.{partsOf, Bounded, vec, Tame, steadyFlow}
 use Rattle.lattice.specs.declared.Flow.{Flow}
 use Rattle.lattice.specs.declared.Settings.{Settings}
 use Rattle.lattice.proofs.Tame.{dense-in, steady-tame}
 use Rattle.grid.specs.State.{Scene, liquid}
 use Rattle.grid.specs.Step.{leansTo, arrives, streamed}
-use Rattle.grid.specs.Sight.{Body, Bodies, Around, sight}
+use Rattle.grid.specs.inner.Sight.{Body, Bodies, Around, sight}
 use Rattle.grid.proofs.Same.{density-same, momentum-same}
 use Rattle.flow.proofs.Arrivals.{arrives-wall, arrives-rebuilt, arrives-liquid, opposite-some, opposite-most}
 
@@ -108,8 +108,8 @@ module _ (j : V3) (ρ : ℤ) (h : (pos 9 *ℤ dot j j) ≤ℤ (ρ *ℤ ρ)) wher
         square-third,
       )
 
-  gas-le : (w : ℕ) (a : ℤ) → natAbs (twice a) * w ≤ 16 * (natAbs ρ * natAbs ρ) → Within (gas w ρ a (dot j j)) 262144
-  unfolding gas
+  gas-le : (w : ℕ) (a : ℤ) → natAbs (twice a) * w ≤ 16 * (natAbs ρ * natAbs ρ) → Within (gasPair w ρ a (dot j j)) 262144
+  unfolding gasPair
   gas-le w a k =
       let r = natAbs ρ in
       let top : natAbs (pos (w * 16384) *ℤ twice a) ≤ r * r * 262144 = omega (arith, abs-mul (pos (w * 16384)) (twice a)) in
@@ -119,7 +119,7 @@ module _ (j : V3) (ρ : ℤ) (h : (pos 9 *ℤ dot j j) ≤ℤ (ρ *ℤ ρ)) wher
       }
 
   -- the box's weights are at most 2; a weight of up to 4 goes with an axis
-  pub gas-in : (w : ℕ) (e : V3) → ((w ≤ 4) × (length-of e ≤ 1)) ⊎ (w ≤ 2) → length-of e ≤ 2 → Within (gas w ρ (dot e j) (dot j j)) 262144
+  pub gas-in : (w : ℕ) (e : V3) → ((w ≤ 4) × (length-of e ≤ 1)) ⊎ (w ≤ 2) → length-of e ≤ 2 → Within (gasPair w ρ (dot e j) (dot j j)) 262144
   gas-in w e (inl h) s =
       let k = leaning e j (natAbs ρ) 1 (h .1) third-x third-y third-z in
       let b = upper (dot e j) _ (mul-le-mul k k) in
@@ -152,7 +152,7 @@ module _ (f : ℕ → ℤ) (b : Body f) where
   unfolding slow
   within-third = leZ-true (b .is-slow)
 
-  pub gas-body : {weights : ℕ → ℕ} → Light weights → (i : ℕ) → 0 < i → i < 19 → Within (gas (weights i) ρ (dot (d3q19 .e i) j) (dot j j)) 262144
+  pub gas-body : {weights : ℕ → ℕ} → Light weights → (i : ℕ) → 0 < i → i < 19 → Within (gasPair (weights i) ρ (dot (d3q19 .e i) j) (dot j j)) 262144
   gas-body {weights} light i z h = gas-in j ρ within-third (weights i) (d3q19 .e i) (light .each i z h) (short i h)
 
   pub along-body : (i : ℕ) → i < 19 → Within (dot (d3q19 .e i) j) 1179648

@@ -1,11 +1,11 @@
 -- A loop that stores two elements a turn, the second first: what a turn keeps. Assumes nothing.
-use mathlib.Core.Path.{_≡_, sym, ap, _∙_, subst}
+use mathlib.Core.Path.{_≡_, _∙_, subst}
 use mathlib.Core.List.{List}
 use Prim.Native.Nat.{ℕ, _+_, _<_}
 use native.Mathlib.Omega.{arith}
 use lib.ListN.{length, set, length-set}
 use lib.Seq.{set-comm}
-use Rattle.whole.specs.Tab.{Upto, upto-more}
+use Rattle.whole.specs.laws.Tab.{Upto, upto-more}
 
 module _ {ℓ} {A : Type ℓ} (d : A) (f : ℕ → A) where
   pub upto-pair : (out : List A) (c : ℕ) (x y : A) → c + 1 < length out → Upto d f out c → y ≡ f c → x ≡ f (c + 1) → Upto d f (set (set out (c + 1) x) c y) (c + 2)

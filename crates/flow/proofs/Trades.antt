@@ -10,19 +10,18 @@ use lib.IntN.{ℤ, pos, natAbs, _+ℤ_, _*ℤ_, +ℤ-assoc, +ℤ-idr}
 use lib.ListN.{length, getD}
 use borrow.Author.Tests.{eq-eqb, ne-eqb}
 use Rattle.whole.specs.Fold.{sum}
-use Rattle.whole.specs.Sums.{sum-abs}
-use Rattle.whole.specs.Bounds.{abs-add, abs-sub, abs-mul, abs-quot}
-use Rattle.whole.specs.Machine.{Within}
+use Rattle.whole.specs.laws.Sums.{sum-abs}
+use Rattle.whole.specs.laws.Bounds.{abs-add, abs-sub, abs-mul, abs-quot}
+use Rattle.whole.specs.laws.Machine.{Within}
 use Rattle.lattice.specs.Lattice.{d3q19, pairOpp}
-use Rattle.lattice.specs.Cell.{exchange, over, under}
+use Rattle.lattice.specs.Cell.{exchange}
 use Rattle.lattice.specs.declared.Settings.{Settings}
 use Rattle.lattice.proofs.Paired.{paired19}
-use Rattle.grid.specs.State.{Scene, byFlag, liquid}
-use Rattle.grid.specs.Step.{flagAt, traded, tradedMass, difference, newDensity}
-use Rattle.grid.specs.Between.{movedMass, firstMark}
-use Rattle.grid.specs.Sight.{Bodies, Around, sight}
+use Rattle.grid.specs.State.{byFlag, liquid}
+use Rattle.grid.specs.Step.{traded, tradedMass, difference}
+use Rattle.grid.specs.inner.Sight.{Bodies, Around, sight}
 use Rattle.grid.proofs.Lists.{getD-there}
-use Rattle.flow.specs.Trade.{Fills, Trading, apart, passed, markFor}
+use Rattle.flow.specs.inner.Trade.{Fills, Trading, apart, passed}
 
 -- neither fluid nor interface
 module _ {ℓ} {A : Type ℓ} where
@@ -184,26 +183,3 @@ module _ (flags : List ℕ) (part : ℕ → ℕ → ℤ) (masses : List ℤ) (fi
       where
         some : Settings
         some = record { p = pos 0; gx = pos 0; gy = pos 0; gz = pos 0; turbulent = false }
-
--- ---- after stages 1 to 4: with the density of a liquid cell, and 0 for any other, the code's mass and mark are those of the passes
-module _ (S : Scene) (c : ℕ) (ρ : ℤ) (e : ρ ≡ byFlag (flagAt S c) (pos 0) (newDensity S c) (newDensity S c) (pos 0)) where
-  pub moved-mass : byFlag (flagAt S c) ρ (tradedMass S c) ρ ρ ≡ movedMass S c
-  unfolding movedMass
-  moved-mass = ap (λ (r : ℤ). byFlag (flagAt S c) r (tradedMass S c) r r) e ∙ go (flagAt S c)
-    where
-      go : (f : ℕ) → let r = byFlag f (pos 0) (newDensity S c) (newDensity S c) (pos 0) in byFlag f r (tradedMass S c) r r ≡ byFlag f (pos 0) (tradedMass S c) (newDensity S c) (pos 0)
-      go zero = refl
-      go (suc zero) = refl
-      go (suc (suc zero)) = refl
-      go (suc (suc (suc n))) = refl
-
-  pub first-mark : markFor (flagAt S c) (movedMass S c) ρ ≡ firstMark S c
-  unfolding markFor movedMass firstMark
-  first-mark = ap (λ (r : ℤ). markFor (flagAt S c) (movedMass S c) r) e ∙ go (flagAt S c)
-    where
-      go : (f : ℕ) → markFor f (byFlag f (pos 0) (tradedMass S c) (newDensity S c) (pos 0)) (byFlag f (pos 0) (newDensity S c) (newDensity S c) (pos 0))
-          ≡ byFlag f 0 (cond (over (tradedMass S c) (newDensity S c)) 1 (cond (under (tradedMass S c) (newDensity S c)) 2 0)) 0 0
-      go zero = refl
-      go (suc zero) = refl
-      go (suc (suc zero)) = refl
-      go (suc (suc (suc n))) = refl

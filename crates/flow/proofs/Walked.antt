@@ -5,38 +5,35 @@ use mathlib.Core.Logic.{_≢_}
 use mathlib.Core.Bool.{Bool, true, false, _&&_, not, cond, false≢true}
 use mathlib.Core.List.{List, []}
 use Prim.Native.Nat.{ℕ, zero, suc, _+_, _-_, _*_, _≤_, _<_}
-use native.Mathlib.Nat.{not-suc-le-zero, le-of-eq, lt-irrefl}
-use native.Mathlib.Decide.{ℕ-discrete}
+use native.Mathlib.Nat.{not-suc-le-zero, le-of-eq}
 use native.Mathlib.Omega.{arith}
-use lib.Arith.{lt-of-le-ne}
 use lib.IntN.{ℤ, pos}
 use lib.Dec.{eqb}
 use lib.ListN.{length, getD, set}
 use lib.Seq.{getD-set-other}
 use borrow.Author.Tests.{eqb-true}
 use borrow.Author.Count.{below-more}
-use Rattle.whole.specs.Bools.{and-left, and-right}
+use Rattle.whole.specs.laws.Bools.{and-left, and-right}
 use Rattle.whole.specs.Fold.{tab, first}
-use Rattle.whole.specs.Search.{first-all, first-is}
-use Rattle.whole.specs.Tab.{Upto, upto-zero, upto-more, upto-all, tab-cong}
+use Rattle.whole.specs.laws.Search.{first-all, first-is}
+use Rattle.whole.specs.laws.Tab.{Upto, upto-zero, upto-more, upto-all}
 use Rattle.lattice.specs.Lattice.{d3q19}
 use Rattle.lattice.specs.Cell.{over, under}
 use Rattle.lattice.specs.declared.Settings.{Settings}
-use Rattle.grid.specs.Fill.{partOf}
+use Rattle.grid.specs.State.{partOf, Scene, byFlag, liquid}
 use Rattle.grid.specs.Grid.{Grid}
-use Rattle.grid.specs.State.{Scene, byFlag, liquid}
-use Rattle.grid.specs.Step.{newDensity, tradedMass, tooFast, collided}
+use Rattle.grid.specs.Step.{streamedDensity, tradedMass, unsteady, collided}
 use Rattle.lattice.specs.Body.{bodyGood}
-use Rattle.grid.specs.Between.{movedPart, movedMass, firstMark}
-use Rattle.grid.specs.Halfway.{Moved}
-use Rattle.grid.specs.Pasted.{pasted}
-use Rattle.grid.specs.Sight.{sight}
+use Rattle.grid.specs.inner.Between.{movedPart, movedMass, firstMark}
+use Rattle.grid.specs.inner.Halfway.{Moved}
+use Rattle.grid.specs.inner.Pasted.{pasted}
+use Rattle.grid.specs.inner.Sight.{sight}
 use Rattle.grid.proofs.Blocks.{Blocks, blocks-more, blocks-all}
 use Rattle.grid.proofs.Same.{body-same}
 use Rattle.flow.specs.declared.moving.Put.{Put}
-use Rattle.flow.specs.PutAt.{Told}
-use Rattle.flow.specs.Flowed.{MovedTo}
-use Rattle.flow.specs.Trade.{markFor}
+use Rattle.flow.specs.inner.PutAt.{Told}
+use Rattle.flow.specs.inner.Flowed.{MovedTo}
+use Rattle.flow.specs.inner.Trade.{markFor}
 use Rattle.flow.proofs.Onward.{stepOn, fast-seen, part-seen, mass-seen, mark-seen, collided-seen}
 
 module _ (weights : ℕ → ℕ) (flags : List ℕ) (part : ℕ → ℕ → ℤ) (masses : List ℤ) (fills off : List ℕ) (low : ℕ) (g : Settings) where
@@ -48,7 +45,7 @@ module _ (weights : ℕ → ℕ) (flags : List ℕ) (part : ℕ → ℕ → ℤ)
 
   -- the density that is handed on, the mass and the mark of a cell
   unfoldable pub rhoOf : ℕ → ℤ
-  rhoOf c = byFlag (getD flags c 3) (pos 0) (newDensity seen c) (newDensity seen c) (pos 0)
+  rhoOf c = byFlag (getD flags c 3) (pos 0) (streamedDensity seen c) (streamedDensity seen c) (pos 0)
 
   unfoldable pub massOf : ℕ → ℤ
   massOf c = byFlag (getD flags c 3) (rhoOf c) (tradedMass trader c) (rhoOf c) (rhoOf c)
@@ -60,14 +57,14 @@ module _ (weights : ℕ → ℕ) (flags : List ℕ) (part : ℕ → ℕ → ℤ)
   fairOf c = byFlag (getD flags c 3) true (bodyGood d3q19 (collided seen c)) (bodyGood d3q19 (collided seen c)) true
 
   -- the first c cells have gone through; the marks past them are as pass 0 left them
-  pub record Walked (marks₀ : List ℕ) (part2 : ℕ → ℕ → ℤ) (masses2 : List ℤ) (marks : List ℕ) (fair still : Bool) (c : ℕ) : Type 0 where
-    pub steady : (j : ℕ) → j < c → tooFast seen j ≡ false
+  pub record Walked (marks₀ : List ℕ) (part2 : ℕ → ℕ → ℤ) (masses2 : List ℤ) (marks : List ℕ) (fair calm : Bool) (c : ℕ) : Type 0 where
+    pub steady : (j : ℕ) → j < c → unsteady seen j ≡ false
     pub parts-done : (j k : ℕ) → j < c → k < 19 → part2 j k ≡ movedPart seen j k
     pub masses-done : Upto (pos 0) massOf masses2 c
     pub marks-done : Upto 0 markOf marks c
     pub marks-left : (j : ℕ) → c ≤ j → getD marks j 0 ≡ getD marks₀ j 0
     pub fair-tells : fair ≡ true → (j : ℕ) → j < c → fairOf j ≡ true
-    pub still-tells : still ≡ true → (j : ℕ) → j < c → markOf j ≡ 0
+    pub calm-tells : calm ≡ true → (j : ℕ) → j < c → markOf j ≡ 0
 
   pub walked-first : (marks₀ : List ℕ) (part2 : ℕ → ℕ → ℤ) (masses2 : List ℤ) → Walked marks₀ part2 masses2 marks₀ true true 0
   walked-first marks₀ part2 masses2 = record {
@@ -77,15 +74,15 @@ module _ (weights : ℕ → ℕ) (flags : List ℕ) (part : ℕ → ℕ → ℤ)
     marks-done = upto-zero 0 markOf marks₀;
     marks-left = λ j h. refl;
     fair-tells = λ e j h. absurd (not-suc-le-zero h);
-    still-tells = λ e j h. absurd (not-suc-le-zero h);
+    calm-tells = λ e j h. absurd (not-suc-le-zero h);
   }
 
   -- one turn: cell c's parts are put, those before it stay
-  module _ (marks₀ : List ℕ) (part2 after : ℕ → ℕ → ℤ) (masses2 : List ℤ) (marks : List ℕ) (fair still : Bool) (c : ℕ) (w : Walked marks₀ part2 masses2 marks fair still c)
+  module _ (marks₀ : List ℕ) (part2 after : ℕ → ℕ → ℤ) (masses2 : List ℤ) (marks : List ℕ) (fair calm : Bool) (c : ℕ) (w : Walked marks₀ part2 masses2 marks fair calm c)
       (o : Put) (put : Told seen c o) (ok : o .ok ≡ true)
       (one-more : ((j k : ℕ) → j < c → k < 19 → part2 j k ≡ movedPart seen j k) → (j k : ℕ) → j < c + 1 → k < 19 → after j k ≡ movedPart seen j k) where
-    was-slow : tooFast seen c ≡ false
-    was-slow = slow (tooFast seen c) (sym (put .ok) ∙ ok)
+    was-slow : unsteady seen c ≡ false
+    was-slow = slow (unsteady seen c) (sym (put .ok) ∙ ok)
       where
         slow : (b : Bool) → not b ≡ true → b ≡ false
         slow true e = sym e
@@ -110,21 +107,21 @@ module _ (weights : ℕ → ℕ) (flags : List ℕ) (part : ℕ → ℕ → ℤ)
     fair-is = put .fair ok
 
     pub walked-more : (m : ℤ) (k : ℕ) → c < length masses2 → c < length marks → m ≡ massOf c → k ≡ markOf c
-        → Walked marks₀ after (set masses2 c m) (set marks c k) (fair && o .fair) (still && eqb k 0) (c + 1)
+        → Walked marks₀ after (set masses2 c m) (set marks c k) (fair && o .fair) (calm && eqb k 0) (c + 1)
     walked-more m k hm hk em ek = record {
-      steady = below-more (λ (j : ℕ). tooFast seen j ≡ false) c (w .steady) was-slow;
+      steady = below-more (λ (j : ℕ). unsteady seen j ≡ false) c (w .steady) was-slow;
       parts-done = one-more (w .parts-done);
       masses-done = upto-more (pos 0) massOf masses2 c m hm (w .masses-done) em;
       marks-done = upto-more 0 markOf marks c k hk (w .marks-done) ek;
       marks-left = λ j h. getD-set-other marks c j k 0 (λ e. absurd (omega arith)) ∙ w .marks-left j (omega arith);
       fair-tells = λ e. below-more (λ (j : ℕ). fairOf j ≡ true) c (w .fair-tells (and-left fair (o .fair) e)) (sym fair-is ∙ and-right fair (o .fair) e);
-      still-tells = λ e. below-more (λ (j : ℕ). markOf j ≡ 0) c (w .still-tells (and-left still (eqb k 0) e)) (sym ek ∙ eqb-true k 0 (and-right still (eqb k 0) e));
+      calm-tells = λ e. below-more (λ (j : ℕ). markOf j ≡ 0) c (w .calm-tells (and-left calm (eqb k 0) e)) (sym ek ∙ eqb-true k 0 (and-right calm (eqb k 0) e));
     }
 
     -- one turn of the code: the density as it is handed on twice, the mass as it is stored and handed on
     pub walked-turn : (m stored m′ r r′ : ℤ) (k f : ℕ) → f ≡ getD flags c 3 → c < length masses2 → c < length marks
         → m ≡ byFlag (getD flags c 3) r (tradedMass trader c) r r → r ≡ o .rho → stored ≡ m → k ≡ markFor f m′ r′ → m′ ≡ m → r′ ≡ o .rho
-        → Walked marks₀ after (set masses2 c stored) (set marks c k) (fair && o .fair) (still && eqb k 0) (c + 1)
+        → Walked marks₀ after (set masses2 c stored) (set marks c k) (fair && o .fair) (calm && eqb k 0) (c + 1)
     unfolding markFor
     walked-turn m stored m′ r r′ k f ef hm hk em er es ek em′ er′ =
         let e : m ≡ massOf c = mass-is m (em ∙ ap (λ (x : ℤ). byFlag (getD flags c 3) x (tradedMass trader c) x x) er) in
@@ -159,25 +156,25 @@ module _ (weights : ℕ → ℕ) (G : Grid) (g : Settings) (flags : List ℕ) (p
       sym (body-same d3q19 (collided (seen weights flags part masses fills off low g) c) (collided step c) (collided-seen weights G g flags part masses fills (pos 0) off low c (placed c h) l))
       ∙ fair-liquid (getD flags c 3) (bodyGood d3q19 (collided (seen weights flags part masses fills off low g) c)) l e
 
-  fast-same : (c : ℕ) → c < n → tooFast (seen weights flags part masses fills off low g) c ≡ tooFast step c
+  fast-same : (c : ℕ) → c < n → unsteady (seen weights flags part masses fills off low g) c ≡ unsteady step c
   fast-same c h = fast-seen weights G g flags part masses fills (pos 0) off low c (placed c h)
 
   -- the cell that stopped the pass is the lowest that is too fast
-  pub walked-stopped : (marks₀ : List ℕ) (part2 : ℕ → ℕ → ℤ) (masses2 : List ℤ) (marks : List ℕ) (fair still : Bool) (c : ℕ) → c < n
-      → Walked weights flags part masses fills off low g marks₀ part2 masses2 marks fair still c → tooFast (seen weights flags part masses fills off low g) c ≡ true
-      → first n (tooFast step) ≡ c
-  walked-stopped marks₀ part2 masses2 marks fair still c h w e =
-      first-is n (tooFast step) c h (λ b k. sym (fast-same b (omega arith)) ∙ w .steady b k) (sym (fast-same c h) ∙ e)
+  pub walked-stopped : (marks₀ : List ℕ) (part2 : ℕ → ℕ → ℤ) (masses2 : List ℤ) (marks : List ℕ) (fair calm : Bool) (c : ℕ) → c < n
+      → Walked weights flags part masses fills off low g marks₀ part2 masses2 marks fair calm c → unsteady (seen weights flags part masses fills off low g) c ≡ true
+      → first n (unsteady step) ≡ c
+  walked-stopped marks₀ part2 masses2 marks fair calm c h w e =
+      first-is n (unsteady step) c h (λ b k. sym (fast-same b (omega arith)) ∙ w .steady b k) (sym (fast-same c h) ∙ e)
 
-  pub walked-moved : (marks₀ : List ℕ) (part2 : ℕ → ℕ → ℤ) (masses2 : List ℤ) (marks : List ℕ) (fair still : Bool) → length masses2 ≡ n → length marks ≡ n
-      → Walked weights flags part masses fills off low g marks₀ part2 masses2 marks fair still n → MovedTo step n part2 masses2 marks fair still
-  walked-moved marks₀ part2 masses2 marks fair still lm lk w = record {
-    steady = le-of-eq (sym (first-all n (tooFast step) (λ c h. sym (fast-same c h) ∙ w .steady c h)));
+  pub walked-moved : (marks₀ : List ℕ) (part2 : ℕ → ℕ → ℤ) (masses2 : List ℤ) (marks : List ℕ) (fair calm : Bool) → length masses2 ≡ n → length marks ≡ n
+      → Walked weights flags part masses fills off low g marks₀ part2 masses2 marks fair calm n → MovedTo step n part2 masses2 marks fair calm
+  walked-moved marks₀ part2 masses2 marks fair calm lm lk w = record {
+    steady = le-of-eq (sym (first-all n (unsteady step) (λ c h. sym (fast-same c h) ∙ w .steady c h)));
     part-is = λ j k h l. w .parts-done j k h l ∙ part-seen weights G g flags part masses fills (pos 0) off low j (placed j h) k (omega arith);
     masses-are = upto-all (pos 0) (movedMass step) masses2 n lm (λ j h. w .masses-done j h ∙ mass-same j h);
     marks-are = upto-all 0 (firstMark step) marks n lk (λ j h. w .marks-done j h ∙ mark-same j h);
     fair-tells = λ e c h l. body-is c h l (w .fair-tells e c h);
-    still-tells = λ e c h. sym (mark-same c h) ∙ w .still-tells e c h;
+    calm-tells = λ e c h. sym (mark-same c h) ∙ w .calm-tells e c h;
   }
 
 -- ---- in the box's list
@@ -186,13 +183,13 @@ pub put-more : (S : Scene) (parts2 after : List ℤ) (c : ℕ) → 19 * c + 19 �
 put-more S parts2 after c h e b =
     subst (λ (l : List ℤ). Blocks (movedPart S) l (c + 1)) (sym e) (blocks-more (movedPart S) parts2 (tab 19 (movedPart S c)) c h refl b)
 
-pub moved-list : {S : Scene} {n : ℕ} {parts masses : List ℤ} {marks : List ℕ} {fair still : Bool} → length parts ≡ 19 * n
-    → MovedTo S n (partOf parts) masses marks fair still → Moved S n parts masses marks fair still
+pub moved-list : {S : Scene} {n : ℕ} {parts masses : List ℤ} {marks : List ℕ} {fair calm : Bool} → length parts ≡ 19 * n
+    → MovedTo S n (partOf parts) masses marks fair calm → Moved S n parts masses marks fair calm
 moved-list {S} {n} {parts} e m = record {
   steady = m .steady;
   parts-are = blocks-all (movedPart S) parts n e (m .part-is);
   masses-are = m .masses-are;
   marks-are = m .marks-are;
   fair-tells = m .fair-tells;
-  still-tells = m .still-tells;
+  calm-tells = m .calm-tells;
 }

@@ -1,5 +1,1 @@
-pub mod Trade
-pub mod Sources
-pub mod PutAt
-pub mod Flowed
-pub mod Relaxed
+pub mod inner

@@ -18,14 +18,15 @@ ghost use lib.IntN.{ℤ, pos, natAbs};
 ghost use lib.ListN.{length, getD, replicate};
 ghost use Rattle.whole.specs.Fold.{tab};
 ghost use Rattle.lattice.specs.Lattice.{d3q19};
-ghost use Rattle.lattice.specs.Body.{partsOf, Bounded, bodyGood};
-ghost use Rattle.turbulence.specs.Post.{Keeps};
+ghost use Rattle.lattice.specs.inner.Held.{partsOf, Bounded};
+ghost use Rattle.lattice.specs.Body.{bodyGood};
+ghost use Rattle.turbulence.specs.inner.Post.{Keeps};
 ghost use Rattle.grid.specs.State.{liquid};
 ghost use Rattle.grid.specs.Step.{streamed};
 ghost use Rattle.grid.specs.Outcome.{settingsGood};
-ghost use Rattle.grid.specs.Pasted.{pasted};
-ghost use Rattle.grid.specs.Sight.{boxSight};
-ghost use Rattle.flow.specs.PutAt.{PutAt, Putting};
+ghost use Rattle.grid.specs.inner.Pasted.{pasted};
+ghost use Rattle.grid.specs.inner.Sight.{boxSight};
+ghost use Rattle.flow.specs.inner.PutAt.{PutAt, Putting};
 
 // Whether a cell passed stage 3's test; if so, whether its new parts keep test 6's rules, and its density.
 pub struct Put {

@@ -6,7 +6,7 @@ use crate::trading;
 use grid::Sides;
 use grid::neighbours;
 use lattice::Settings;
-ghost use Rattle.flow.specs.Flowed.{Flowable, Flowed};
+ghost use Rattle.flow.specs.inner.Flowed.{Flowable, Flowed};
 
 // The cell that refusal 7 names; or whether every new part keeps test 6's rules, and whether nothing converts.
 pub enum Passed {
@@ -33,7 +33,7 @@ pub fn flowing(
     let from = streaming::sources(off, low);
     let keep = relaxing::keeping(g);
     let mut fair = true;
-    let mut still = true;
+    let mut calm = true;
     let mut c = 0;
     while c < flags.len() {
         let o = moving::put_parts(
@@ -57,8 +57,8 @@ pub fn flowing(
         mass2[c] = m;
         marks[c] = k;
         fair = fair & o.fair;
-        still = still & (k == 0);
+        calm = calm & (k == 0);
         c += 1;
     }
-    Passed::Through(fair, still)
+    Passed::Through(fair, calm)
 }

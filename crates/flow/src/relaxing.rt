@@ -8,10 +8,10 @@ ghost use mathlib.Core.Bool.{true};
 ghost use lib.IntN.{natAbs};
 ghost use Rattle.lattice.specs.Lattice.{d3q19};
 ghost use Rattle.lattice.specs.Cell.{relaxationGood};
-ghost use Rattle.lattice.specs.Body.{partsOf, Bounded, vec, steadyFlow};
-ghost use Rattle.turbulence.specs.Post.{Keeps};
+ghost use Rattle.lattice.specs.inner.Held.{partsOf, Bounded, vec, steadyFlow};
+ghost use Rattle.turbulence.specs.inner.Post.{Keeps};
 ghost use Rattle.grid.specs.Outcome.{settingsGood};
-ghost use Rattle.flow.specs.Relaxed.{relaxedBy};
+ghost use Rattle.flow.specs.inner.Relaxed.{relaxedBy};
 
 // A tension that keeps p, once for all cells of a pass; the plain mode asks for none.
 pub fn keeping(g: Settings) -> u64

@@ -5,7 +5,7 @@ use lattice::Flow;
 use lattice::directions::dots;
 use lattice::directions::weight_of;
 use lattice::moments::flow_of;
-use surface::stream::rebuilt;
+use surface::stream::gas_pair;
 use whole::wide;
 ghost use mathlib.Core.Path.{_≡_};
 ghost use mathlib.Core.Bool.{true};
@@ -18,9 +18,9 @@ ghost use Rattle.lattice.specs.Cell.{isPositive};
 ghost use Rattle.lattice.specs.declared.Settings.{Settings};
 ghost use Rattle.grid.specs.State.{liquid};
 ghost use Rattle.grid.specs.Step.{leansTo, arrives, streamed};
-ghost use Rattle.grid.specs.Sight.{boxSight, Bodied, Around};
-ghost use Rattle.flow.specs.Sources.{Mirrored, sourceOf, Immersed, leanAt, Beside};
-ghost use Rattle.flow.specs.Trade.{Fills};
+ghost use Rattle.grid.specs.inner.Sight.{boxSight, Bodied, Around};
+ghost use Rattle.flow.specs.inner.Sources.{Mirrored, sourceOf, Immersed, leanAt, Beside};
+ghost use Rattle.flow.specs.inner.Trade.{Fills};
 
 // Where part i that streams straight into a cell lies, counted from the first part of the cell c - low.
 pub(crate) fn sources(off: [usize; 19], low: usize) -> [usize; 19]
@@ -81,7 +81,7 @@ fn arriving(
         return parts[19 * c + i];
     }
     if (f == 0) | (lean > 0) {
-        return (rebuilt(v, weight_of(i), d) - wide(parts[19 * c + i])) as i32;
+        return (gas_pair(v, weight_of(i), d) - wide(parts[19 * c + i])) as i32;
     }
     parts[19 * b + k]
 }

@@ -5,11 +5,10 @@ ghost use Prim.Native.Nat.{_+_, _<_};
 ghost use lib.IntN.{pos, _-ℤ_};
 ghost use lib.ListN.{length, getD};
 ghost use Rattle.lattice.specs.declared.Settings.{Settings};
-ghost use Rattle.grid.specs.State.{byFlag};
-ghost use Rattle.grid.specs.Fill.{partOf};
-ghost use Rattle.grid.specs.Sight.{Bodied, Around, boxSight};
+ghost use Rattle.grid.specs.State.{byFlag, partOf};
+ghost use Rattle.grid.specs.inner.Sight.{Bodied, Around, boxSight};
 ghost use Rattle.grid.specs.Step.{tradedMass};
-ghost use Rattle.flow.specs.Trade.{Fills, Traders, passed, markFor};
+ghost use Rattle.flow.specs.inner.Trade.{Fills, Traders, passed, markFor};
 
 pub fn difference(a: i32, b: i32) -> i64
     ensures { λ r. ⌜ r ≡ a -ℤ b ⌝ }

@@ -9,46 +9,27 @@ use native.Mathlib.Omega.{arith}
 use lib.Dec.{eqb, leb}
 use lib.IntN.{ℤ, pos}
 use borrow.Author.Tests.{leb-true, leb-false, eqb-true}
-use Rattle.whole.specs.Fold.{all, tab, first, anyDir}
-use Rattle.whole.specs.Parts.{up, down}
-use Rattle.whole.specs.Search.{Dir, first-cong, first-none}
-use Rattle.whole.specs.Tab.{tab-cong}
+use Rattle.whole.specs.Fold.{all, tab, first, anyDir, up, down, Dir}
+use Rattle.whole.specs.laws.Search.{first-cong, first-none}
+use Rattle.whole.specs.laws.Tab.{tab-cong}
 use Rattle.lattice.specs.Lattice.{dot, d3q19, d2q9}
 use Rattle.lattice.specs.Cell.{partGood, dense, slow, massGood, carryGood}
 use Rattle.lattice.specs.Body.{bodyGood, eqZ}
-use Rattle.lattice.proofs.Paired.{Paired, paired19, paired9}
 use Rattle.grid.specs.declared.Answer.{Answer}
 use Rattle.grid.specs.declared.Answer.the-variants.{Done}
 use Rattle.grid.specs.Grid.{Grid, cellAt, toward}
 use Rattle.grid.specs.State.{lent, State, Scene, byFlag, liquid, lentOf}
-use Rattle.grid.specs.Step.{newDensity, newMomentum, tooFast, newFlag, newPart, newMass, newFill, newCarry, fillFor, next}
+use Rattle.grid.specs.Step.{streamedDensity, streamedMomentum, unsteady, newFlag, newPart, newMass, newFill, newCarry, fillFor, next}
 use Rattle.grid.specs.Good.{flagGood, badFlag, openFluid, badFluid, dryGood, interfaceGood, fluidGood, fillGood, cellGood, badRule}
 use Rattle.grid.specs.Outcome.{orRefuse, ifNone, goodAnswer, moveAnswer}
 use Rattle.grid.proofs.Laid.{Laid}
-use Rattle.flume.specs.Spread.{wide, narrow, idle, spread, spreadLattice, spreadGrid, spreadState, plainScene, spreadScene, SpreadOf}
+use Rattle.flume.specs.inner.Spread.{wide, spread, spreadLattice, spreadGrid, spreadState, plainScene, spreadScene, SpreadOf}
 use Rattle.flume.proofs.Places.{at-places, spread-at, spread-none, any-same, tests-same}
-use Rattle.flume.proofs.Flowing.{e-at, opp-at, opp-dir, opp-none, density-same, momentum-same, old-spreads, too-fast-same}
+use Rattle.flume.proofs.Flowing.{e-at, opp-at, opp-dir, opp-none, density-same, momentum-same, old-spreads, unsteady-same}
 use Rattle.flume.proofs.Turning.{Steady}
 use Rattle.flume.proofs.Giving.{next-spreads}
 
 -- ---- the nineteen places are a lattice and a grid like any other
-
-pub spread-paired : Paired spreadLattice
-unfolding d3q19 d2q9 spread narrow idle wide
-spread-paired = record {
-  dir = paired19 .dir;
-  twice = paired19 .twice;
-  ex = paired19 .ex;
-  ey = paired19 .ey;
-  ez = paired19 .ez;
-  same = weights;
-}
-  where
-    weights : (i : ℕ) → Dir 18 i → spreadLattice .weight (d3q19 .opp i) ≡ spreadLattice .weight i
-    weights =
-        at-places (λ i. spreadLattice .weight (d3q19 .opp i) ≡ spreadLattice .weight i)
-        (λ k d. ap (spreadLattice .weight) (opp-at k d) ∙ spread-at 0 (d2q9 .weight) (d2q9 .opp k) (opp-dir k d .most) ∙ paired9 .same k d ∙ sym (spread-at 0 (d2q9 .weight) k (d .most)))
-        (λ i n. spread-none 0 (d2q9 .weight) (d3q19 .opp i) (opp-none i n) ∙ sym (spread-none 0 (d2q9 .weight) i n))
 
 pub spread-laid : (G : Grid) → Laid d2q9 G → Laid spreadLattice (spreadGrid G)
 unfolding d3q19 d2q9
@@ -152,8 +133,8 @@ module _ (S : Scene) where
   Outside = (c : ℕ) → S .grid .cells ≤ c → S .old .flag c ≡ 3
 
   -- no cell is too fast
-  pub steady : Outside → S .grid .cells ≤ first (S .grid .cells) (tooFast P) → Steady S
-  unfolding tooFast
+  pub steady : Outside → S .grid .cells ≤ first (S .grid .cells) (unsteady P) → Steady S
+  unfolding unsteady
   steady o e c l = go (leb (S .grid .cells) c) refl
     where
       fair : (a b d : Bool) → a ≡ true → (a && not (b && d)) ≡ false → b ≡ true
@@ -161,30 +142,30 @@ module _ (S : Scene) where
       fair true false d p q = sym q
       fair false b d p q = absurd (false≢true p)
 
-      go : (b : Bool) → leb (S .grid .cells) c ≡ b → dense (newDensity P c) ≡ true
+      go : (b : Bool) → leb (S .grid .cells) c ≡ b → dense (streamedDensity P c) ≡ true
       go true h = absurd (false≢true (sym (ap liquid (o c (leb-true (S .grid .cells) c h))) ∙ l))
       go false h =
           let k : c < S .grid .cells = leb-false (S .grid .cells) c h in
-          fair (liquid (S .old .flag c)) (dense (newDensity P c)) (slow (newDensity P c) (dot (newMomentum P c) (newMomentum P c))) l
-          (first-none (S .grid .cells) (tooFast P) e c k)
+          fair (liquid (S .old .flag c)) (dense (streamedDensity P c)) (slow (streamedDensity P c) (dot (streamedMomentum P c) (streamedMomentum P c))) l
+          (first-none (S .grid .cells) (unsteady P) e c k)
 
-  pub fast-same : first (S .grid .cells) (tooFast T) ≡ first (S .grid .cells) (tooFast P)
-  fast-same = first-cong (S .grid .cells) 0 (tooFast T) (tooFast P) (λ a k. too-fast-same S (0 + a))
+  pub fast-same : first (S .grid .cells) (unsteady T) ≡ first (S .grid .cells) (unsteady P)
+  fast-same = first-cong (S .grid .cells) 0 (unsteady T) (unsteady P) (λ a k. unsteady-same S (0 + a))
 
   pub move-answer-same : Outside → moveAnswer T ≡ moveAnswer P
   unfolding moveAnswer
-  move-answer-same o = go (leb (S .grid .cells) (first (S .grid .cells) (tooFast P))) refl
+  move-answer-same o = go (leb (S .grid .cells) (first (S .grid .cells) (unsteady P))) refl
     where
-      moves : S .grid .cells ≤ first (S .grid .cells) (tooFast P) → moveAnswer T ≡ moveAnswer P
+      moves : S .grid .cells ≤ first (S .grid .cells) (unsteady P) → moveAnswer T ≡ moveAnswer P
       moves h j =
           ifNone (S .grid .cells) 7 (fast-same j)
           (ifNone (suc (S .grid .cells)) 8 (bad-rule-same (next P) (next T) (next-spreads S (steady o h)) (S .grid .cells) j) Done)
 
-      go : (b : Bool) → leb (S .grid .cells) (first (S .grid .cells) (tooFast P)) ≡ b → moveAnswer T ≡ moveAnswer P
-      go true e = moves (leb-true (S .grid .cells) (first (S .grid .cells) (tooFast P)) e)
+      go : (b : Bool) → leb (S .grid .cells) (first (S .grid .cells) (unsteady P)) ≡ b → moveAnswer T ≡ moveAnswer P
+      go true e = moves (leb-true (S .grid .cells) (first (S .grid .cells) (unsteady P)) e)
       go false e =
           ap (λ (m : ℕ). ifNone (S .grid .cells) 7 m (ifNone (suc (S .grid .cells)) 8 (badRule spreadLattice (S .grid .cells) (next T)) Done)) fast-same
-          ∙ refuses (leb (S .grid .cells) (first (S .grid .cells) (tooFast P))) (first (S .grid .cells) (tooFast P))
+          ∙ refuses (leb (S .grid .cells) (first (S .grid .cells) (unsteady P))) (first (S .grid .cells) (unsteady P))
           (ifNone (suc (S .grid .cells)) 8 (badRule spreadLattice (S .grid .cells) (next T)) Done)
           (ifNone (suc (S .grid .cells)) 8 (badRule d2q9 (S .grid .cells) (next P)) Done) e
         where
@@ -193,7 +174,7 @@ module _ (S : Scene) where
           refuses false m u v h = refl
 
   -- the next state as a set of nine parts a cell, read from the nineteen places
-  pub next-lent : Outside → S .grid .cells ≤ first (S .grid .cells) (tooFast P) → (n : ℕ)
+  pub next-lent : Outside → S .grid .cells ≤ first (S .grid .cells) (unsteady P) → (n : ℕ)
       → lentOf 8 n (next P) ≡ lent (tab n (newFlag T)) (tab (9 * n) (λ m. newPart T (m / 9) (wide (m % 9)))) (tab n (newMass T)) (tab n (newFill T)) (newCarry T ∷ [])
   unfolding lentOf next
   next-lent o e n j =

@@ -7,9 +7,10 @@ use Prim.Native.Nat.{ℕ, suc, _<_}
 use native.Mathlib.Omega.{arith}
 use lib.IntN.{ℤ, pos, _+ℤ_, _*ℤ_, *ℤ-zero}
 use lib.Signed.{quotZ}
-use Rattle.whole.specs.Quot.{zero-quot}
-use Rattle.whole.specs.Search.{Dir, as-dir}
-use Rattle.whole.specs.Sums.{sum-zero}
+use Rattle.whole.specs.laws.Quot.{zero-quot}
+use Rattle.whole.specs.Fold.{Dir}
+use Rattle.whole.specs.laws.Search.{as-dir}
+use Rattle.whole.specs.laws.Sums.{sum-zero}
 use Rattle.lattice.specs.Lattice.{momentum, d2q9, open-lattice}
 use Rattle.lattice.specs.Cell.{pull}
 use Rattle.lattice.proofs.Paired.{paired9}
@@ -18,7 +19,7 @@ use Rattle.grid.specs.declared.Answer.{Answer}
 use Rattle.grid.specs.declared.Answer.the-variants.{Done}
 use Rattle.grid.specs.Grid.{flume}
 use Rattle.grid.specs.State.{Lent, Scene}
-use Rattle.grid.specs.Step.{streamed, newDensity, newMomentum}
+use Rattle.grid.specs.Step.{streamed, streamedDensity, streamedMomentum}
 use Rattle.grid.specs.Ground.{sceneOn}
 use Rattle.grid.specs.Demands as demands
 use Rattle.grid.specs.Demands.{Reached}
@@ -82,12 +83,12 @@ module _ (s : FlumeSides) (g : FlumeSettings) (a : Lent) (c : ℕ) where
   abbrev S : Scene
   S = sceneOn (flumeGround s) (levelSettings g) a
 
-  level : newMomentum S c ≡ record { x = newMomentum S c .x; y = pos 0; z = newMomentum S c .z }
-  unfolding newMomentum
-  level j = record { x = newMomentum S c .x; y = ap₂ (λ (x y : ℤ). x +ℤ y) (no-moment (streamed S c)) (no-pull (newDensity S c)) j; z = newMomentum S c .z }
+  level : streamedMomentum S c ≡ record { x = streamedMomentum S c .x; y = pos 0; z = streamedMomentum S c .z }
+  unfolding streamedMomentum
+  level j = record { x = streamedMomentum S c .x; y = ap₂ (λ (x y : ℤ). x +ℤ y) (no-moment (streamed S c)) (no-pull (streamedDensity S c)) j; z = streamedMomentum S c .z }
 
-  balanced : Balanced d2q9 (newMomentum S c)
-  balanced = subst (Balanced d2q9) (sym level) (balanced9 (newMomentum S c .x) (newMomentum S c .z))
+  balanced : Balanced d2q9 (streamedMomentum S c)
+  balanced = subst (Balanced d2q9) (sym level) (balanced9 (streamedMomentum S c .x) (streamedMomentum S c .z))
 
 pub flume-accurate : (s : FlumeSides) (g : FlumeSettings) (a second : Lent) (marks : List ℕ) → flumeStep s g a second marks ≡ Done → (c : ℕ) → c < flumeCells s
     → Accurate (flumeGround s) (levelSettings g) a second marks c

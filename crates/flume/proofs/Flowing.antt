@@ -8,17 +8,17 @@ use native.Mathlib.Omega.{arith}
 use lib.Dec.{eqb}
 use lib.IntN.{ℤ, pos, _+ℤ_, _-ℤ_, _*ℤ_, *ℤ-zero, zero-*ℤ, +ℤ-invr}
 use lib.Signed.{quotZ}
-use Rattle.whole.specs.Fold.{dirs}
-use Rattle.whole.specs.Quot.{zero-quot}
-use Rattle.whole.specs.Ring.{ring-by, quotes}
-use Rattle.whole.specs.Search.{Dir}
+use Rattle.lattice.specs.Body.{collidedPart, relaxedDir}
+use Rattle.whole.specs.Fold.{dirs, Dir}
+use Rattle.whole.specs.laws.Quot.{zero-quot}
+use Rattle.whole.specs.laws.Ring.{ring-by, quotes}
 use Rattle.lattice.specs.Lattice.{V3, dot, density, momentum, d3q19, d2q9, open-lattice}
-use Rattle.lattice.specs.Cell.{dense, slow, gas, exchange, pull, quad, relaxed, isPositive}
+use Rattle.lattice.specs.Cell.{dense, slow, gasPair, exchange, pull, quad, relaxed, isPositive}
 use Rattle.lattice.proofs.Paired.{paired9}
 use Rattle.grid.specs.Grid.{Grid}
 use Rattle.grid.specs.State.{State, Scene, byFlag, liquid}
-use Rattle.grid.specs.Step.{seen, normal, oldDensity, oldMomentum, leansTo, rebuilt, rebuild, arrives, streamed, difference, traded, tradedMass, newDensity, newMomentum, tooFast, collidedDir, collided}
-use Rattle.flume.specs.Spread.{wide, narrow, idle, spread, spreadLattice, plainScene, spreadScene, Idle, Spreads}
+use Rattle.grid.specs.Step.{seen, normal, oldDensity, oldMomentum, leansTo, rebuilds, rebuiltPart, arrives, streamed, difference, traded, tradedMass, streamedDensity, streamedMomentum, unsteady, collidedDir, collided}
+use Rattle.flume.specs.inner.Spread.{wide, narrow, idle, spread, spreadLattice, plainScene, spreadScene, Idle, Spreads}
 use Rattle.flume.proofs.Places.{by-eight, by-idle, is-idle, spread-at, spread-none, dirs-same, sum-same, spreads}
 
 -- ---- the directions
@@ -61,8 +61,8 @@ module _ (f h : ℕ → ℤ) (z : Spreads f h) where
   }
 
 -- ---- what has no weight and no part gives nothing
-gas-none : (ρ ej jj : ℤ) → gas 0 ρ ej jj ≡ pos 0
-unfolding gas
+gas-none : (ρ ej jj : ℤ) → gasPair 0 ρ ej jj ≡ pos 0
+unfolding gasPair
 gas-none ρ ej jj =
     ap (λ (t : ℤ). quotZ t (ρ *ℤ ρ)) (zero-*ℤ (pos 2 *ℤ (ρ *ℤ ρ) +ℤ pos 9 *ℤ (ej *ℤ ej) -ℤ pos 3 *ℤ jj)) ∙ zero-quot (ρ *ℤ ρ)
 
@@ -96,16 +96,16 @@ module _ (G : Grid) (old : State) (g : V3) (relax : ℕ → ℤ) (quiet : (c i :
   abbrev Q : Scene
   Q = record { lat = spreadLattice; grid = G; old = old; g = g; relax = relax }
 
-  rebuild-none : (c i : ℕ) → Idle i → rebuild Q c i ≡ pos 0
-  unfolding rebuild
-  rebuild-none c i n =
-      ap₂ (λ (w : ℕ) (x : ℤ). gas w (oldDensity Q c) (dot (d3q19 .e i) (oldMomentum Q c)) (dot (oldMomentum Q c) (oldMomentum Q c)) -ℤ x) (spread-none 0 (d2q9 .weight) i n) (quiet c i n)
+  rebuilt-none : (c i : ℕ) → Idle i → rebuiltPart Q c i ≡ pos 0
+  unfolding rebuiltPart
+  rebuilt-none c i n =
+      ap₂ (λ (w : ℕ) (x : ℤ). gasPair w (oldDensity Q c) (dot (d3q19 .e i) (oldMomentum Q c)) (dot (oldMomentum Q c) (oldMomentum Q c)) -ℤ x) (spread-none 0 (d2q9 .weight) i n) (quiet c i n)
       ∙ ap (λ (x : ℤ). x -ℤ pos 0) (gas-none (oldDensity Q c) (dot (d3q19 .e i) (oldMomentum Q c)) (dot (oldMomentum Q c) (oldMomentum Q c)))
 
   arrives-none : (c i k : ℕ) → Idle i → Idle k → arrives Q c i k ≡ pos 0
   unfolding arrives
   arrives-none c i k n m =
-      arrives-nothing (rebuilt Q c i) (old .flag (G .near c i)) (rebuild-none c i n) (quiet (G .near c i) k m) (quiet c i n)
+      arrives-nothing (rebuilds Q c i) (old .flag (G .near c i)) (rebuilt-none c i n) (quiet (G .near c i) k m) (quiet c i n)
 
   pub arrives-idle : (c i : ℕ) → Idle i → arrives Q c (d3q19 .opp i) i ≡ pos 0
   arrives-idle c i n = arrives-none c (d3q19 .opp i) i (opp-none i n) n
@@ -116,13 +116,13 @@ module _ (G : Grid) (old : State) (g : V3) (relax : ℕ → ℤ) (quiet : (c i :
   streamed-none c (suc a) n = arrives-idle c (suc a) n
 
   pub collided-dir-none : (c i : ℕ) → Idle i → collidedDir Q c i ≡ pos 0
-  unfolding collidedDir
+  unfolding relaxedDir
   collided-dir-none c i n =
-      let R = quad (newDensity Q c) (dot (d3q19 .e i) (newMomentum Q c)) (dot (newMomentum Q c) (newMomentum Q c)) in
-      ap₂ (λ (w : ℕ) (x : ℤ). relaxed (relax c) w R (newDensity Q c) x) (spread-none 0 (d2q9 .weight) i n) (streamed-none c i n) ∙ relaxed-none (relax c) R (newDensity Q c)
+      let R = quad (streamedDensity Q c) (dot (d3q19 .e i) (streamedMomentum Q c)) (dot (streamedMomentum Q c) (streamedMomentum Q c)) in
+      ap₂ (λ (w : ℕ) (x : ℤ). relaxed (relax c) w R (streamedDensity Q c) x) (spread-none 0 (d2q9 .weight) i n) (streamed-none c i n) ∙ relaxed-none (relax c) R (streamedDensity Q c)
 
   pub collided-none : (c i : ℕ) → Idle i → collided Q c i ≡ pos 0
-  unfolding collided idle narrow
+  unfolding collided collidedPart idle narrow
   collided-none c zero n = absurd (false≢true (n .none))
   collided-none c (suc a) n = collided-dir-none c (suc a) n
 
@@ -160,9 +160,6 @@ module _ (S : Scene) where
   weight-at : (k : ℕ) → Dir 8 k → T .lat .weight (wide k) ≡ P .lat .weight k
   weight-at k d = spread-at 0 (d2q9 .weight) k (d .most)
 
-  weight-none : (i : ℕ) → Idle i → T .lat .weight i ≡ 0
-  weight-none i n = spread-none 0 (d2q9 .weight) i n
-
   -- the normal: along y there is nothing to see but the cell itself
   pub normal-same : (c : ℕ) → normal T c ≡ normal P c
   unfolding normal seen d3q19 d2q9 spread narrow idle
@@ -185,15 +182,15 @@ module _ (S : Scene) where
   unfolding leansTo
   leans-at c k d = ap₂ (λ (n e : V3). eqb (S .old .flag c) 1 && isPositive (dot n e)) (normal-same c) (e-at k d)
 
-  rebuilt-at : (c k : ℕ) → Dir 8 k → rebuilt T c (wide k) ≡ rebuilt P c k
-  unfolding rebuilt
-  rebuilt-at c k d = ap₂ (λ (m : ℕ) (b : Bool). byFlag (S .old .flag m) true b b false) (near-at c k d) (leans-at c k d)
+  rebuilds-at : (c k : ℕ) → Dir 8 k → rebuilds T c (wide k) ≡ rebuilds P c k
+  unfolding rebuilds
+  rebuilds-at c k d = ap₂ (λ (m : ℕ) (b : Bool). byFlag (S .old .flag m) true b b false) (near-at c k d) (leans-at c k d)
 
-  rebuild-at : (c k : ℕ) → Dir 8 k → rebuild T c (wide k) ≡ rebuild P c k
-  unfolding rebuild
-  rebuild-at c k d j =
+  rebuilt-at : (c k : ℕ) → Dir 8 k → rebuiltPart T c (wide k) ≡ rebuiltPart P c k
+  unfolding rebuiltPart
+  rebuilt-at c k d j =
       let m = old-momentum-same c j in
-      gas (weight-at k d j) (old-density-same c j) (dot (e-at k d j) m) (dot m m) -ℤ part-at c k (d .most) j
+      gasPair (weight-at k d j) (old-density-same c j) (dot (e-at k d j) m) (dot m m) -ℤ part-at c k (d .most) j
 
   beyond-at : (c i k : ℕ) → Dir 8 i → k ≤ 8 → T .old .part (T .grid .near c (wide i)) (wide k) ≡ P .old .part (P .grid .near c i) k
   beyond-at c i k d h = ap (λ (m : ℕ). T .old .part m (wide k)) (near-at c i d) ∙ part-at (P .grid .near c i) k h
@@ -202,7 +199,7 @@ module _ (S : Scene) where
   unfolding arrives
   arrives-at c i k d t j =
       let x = beyond-at c i k d (t .most) j in
-      cond (rebuilt-at c i d j) (rebuild-at c i d j) (byFlag (S .old .flag (near-at c i d j)) (pos 0) x x (part-at c i (d .most) j))
+      cond (rebuilds-at c i d j) (rebuilt-at c i d j) (byFlag (S .old .flag (near-at c i d j)) (pos 0) x x (part-at c i (d .most) j))
 
   pub streamed-spreads : (c : ℕ) → Spreads (streamed T c) (streamed P c)
   unfolding streamed spread narrow idle
@@ -231,35 +228,35 @@ module _ (S : Scene) where
   traded-mass-same c = ap (λ (x : ℤ). S .old .mass c +ℤ x) (dirs-same (traded T c) (traded P c) (traded-at c) (traded-none (T .grid) (T .old) (S .g) (S .relax) part-none c))
 
   -- ---- 3 gravity and test
-  pub new-density-same : (c : ℕ) → newDensity T c ≡ newDensity P c
-  unfolding newDensity
-  new-density-same c = density-same (streamed T c) (streamed P c) (streamed-spreads c)
+  pub streamed-density-same : (c : ℕ) → streamedDensity T c ≡ streamedDensity P c
+  unfolding streamedDensity
+  streamed-density-same c = density-same (streamed T c) (streamed P c) (streamed-spreads c)
 
-  pub new-momentum-same : (c : ℕ) → newMomentum T c ≡ newMomentum P c
-  unfolding newMomentum
-  new-momentum-same c j =
+  pub streamed-momentum-same : (c : ℕ) → streamedMomentum T c ≡ streamedMomentum P c
+  unfolding streamedMomentum
+  streamed-momentum-same c j =
       let m = momentum-same (streamed T c) (streamed P c) (streamed-spreads c) j in
-      let ρ = new-density-same c j in
+      let ρ = streamed-density-same c j in
       record { x = m .x +ℤ pull ρ (S .g .x); y = m .y +ℤ pull ρ (S .g .y); z = m .z +ℤ pull ρ (S .g .z) }
 
-  pub too-fast-same : (c : ℕ) → tooFast T c ≡ tooFast P c
-  unfolding tooFast
-  too-fast-same c j =
-      let m = new-momentum-same c j in
-      let ρ = new-density-same c j in
+  pub unsteady-same : (c : ℕ) → unsteady T c ≡ unsteady P c
+  unfolding unsteady
+  unsteady-same c j =
+      let m = streamed-momentum-same c j in
+      let ρ = streamed-density-same c j in
       liquid (S .old .flag c) && not (dense ρ && slow ρ (dot m m))
 
   -- ---- 4 collision
   collided-at : (c k : ℕ) → Dir 8 k → collidedDir T c (wide k) ≡ collidedDir P c k
-  unfolding collidedDir
+  unfolding relaxedDir
   collided-at c k d j =
-      let m = new-momentum-same c j in
-      let ρ = new-density-same c j in
+      let m = streamed-momentum-same c j in
+      let ρ = streamed-density-same c j in
       relaxed (S .relax c) (weight-at k d j) (quad ρ (dot (e-at k d j) m) (dot m m)) ρ (streamed-spreads c .at k (d .most) j)
 
   pub collided-spreads : (c : ℕ) → Spreads (collided T c) (collided P c)
-  unfolding collided d3q19 d2q9
+  unfolding collided collidedPart d3q19 d2q9
   collided-spreads c =
       spreads (collided T c) (collided P c) (collidedDir T c) (collidedDir P c) (λ a. refl) (λ a. refl)
-      (ap₂ (λ (x y : ℤ). x -ℤ y) (new-density-same c) (dirs-same (collidedDir T c) (collidedDir P c) (collided-at c) (collided-dir-none (T .grid) (T .old) (S .g) (S .relax) part-none c)))
+      (ap₂ (λ (x y : ℤ). x -ℤ y) (streamed-density-same c) (dirs-same (collidedDir T c) (collidedDir P c) (collided-at c) (collided-dir-none (T .grid) (T .old) (S .g) (S .relax) part-none c)))
       (collided-at c) (collided-dir-none (T .grid) (T .old) (S .g) (S .relax) part-none c)

@@ -5,17 +5,16 @@ use mathlib.Core.Bool.{Bool, true, false, _&&_, _||_, not, cond, false≢true}
 use Prim.Native.Nat.{ℕ, zero, suc}
 use lib.Dec.{eqb}
 use lib.IntN.{ℤ, pos, negℤ, _+ℤ_, _-ℤ_}
-use Rattle.whole.specs.Bools.{never, cond-no}
-use Rattle.whole.specs.Fold.{dirs}
-use Rattle.whole.specs.Search.{Dir}
-use Rattle.whole.specs.Sums.{sum-cong}
+use Rattle.whole.specs.laws.Bools.{never, cond-no}
+use Rattle.whole.specs.Fold.{dirs, Dir}
+use Rattle.whole.specs.laws.Sums.{sum-cong}
 use Rattle.lattice.specs.Lattice.{dot, d3q19, d2q9}
 use Rattle.lattice.specs.Cell.{over, under, positive, isPositive, share}
 use Rattle.grid.specs.State.{Scene, byFlag}
-use Rattle.grid.specs.Step.{tradedMass, newDensity, filled, besideFilled, emptied, besideEmptied, flagAfter, newFlag, newPart, converted, excess, target, anyTarget, lean, leanWeight, shareWeight, gift, toCarry, received, newMass, newCarry, fillFor, newFill, next}
-use Rattle.flume.specs.Spread.{wide, plainScene, spreadScene, Idle, SpreadOf}
+use Rattle.grid.specs.Step.{tradedMass, streamedDensity, filled, besideFilled, emptied, besideEmptied, flagAfter, newFlag, newPart, converted, excess, target, anyTarget, lean, leanWeight, shareWeight, gift, toCarry, received, newMass, newCarry, fillFor, newFill, next}
+use Rattle.flume.specs.inner.Spread.{wide, plainScene, spreadScene, Idle, SpreadOf}
 use Rattle.flume.proofs.Places.{dirs-same, any-same, share-same}
-use Rattle.flume.proofs.Flowing.{e-at, opp-at, opp-dir, near-at, near-none, normal-same, density-same, traded-mass-same, new-density-same}
+use Rattle.flume.proofs.Flowing.{e-at, opp-at, opp-dir, near-at, near-none, normal-same, density-same, traded-mass-same, streamed-density-same}
 use Rattle.flume.proofs.Turning.{Steady, filled-same, emptied-same, new-flag-same, base-mass-same, new-part-spreads}
 
 -- a converted cell is not interface any more
@@ -31,7 +30,7 @@ turned (suc (suc (suc n))) b o e h t = absurd (false≢true t)
 pub no-interface : (X : Scene) (c : ℕ) → converted X c ≡ true → eqb (newFlag X c) 1 ≡ false
 unfolding newFlag filled emptied
 no-interface X c t =
-    turned (X .old .flag c) (besideFilled X c) (over (tradedMass X c) (newDensity X c)) (under (tradedMass X c) (newDensity X c) && not (besideFilled X c)) (besideEmptied X c) t
+    turned (X .old .flag c) (besideFilled X c) (over (tradedMass X c) (streamedDensity X c)) (under (tradedMass X c) (streamedDensity X c) && not (besideFilled X c)) (besideEmptied X c) t
 
 gives-nothing : (X : Scene) (c k : ℕ) → converted X c ≡ false → gift X c k ≡ pos 0
 unfolding gift
@@ -59,7 +58,7 @@ module _ (S : Scene) (steady : Steady S) where
   unfolding excess
   excess-same c j =
       let m = traded-mass-same S c j in
-      cond (filled-same S c j) (m -ℤ new-density-same S c j) (cond (emptied-same S steady c j) m (pos 0))
+      cond (filled-same S c j) (m -ℤ streamed-density-same S c j) (cond (emptied-same S steady c j) m (pos 0))
 
   target-at : (c k : ℕ) → Dir 8 k → target T c (wide k) ≡ target P c k
   unfolding target

@@ -12,15 +12,15 @@ use lib.IntN.{ℤ, pos, _+ℤ_, _-ℤ_, _*ℤ_, *ℤ-zero}
 use lib.ListN.{getD}
 use lib.Signed.{quotZ}
 use borrow.Author.Tests.{leb-true, ltb-true, eq-eqb, ne-eqb}
-use Rattle.whole.specs.Bools.{and-left, and-right}
-use Rattle.whole.specs.Fold.{sum, any, all, count, first, dirs, anyDir, countDir, open-fold}
-use Rattle.whole.specs.Quot.{zero-quot}
-use Rattle.whole.specs.Ring.{ring-by, quotes}
-use Rattle.whole.specs.Search.{Dir, as-dir, first-cong}
-use Rattle.whole.specs.Sums.{sum-cong, sum-first}
+use Rattle.whole.specs.laws.Bools.{and-left, and-right}
+use Rattle.whole.specs.Fold.{sum, any, all, count, first, dirs, anyDir, countDir, open-fold, Dir}
+use Rattle.whole.specs.laws.Quot.{zero-quot}
+use Rattle.whole.specs.laws.Ring.{ring-by, quotes}
+use Rattle.whole.specs.laws.Search.{as-dir, first-cong}
+use Rattle.whole.specs.laws.Sums.{sum-cong, sum-first}
 use Rattle.lattice.specs.Cell.{isPositive, cutShare, remainder, lowestDir, share}
 use Rattle.grid.proofs.Same.{all-same}
-use Rattle.flume.specs.Spread.{wide, narrow, idle, spread, Idle, Spreads}
+use Rattle.flume.specs.inner.Spread.{wide, narrow, idle, spread, Idle, Spreads}
 
 -- ---- the places one by one
 

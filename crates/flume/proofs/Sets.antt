@@ -4,27 +4,20 @@ use mathlib.Core.List.{[], _∷_}
 use Prim.Native.Nat.{ℕ, _*_, _/_, _%_, _≤_}
 use lib.ListN.{length, List·getD-eq-default}
 use Rattle.whole.specs.Fold.{tab, first}
-use Rattle.lattice.specs.Lattice.{d2q9}
-use Rattle.grid.specs.declared.Answer.{Answer}
 use Rattle.grid.specs.Grid.{flume}
 use Rattle.grid.specs.State.{Lent, lent, Scene, stateOf}
-use Rattle.grid.specs.Step.{tooFast, newFlag, newPart, newMass, newFill, newCarry}
-use Rattle.grid.specs.Outcome.{goodAnswer, moveAnswer}
+use Rattle.grid.specs.Step.{unsteady, newFlag, newPart, newMass, newFill, newCarry}
+use Rattle.grid.specs.Outcome.{moveAnswer}
 use Rattle.flume.specs.declared.FlumeSides.{FlumeSides}
 use Rattle.flume.specs.declared.FlumeSettings.{FlumeSettings}
 use Rattle.flume.specs.Flume.{flumeCells, flumeGrid}
 use Rattle.flume.specs.Outcome.{flumeScene, flumeNext}
-use Rattle.flume.specs.Spread.{wide, spreadLattice, spreadGrid, spreadState, spreadScene}
-use Rattle.flume.proofs.Bridge.{good-answer-same, move-answer-same, fast-same, next-lent}
+use Rattle.flume.specs.inner.Spread.{wide, spreadScene}
+use Rattle.flume.proofs.Bridge.{move-answer-same, fast-same, next-lent}
 
 module _ (s : FlumeSides) (g : FlumeSettings) (a : Lent) where
   abbrev T : Scene
   T = spreadScene (flumeScene s g a)
-
-  -- tests 4 to 6 of a set, whatever its lengths
-  pub flume-good : (rest : Answer) → goodAnswer spreadLattice (spreadGrid (flumeGrid s)) (spreadState (stateOf 8 a)) rest ≡ goodAnswer d2q9 (flumeGrid s) (stateOf 8 a) rest
-  unfolding flumeScene
-  flume-good rest = good-answer-same (flumeScene s g a) rest
 
   module _ (count : length (a .flags) ≡ flumeCells s) where
     outside : (c : ℕ) → flumeScene s g a .grid .cells ≤ c → flumeScene s g a .old .flag c ≡ 3
@@ -37,8 +30,8 @@ module _ (s : FlumeSides) (g : FlumeSettings) (a : Lent) where
     flume-move = move-answer-same (flumeScene s g a) outside
 
     -- no cell is too fast: the next state as a set
-    module _ (e : flumeCells s ≤ first (flumeCells s) (tooFast T)) where
-      slow-enough : flumeScene s g a .grid .cells ≤ first (flumeScene s g a .grid .cells) (tooFast (flumeScene s g a))
+    module _ (e : flumeCells s ≤ first (flumeCells s) (unsteady T)) where
+      slow-enough : flumeScene s g a .grid .cells ≤ first (flumeScene s g a .grid .cells) (unsteady (flumeScene s g a))
       unfolding flumeScene flumeGrid flumeCells flume
       slow-enough = subst (λ (n : ℕ). flumeCells s ≤ n) (fast-same (flumeScene s g a)) e
 

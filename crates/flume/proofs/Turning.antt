@@ -6,21 +6,22 @@ use Prim.Native.Nat.{ℕ, zero, suc}
 use native.Mathlib.Omega.{arith}
 use lib.IntN.{ℤ, pos, _-ℤ_, _*ℤ_, zero-*ℤ}
 use lib.Signed.{quotZ}
-use Rattle.whole.specs.Bools.{never, cond-no}
-use Rattle.whole.specs.Quot.{zero-quot}
-use Rattle.whole.specs.Search.{Dir}
+use Rattle.lattice.specs.Body.{equilibriumDir, equilibriumPart}
+use Rattle.whole.specs.laws.Bools.{never, cond-no}
+use Rattle.whole.specs.laws.Quot.{zero-quot}
+use Rattle.whole.specs.Fold.{Dir}
 use Rattle.lattice.specs.Lattice.{V3, dot, d3q19, d2q9}
-use Rattle.lattice.specs.Cell.{dense, over, under, quad, still, floor, cut}
+use Rattle.lattice.specs.Cell.{dense, over, under, quad, cutEquilibrium, floor, cut}
 use Rattle.grid.specs.State.{Scene, byFlag, liquid}
-use Rattle.grid.specs.Step.{tradedMass, newDensity, newMomentum, collided, filled, besideFilled, emptied, besideEmptied, flagAfter, newFlag, baseMass, liquidNear, nearSum, bornDensity, bornMomentum, bornDir, born, newPart}
+use Rattle.grid.specs.Step.{tradedMass, streamedDensity, streamedMomentum, collided, filled, besideFilled, emptied, besideEmptied, flagAfter, newFlag, baseMass, liquidNear, nearSum, bornDensity, bornMomentum, bornDir, born, newPart}
 use Rattle.grid.proofs.Accurate.{not-both, both-tests}
-use Rattle.flume.specs.Spread.{wide, spread, plainScene, spreadScene, Idle, Spreads}
+use Rattle.flume.specs.inner.Spread.{wide, spread, plainScene, spreadScene, Idle, Spreads}
 use Rattle.flume.proofs.Places.{spread-at, spread-none, dirs-same, any-same, count-same, spreads}
-use Rattle.flume.proofs.Flowing.{e-at, near-at, near-none, traded-mass-same, new-density-same, new-momentum-same, collided-spreads}
+use Rattle.flume.proofs.Flowing.{e-at, near-at, near-none, traded-mass-same, streamed-density-same, streamed-momentum-same, collided-spreads}
 
 -- stage 3 has passed: every liquid cell's ρ' is in its range
 abbrev pub Steady : Scene → Type 0
-Steady S = (c : ℕ) → liquid (S .old .flag c) ≡ true → dense (newDensity (plainScene S) c) ≡ true
+Steady S = (c : ℕ) → liquid (S .old .flag c) ≡ true → dense (streamedDensity (plainScene S) c) ≡ true
 
 -- ---- by cases on the old flag and the tests alone
 
@@ -57,30 +58,30 @@ part-none (suc zero) b false p q = q
 part-none (suc (suc zero)) b e p q = q
 part-none (suc (suc (suc n))) b e p q = refl
 
-pub still-none : (Q ρ : ℤ) → still 0 Q ρ ≡ pos 0
-unfolding still
-still-none Q ρ = ap (λ (t : ℤ). quotZ t (pos 72 *ℤ ρ)) (zero-*ℤ Q) ∙ zero-quot (pos 72 *ℤ ρ)
+pub equilibrium-none : (Q ρ : ℤ) → cutEquilibrium 0 Q ρ ≡ pos 0
+unfolding cutEquilibrium
+equilibrium-none Q ρ = ap (λ (t : ℤ). quotZ t (pos 72 *ℤ ρ)) (zero-*ℤ Q) ∙ zero-quot (pos 72 *ℤ ρ)
 
 -- a filled cell with a density in its range is not emptied
-pub full-stays : (X : Scene) (c : ℕ) → (liquid (X .old .flag c) ≡ true → dense (newDensity X c) ≡ true) → filled X c ≡ true → emptied X c ≡ false
+pub full-stays : (X : Scene) (c : ℕ) → (liquid (X .old .flag c) ≡ true → dense (streamedDensity X c) ≡ true) → filled X c ≡ true → emptied X c ≡ false
 unfolding filled emptied
 full-stays X c d e =
     never (emptied X c) (λ t.
-    let z = both-tests (X .old .flag c) (over (tradedMass X c) (newDensity X c)) (under (tradedMass X c) (newDensity X c)) (not (besideFilled X c)) e t in
-    not-both (tradedMass X c) (newDensity X c) (d (interface-liquid (X .old .flag c) (over (tradedMass X c) (newDensity X c)) e)) (z .0) (z .1))
+    let z = both-tests (X .old .flag c) (over (tradedMass X c) (streamedDensity X c)) (under (tradedMass X c) (streamedDensity X c)) (not (besideFilled X c)) e t in
+    not-both (tradedMass X c) (streamedDensity X c) (d (interface-liquid (X .old .flag c) (over (tradedMass X c) (streamedDensity X c)) e)) (z .0) (z .1))
 
 pub not-filled : (X : Scene) (c : ℕ) → (X .old .flag c ≡ 1 → ⊥) → filled X c ≡ false
 unfolding filled
-not-filled X c h = interface-alone (X .old .flag c) (over (tradedMass X c) (newDensity X c)) h
+not-filled X c h = interface-alone (X .old .flag c) (over (tradedMass X c) (streamedDensity X c)) h
 
 pub not-emptied : (X : Scene) (c : ℕ) → (X .old .flag c ≡ 1 → ⊥) → emptied X c ≡ false
 unfolding emptied
-not-emptied X c h = interface-alone (X .old .flag c) (under (tradedMass X c) (newDensity X c) && not (besideFilled X c)) h
+not-emptied X c h = interface-alone (X .old .flag c) (under (tradedMass X c) (streamedDensity X c) && not (besideFilled X c)) h
 
 module _ (S : Scene) where
   pub filled-same : (c : ℕ) → filled (spreadScene S) c ≡ filled (plainScene S) c
   unfolding filled
-  filled-same c j = byFlag (S .old .flag c) false (over (traded-mass-same S c j) (new-density-same S c j)) false false
+  filled-same c j = byFlag (S .old .flag c) false (over (traded-mass-same S c j) (streamed-density-same S c j)) false false
 
   beside-filled-same : (c : ℕ) → filled (plainScene S) c ≡ false → besideFilled (spreadScene S) c ≡ besideFilled (plainScene S) c
   unfolding besideFilled d3q19 d2q9
@@ -102,11 +103,11 @@ module _ (S : Scene) (steady : Steady S) where
     where
       lean : filled P c ≡ false → emptied T c ≡ emptied P c
       lean e j =
-          byFlag (S .old .flag c) false (under (traded-mass-same S c j) (new-density-same S c j) && not (beside-filled-same S c e j)) false false
+          byFlag (S .old .flag c) false (under (traded-mass-same S c j) (streamed-density-same S c j) && not (beside-filled-same S c e j)) false false
 
       go : (b : Bool) → filled P c ≡ b → emptied T c ≡ emptied P c
       go true e =
-          full-stays T c (λ l. ap dense (new-density-same S c) ∙ steady c l) (filled-same S c ∙ e) ∙ sym (full-stays P c (steady c) e)
+          full-stays T c (λ l. ap dense (streamed-density-same S c) ∙ steady c l) (filled-same S c ∙ e) ∙ sym (full-stays P c (steady c) e)
       go false e = lean e
 
   beside-emptied-same : (c : ℕ) → emptied P c ≡ false → besideEmptied T c ≡ besideEmptied P c
@@ -128,7 +129,7 @@ module _ (S : Scene) (steady : Steady S) where
   unfolding baseMass
   base-mass-same c j =
       let m = traded-mass-same S c j in
-      let ρ = new-density-same S c j in
+      let ρ = streamed-density-same S c j in
       byFlag (S .old .flag c) (pos 0) (cond (filled-same S c j) ρ (cond (emptied-same c j) (pos 0) m)) ρ (pos 0)
 
   -- ---- a new interface cell: it was empty, and so is not liquid beside itself
@@ -153,33 +154,33 @@ module _ (S : Scene) (steady : Steady S) where
 
     born-density-same : bornDensity T c ≡ bornDensity P c
     unfolding bornDensity
-    born-density-same = ap₂ (λ (x : ℤ) (n : ℕ). floor x n) (near-sum-same (newDensity T) (newDensity P) (new-density-same S)) liquid-near-same
+    born-density-same = ap₂ (λ (x : ℤ) (n : ℕ). floor x n) (near-sum-same (streamedDensity T) (streamedDensity P) (streamed-density-same S)) liquid-near-same
 
     born-momentum-same : bornMomentum T c ≡ bornMomentum P c
     unfolding bornMomentum
     born-momentum-same j =
         let n = liquid-near-same j in
         record {
-          x = cut (near-sum-same (λ d. newMomentum T d .x) (λ d. newMomentum P d .x) (λ d. ap (λ (v : V3). v .x) (new-momentum-same S d)) j) (pos n);
-          y = cut (near-sum-same (λ d. newMomentum T d .y) (λ d. newMomentum P d .y) (λ d. ap (λ (v : V3). v .y) (new-momentum-same S d)) j) (pos n);
-          z = cut (near-sum-same (λ d. newMomentum T d .z) (λ d. newMomentum P d .z) (λ d. ap (λ (v : V3). v .z) (new-momentum-same S d)) j) (pos n);
+          x = cut (near-sum-same (λ d. streamedMomentum T d .x) (λ d. streamedMomentum P d .x) (λ d. ap (λ (v : V3). v .x) (streamed-momentum-same S d)) j) (pos n);
+          y = cut (near-sum-same (λ d. streamedMomentum T d .y) (λ d. streamedMomentum P d .y) (λ d. ap (λ (v : V3). v .y) (streamed-momentum-same S d)) j) (pos n);
+          z = cut (near-sum-same (λ d. streamedMomentum T d .z) (λ d. streamedMomentum P d .z) (λ d. ap (λ (v : V3). v .z) (streamed-momentum-same S d)) j) (pos n);
         }
 
     born-at : (k : ℕ) → Dir 8 k → bornDir T c (wide k) ≡ bornDir P c k
-    unfolding bornDir
+    unfolding equilibriumDir
     born-at k d j =
         let m = born-momentum-same j in
         let ρ = born-density-same j in
-        still (spread-at 0 (d2q9 .weight) k (d .most) j) (quad ρ (dot (e-at k d j) m) (dot m m)) ρ
+        cutEquilibrium (spread-at 0 (d2q9 .weight) k (d .most) j) (quad ρ (dot (e-at k d j) m) (dot m m)) ρ
 
     born-none : (i : ℕ) → Idle i → bornDir T c i ≡ pos 0
-    unfolding bornDir
+    unfolding equilibriumDir
     born-none i n =
         let Q = quad (bornDensity T c) (dot (d3q19 .e i) (bornMomentum T c)) (dot (bornMomentum T c) (bornMomentum T c)) in
-        ap (λ (w : ℕ). still w Q (bornDensity T c)) (spread-none 0 (d2q9 .weight) i n) ∙ still-none Q (bornDensity T c)
+        ap (λ (w : ℕ). cutEquilibrium w Q (bornDensity T c)) (spread-none 0 (d2q9 .weight) i n) ∙ equilibrium-none Q (bornDensity T c)
 
     born-spreads : Spreads (born T c) (born P c)
-    unfolding born d3q19 d2q9
+    unfolding born equilibriumPart d3q19 d2q9
     born-spreads =
         spreads (born T c) (born P c) (bornDir T c) (bornDir P c) (λ a. refl) (λ a. refl)
         (ap₂ (λ (x y : ℤ). x -ℤ y) born-density-same (dirs-same (bornDir T c) (bornDir P c) born-at born-none)) born-at born-none

@@ -10,11 +10,10 @@ ghost use mathlib.Core.Path.{_≡_};
 ghost use mathlib.Core.Bool.{true};
 ghost use Prim.Native.Nat.{_<_, _-_};
 ghost use lib.ListN.{length, getD};
-ghost use Rattle.whole.specs.Fold.{tab};
-ghost use Rattle.whole.specs.Search.{Dir};
-ghost use Rattle.excess.specs.Gifts.{Weighed, Giver, Giving, targetAt, excessAt, giftAt, giftFrom, receivedAt, gatheredAt};
-ghost use Rattle.nine.specs.Cells.{partOf9};
-ghost use Rattle.flumeexcess.specs.Gathered.{roomOf9, Gathering};
+ghost use Rattle.whole.specs.Fold.{tab, Dir};
+ghost use Rattle.excess.specs.inner.Gifts.{Weighed, Giver, Giving, targetAt, excessAt, giftAt, giftFrom, receivedAt, gatheredAt};
+ghost use Rattle.nine.specs.inner.Cells.{partOf9};
+ghost use Rattle.flumeexcess.specs.inner.Gathered.{roomOf9, Gathering};
 
 // The excess of cell c with mark m: mass less density for a filled cell, the mass for an emptied one.
 pub(crate) fn excess9(parts: &[i32], masses: &[i32], m: u8, c: usize) -> i64

@@ -8,11 +8,11 @@ ghost use Prim.Native.Nat.{_<_};
 ghost use lib.IntN.{_+ℤ_};
 ghost use lib.ListN.{length};
 ghost use Rattle.whole.specs.Fold.{sum};
-ghost use Rattle.whole.specs.Machine.{Within};
-ghost use Rattle.grid.specs.Sight.{Around};
-ghost use Rattle.excess.specs.Gifts.{Weighed, lostAt, strayAt};
-ghost use Rattle.nine.specs.Cells.{partOf9};
-ghost use Rattle.flumeexcess.specs.Gathered.{roomOf9, Straying};
+ghost use Rattle.whole.specs.laws.Machine.{Within};
+ghost use Rattle.grid.specs.inner.Sight.{Around};
+ghost use Rattle.excess.specs.inner.Gifts.{Weighed, lostAt, strayAt};
+ghost use Rattle.nine.specs.inner.Cells.{partOf9};
+ghost use Rattle.flumeexcess.specs.inner.Gathered.{roomOf9, Straying};
 
 // What cell c with mark m has left for no one.
 fn lost9(

@@ -7,20 +7,20 @@ use native.Mathlib.Nat.{le-of-suc-le-suc}
 use native.Mathlib.Omega.{arith}
 use lib.IntN.{ℤ, pos, _+ℤ_}
 use lib.ListN.{length, getD}
-use Rattle.whole.specs.Machine.{Within}
+use Rattle.whole.specs.laws.Machine.{Within}
 use Rattle.lattice.specs.Lattice.{pairOpp, d3q19}
 use Rattle.lattice.specs.declared.Settings.{Settings}
 use Rattle.grid.specs.Step.{traded, tradedMass}
-use Rattle.grid.specs.Sight.{sight, Around}
-use Rattle.flow.specs.Trade.{Trading, passed}
+use Rattle.grid.specs.inner.Sight.{sight, Around}
+use Rattle.flow.specs.inner.Trade.{Trading, passed}
 use Rattle.flow.proofs.Arrivals.{odd-opposite, even-opposite}
 use Rattle.flow.proofs.Trades.{amassed, amassed-within, gain, gain-is}
 use Rattle.flow.proofs.Trades as trades
-use Rattle.flume.specs.Spread.{wide, spreadLattice}
+use Rattle.flume.specs.inner.Spread.{wide, spreadLattice}
 use Rattle.flume.proofs.Places.{dirs-same, wide-dir}
 use Rattle.flume.proofs.Flowing.{traded-none}
-use Rattle.nine.specs.Cells.{partOf9}
-use Rattle.flumeflow.specs.Seen.{sight9}
+use Rattle.nine.specs.inner.Cells.{partOf9}
+use Rattle.flumeflow.specs.inner.Seen.{sight9}
 use Rattle.flumeflow.proofs.Nines.{Paired, part-none}
 
 module _ (flags : List ℕ) (parts masses : List ℤ) (fills off : List ℕ) (low c : ℕ) where

@@ -11,24 +11,25 @@ use lib.IntN.{ℤ, pos, natAbs, -ℤ-+ℤ-cancel}
 use lib.ListN.{getD, set}
 use lib.Seq.{set-comm}
 use borrow.Author.Tests.{leb-true}
-use Rattle.whole.specs.Bools.{and-left, and-right, or-cases}
+use Rattle.whole.specs.laws.Bools.{and-left, and-right, or-cases}
 use Rattle.whole.specs.Fold.{all, tab, dirs, open-fold}
-use Rattle.whole.specs.Search.{all-at, as-dir}
-use Rattle.whole.specs.Sums.{sum-cong, sum-first}
-use Rattle.whole.specs.Tab.{getD-tab, tab-cong}
+use Rattle.whole.specs.laws.Search.{all-at, as-dir}
+use Rattle.whole.specs.laws.Sums.{sum-cong, sum-first}
+use Rattle.whole.specs.laws.Tab.{getD-tab, tab-cong}
 use Rattle.lattice.specs.Lattice.{V3, pairOpp, d3q19, density, open-lattice}
-use Rattle.lattice.specs.Body.{partsOf, relaxedDir, collidedPart}
+use Rattle.lattice.specs.inner.Held.{partsOf}
+use Rattle.lattice.specs.Body.{relaxedDir, collidedPart}
 use Rattle.lattice.specs.declared.Settings.{Settings}
 use Rattle.grid.specs.Step.{streamed}
-use Rattle.grid.specs.Sight.{sight}
-use Rattle.flow.specs.Sources.{Mirrored}
+use Rattle.grid.specs.inner.Sight.{sight}
+use Rattle.flow.specs.inner.Sources.{Mirrored}
 use Rattle.flow.proofs.Spans.{Light}
-use Rattle.flume.specs.Spread.{wide, narrow, idle, spread, spreadLattice, Idle}
+use Rattle.flume.specs.inner.Spread.{wide, narrow, idle, spread, spreadLattice, Idle}
 use Rattle.flume.proofs.Places.{by-eight, by-nine, spread-at, spread-none, is-spread}
 use Rattle.flume.proofs.Flowing.{streamed-none}
-use Rattle.nine.specs.Cells.{partOf9, Quiet}
+use Rattle.nine.specs.inner.Cells.{partOf9, Quiet}
 use Rattle.nine.proofs.Places.{Filled, filled-more}
-use Rattle.flumeflow.specs.Seen.{sight9, sourceOf9}
+use Rattle.flumeflow.specs.inner.Seen.{sight9, sourceOf9}
 
 -- ---- where a part lies
 pub part-at : (parts : List ℤ) (c k : ℕ) → k < 9 → partOf9 parts c (wide k) ≡ getD parts (9 * c + k) (pos 0)

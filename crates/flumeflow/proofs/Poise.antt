@@ -1,53 +1,45 @@
 -- From what pass 1 asks of a flume's set to what a function of one cell asks, and from the step's grid to offsets. Assumes nothing.
 use mathlib.Core.Path.{_≡_, refl, sym, ap, ap₂, _∙_, subst}
-use mathlib.Core.Bool.{true, false, false≢true}
+use mathlib.Core.Bool.{true, false≢true}
 use mathlib.Core.List.{List, []}
 use Prim.Native.Nat.{ℕ, _+_, _-_, _*_, _≤_, _<_}
 use native.Mathlib.Omega.{arith}
 use lib.IntN.{ℤ, pos}
 use lib.ListN.{length, getD}
-use Rattle.whole.specs.Fold.{tab}
-use Rattle.whole.specs.Search.{Dir}
+use Rattle.whole.specs.Fold.{tab, Dir}
 use Rattle.lattice.specs.Lattice.{pairOpp, d3q19, density, momentum}
 use Rattle.lattice.specs.Body.{bodyGood}
 use Rattle.lattice.specs.declared.Settings.{Settings}
-use Rattle.grid.specs.State.{Lent, lent, State, liquid, stateOf}
+use Rattle.grid.specs.State.{lent, State, liquid, stateOf}
 use Rattle.grid.specs.Good.{dryGood, interfaceGood, fluidGood, fillGood, cellGood}
 use Rattle.grid.specs.Grid.{flume}
 use Rattle.grid.specs.Outcome.{settingsGood}
-use Rattle.grid.specs.Ground.{sceneOn}
-use Rattle.grid.specs.Passes.{Amid}
-use Rattle.grid.specs.Sight.{Around}
+use Rattle.grid.specs.inner.Passes.{Amid}
+use Rattle.grid.specs.inner.Sight.{Around}
 use Rattle.grid.proofs.Laid.{inner}
 use Rattle.grid.proofs.Prepared.{cell-body, cell-mass, cell-fill}
-use Rattle.flow.specs.Sources.{Mirrored, Immersed}
+use Rattle.flow.specs.inner.Sources.{Mirrored, Immersed}
 use Rattle.flow.proofs.Poise.{fill-cases}
 use Rattle.flume.specs.declared.FlumeSides.{FlumeSides}
 use Rattle.flume.specs.declared.FlumeSettings.{FlumeSettings}
-use Rattle.flume.specs.Flume.{flumeCells, flumeGrid, flumeGround}
-use Rattle.flume.specs.Offsets.{flumeLow, flumeOffset}
-use Rattle.flume.specs.Spread.{spreadLattice, spreadGrid, spreadScene, SpreadOf}
+use Rattle.flume.specs.Flume.{flumeCells, flumeGrid}
+use Rattle.flume.specs.inner.Offsets.{flumeLow, flumeOffset}
+use Rattle.flume.specs.inner.Spread.{spreadLattice, spreadGrid, SpreadOf}
 use Rattle.flume.proofs.Bridge.{cell-good-same}
 use Rattle.flume.proofs.Places.{at-places, spread-at, spread-none}
-use Rattle.nine.specs.Cells.{partOf9}
-use Rattle.flumegrid.specs.Ready.{FlumePoised}
+use Rattle.nine.specs.inner.Cells.{partOf9}
+use Rattle.flumegrid.specs.inner.Ready.{FlumePoised}
 use Rattle.flumegrid.proofs.GoodSides.{few}
 use Rattle.flumegrid.proofs.Offsets.{near-self, place-is, inner-of}
 use Rattle.flumegrid.proofs.Offsets as flumegrid
-use Rattle.flumeflow.specs.Seen.{Bodied9, Traders9}
-use Rattle.flumeflow.specs.Flowed.{alongSettings, wideScene}
+use Rattle.flumeflow.specs.inner.Seen.{Bodied9, Traders9}
+use Rattle.flumeflow.specs.inner.Flowed.{alongSettings}
 use Rattle.flumeflow.proofs.Nines.{part-at, part-none}
-use Rattle.flumeflow.proofs.Spread.{scene-spread}
 
 -- the box's settings with gy = 0
 pub settings-good : (s : FlumeSides) (g : Settings) {flags : List ℕ} {parts masses : List ℤ} {fills : List ℕ} → FlumePoised s (alongSettings g) (lent flags parts masses fills []) → g .gy ≡ pos 0
     → settingsGood g ≡ true
 settings-good s g r e = ap (λ (y : ℤ). settingsGood (record { p = g .p; gx = g .gx; gy = y; gz = g .gz; turbulent = g .turbulent })) e ∙ r .settings
-
--- the scene of the passes is the flume's own, spread
-pub wide-scene : (s : FlumeSides) (g : Settings) (a : Lent) → wideScene s g a ≡ spreadScene (sceneOn (flumeGround s) g a)
-unfolding stateOf partOf9
-wide-scene s g a = scene-spread s g a
 
 -- no rule of a cell reads a weight
 unweighed : (t : State) (c : ℕ) → cellGood d3q19 t c ≡ cellGood spreadLattice t c

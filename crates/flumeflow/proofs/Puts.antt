@@ -8,16 +8,16 @@ use lib.Arith.{lt-of-le-ne}
 use lib.IntN.{ℤ, pos}
 use lib.ListN.{length, getD}
 use Rattle.whole.specs.Fold.{tab}
-use Rattle.whole.specs.Tab.{getD-tab}
+use Rattle.whole.specs.laws.Tab.{getD-tab}
 use Rattle.lattice.specs.declared.Settings.{Settings}
 use Rattle.grid.specs.State.{Scene, byFlag}
 use Rattle.grid.specs.Step.{collided}
-use Rattle.grid.specs.Between.{movedPart}
-use Rattle.grid.specs.Sight.{sight}
+use Rattle.grid.specs.inner.Between.{movedPart}
+use Rattle.grid.specs.inner.Sight.{sight}
 use Rattle.flume.proofs.Flowing.{collided-none}
-use Rattle.nine.specs.Cells.{partOf9, pasted9, Quiet}
+use Rattle.nine.specs.inner.Cells.{partOf9, pasted9, Quiet}
 use Rattle.nine.proofs.Pasted.{pasted-here, pasted-other}
-use Rattle.flumeflow.specs.Seen.{sight9}
+use Rattle.flumeflow.specs.inner.Seen.{sight9}
 use Rattle.flumeflow.proofs.Nines.{part-none}
 
 by-nothing : (f : ℕ) (x : ℤ) → x ≡ pos 0 → byFlag f (pos 0) x x (pos 0) ≡ pos 0

@@ -11,7 +11,7 @@ use Rattle.grid.specs.Mode.{ownAt, relaxIn, before, pullOf, sceneBy}
 use Rattle.grid.specs.Ground.{sceneOn}
 use Rattle.flume.specs.declared.FlumeSides.{FlumeSides}
 use Rattle.flume.specs.Flume.{flumeGrid, flumeGround}
-use Rattle.flume.specs.Spread.{spreadLattice, spreadGrid, spreadState, spreadScene}
+use Rattle.flume.specs.inner.Spread.{spreadLattice, spreadGrid, spreadState, spreadScene}
 use Rattle.nineturbulence.proofs.Same.{own-in-step}
 
 module _ (s : FlumeSides) (a : Lent) (g : V3) (p : ℤ) where

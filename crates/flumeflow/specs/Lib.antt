@@ -1,3 +1,1 @@
-pub mod Seen
-pub mod PutAt
-pub mod Flowed
+pub mod inner

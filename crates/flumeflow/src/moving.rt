@@ -22,14 +22,15 @@ ghost use lib.IntN.{ℤ, pos, natAbs};
 ghost use lib.ListN.{length, getD, replicate};
 ghost use Rattle.whole.specs.Fold.{tab};
 ghost use Rattle.lattice.specs.Lattice.{d3q19, density};
-ghost use Rattle.lattice.specs.Body.{partsOf, Bounded, bodyGood};
-ghost use Rattle.turbulence.specs.Post.{Keeps};
+ghost use Rattle.lattice.specs.inner.Held.{partsOf, Bounded};
+ghost use Rattle.lattice.specs.Body.{bodyGood};
+ghost use Rattle.turbulence.specs.inner.Post.{Keeps};
 ghost use Rattle.grid.specs.State.{liquid};
 ghost use Rattle.grid.specs.Step.{streamed};
 ghost use Rattle.grid.specs.Outcome.{settingsGood};
-ghost use Rattle.nine.specs.Cells.{Quiet, pasted9};
-ghost use Rattle.flumeflow.specs.Seen.{sight9};
-ghost use Rattle.flumeflow.specs.PutAt.{PutAt9, Putting9, atDensity};
+ghost use Rattle.nine.specs.inner.Cells.{Quiet, pasted9};
+ghost use Rattle.flumeflow.specs.inner.Seen.{sight9};
+ghost use Rattle.flumeflow.specs.inner.PutAt.{PutAt9, Putting9, atDensity};
 
 // A flow whose density is known: its own sum then need not be made.
 fn at_density(v: Flow, rho: i32) -> Flow

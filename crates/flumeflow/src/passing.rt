@@ -8,7 +8,7 @@ use flow::trading::new_mark;
 use flume::FlumeSides;
 use flumegrid::neighbours;
 use lattice::Settings;
-ghost use Rattle.flumeflow.specs.Flowed.{FlumeFlowable, FlumeFlowed};
+ghost use Rattle.flumeflow.specs.inner.Flowed.{FlumeFlowable, FlumeFlowed};
 
 pub fn flowing9(
     flags: &[u8],
@@ -29,7 +29,7 @@ pub fn flowing9(
     let from = streaming::sources9(off, low);
     let keep = keeping(g);
     let mut fair = true;
-    let mut still = true;
+    let mut calm = true;
     let mut c = 0;
     while c < flags.len() {
         let o = moving::put_parts9(
@@ -53,8 +53,8 @@ pub fn flowing9(
         mass2[c] = m;
         marks[c] = k;
         fair = fair & o.fair;
-        still = still & (k == 0);
+        calm = calm & (k == 0);
         c += 1;
     }
-    Passed::Through(fair, still)
+    Passed::Through(fair, calm)
 }

@@ -6,12 +6,12 @@ ghost use mathlib.Core.Path.{_≡_};
 ghost use mathlib.Core.Bool.{true};
 ghost use lib.IntN.{natAbs};
 ghost use Rattle.lattice.specs.Cell.{relaxationGood};
-ghost use Rattle.lattice.specs.Body.{partsOf, Bounded, vec, steadyFlow};
-ghost use Rattle.turbulence.specs.Post.{Keeps};
+ghost use Rattle.lattice.specs.inner.Held.{partsOf, Bounded, vec, steadyFlow};
+ghost use Rattle.turbulence.specs.inner.Post.{Keeps};
 ghost use Rattle.grid.specs.Outcome.{settingsGood};
-ghost use Rattle.flow.specs.Relaxed.{relaxedBy};
-ghost use Rattle.flume.specs.Spread.{spreadLattice};
-ghost use Rattle.nine.specs.Cells.{Quiet};
+ghost use Rattle.flow.specs.inner.Relaxed.{relaxedBy};
+ghost use Rattle.flume.specs.inner.Spread.{spreadLattice};
+ghost use Rattle.nine.specs.inner.Cells.{Quiet};
 
 // The relaxation of a cell that has passed stage 3's test, as the box's has it.
 pub(crate) fn relaxation9(f: [i32; 19], v: Flow, g: Settings, keep: u64, surface: bool) -> i64

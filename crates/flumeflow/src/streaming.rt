@@ -6,7 +6,7 @@ use lattice::moments::flow_of;
 use nine::cells::own9;
 use nine::cells::place;
 use nine::weights::weight9;
-use surface::stream::rebuilt;
+use surface::stream::gas_pair;
 use whole::wide;
 ghost use mathlib.Core.Path.{_≡_};
 ghost use mathlib.Core.Bool.{true};
@@ -19,11 +19,11 @@ ghost use Rattle.lattice.specs.Cell.{isPositive};
 ghost use Rattle.lattice.specs.declared.Settings.{Settings};
 ghost use Rattle.grid.specs.State.{liquid};
 ghost use Rattle.grid.specs.Step.{leansTo, arrives, streamed};
-ghost use Rattle.grid.specs.Sight.{Around};
-ghost use Rattle.flow.specs.Sources.{Mirrored, Immersed};
-ghost use Rattle.flow.specs.Trade.{Fills};
-ghost use Rattle.flume.specs.Spread.{wide, spread};
-ghost use Rattle.flumeflow.specs.Seen.{sight9, Bodied9, sourceOf9, Beside9};
+ghost use Rattle.grid.specs.inner.Sight.{Around};
+ghost use Rattle.flow.specs.inner.Sources.{Mirrored, Immersed};
+ghost use Rattle.flow.specs.inner.Trade.{Fills};
+ghost use Rattle.flume.specs.inner.Spread.{wide, spread};
+ghost use Rattle.flumeflow.specs.inner.Seen.{sight9, Bodied9, sourceOf9, Beside9};
 
 // Where part k that streams straight into a cell lies, counted from the first part of the cell c - low.
 pub(crate) fn sources9(off: [usize; 19], low: usize) -> [usize; 9]
@@ -75,7 +75,7 @@ fn arriving9(
         return parts[9 * c + k];
     }
     if (f == 0) | (lean > 0) {
-        return (rebuilt(v, weight9(i), d) - wide(parts[9 * c + k])) as i32;
+        return (gas_pair(v, weight9(i), d) - wide(parts[9 * c + k])) as i32;
     }
     parts[9 * b + m]
 }

@@ -9,12 +9,12 @@ ghost use Prim.Native.Nat.{_<_};
 ghost use lib.ListN.{length, getD};
 ghost use Rattle.lattice.specs.declared.Settings.{Settings};
 ghost use Rattle.grid.specs.State.{byFlag};
-ghost use Rattle.grid.specs.Sight.{Around};
+ghost use Rattle.grid.specs.inner.Sight.{Around};
 ghost use Rattle.grid.specs.Step.{tradedMass};
-ghost use Rattle.flow.specs.Trade.{Fills, passed};
-ghost use Rattle.flume.specs.Spread.{wide};
-ghost use Rattle.nine.specs.Cells.{partOf9};
-ghost use Rattle.flumeflow.specs.Seen.{sight9, Bodied9, Traders9};
+ghost use Rattle.flow.specs.inner.Trade.{Fills, passed};
+ghost use Rattle.flume.specs.inner.Spread.{wide};
+ghost use Rattle.nine.specs.inner.Cells.{partOf9};
+ghost use Rattle.flumeflow.specs.inner.Seen.{sight9, Bodied9, Traders9};
 
 // What cell c gains from cell b in direction k, whose opposite is m.
 fn traded9(flags: &[u8], parts: &[i32], fill: &[u32], c: usize, b: usize, k: usize, m: usize) -> i64

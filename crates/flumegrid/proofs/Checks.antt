@@ -9,7 +9,7 @@ use lib.IntN.{ℤ, pos}
 use lib.Dec.{eqb}
 use lib.ListN.{length, getD}
 use borrow.Author.Tests.{eqb-true}
-use Rattle.whole.specs.Bools.{and-left, and-right}
+use Rattle.whole.specs.laws.Bools.{and-left, and-right}
 use Rattle.lattice.specs.Lattice.{Lattice, d2q9}
 use Rattle.grid.specs.declared.Answer.{Answer}
 use Rattle.grid.specs.declared.Answer.the-variants.{Done, Refused}
@@ -22,7 +22,7 @@ use Rattle.grid.proofs.Checks.{stop}
 use Rattle.flume.specs.declared.FlumeSides.{FlumeSides}
 use Rattle.flume.specs.Flume.{flumeSidesGood, flumeCells, flumeGrid, flumeLengths}
 use Rattle.flume.specs.Outcome.{flumeCheck}
-use Rattle.flumegrid.specs.Ready.{FlumeSized}
+use Rattle.flumegrid.specs.inner.Ready.{FlumeSized}
 
 module _ (L : Lattice) (G : Grid) (t : State) where
   abbrev answer : Answer

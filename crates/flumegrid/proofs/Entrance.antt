@@ -6,7 +6,7 @@ use Prim.Native.Nat.{ℕ, _*_}
 use lib.Dec.{eqb}
 use lib.ListN.{length}
 use borrow.Author.Tests.{eqb-true}
-use Rattle.whole.specs.Bools.{and-left, and-right}
+use Rattle.whole.specs.laws.Bools.{and-left, and-right}
 use Rattle.lattice.specs.Lattice.{d2q9}
 use Rattle.grid.specs.declared.Answer.the-variants.{Done, Refused}
 use Rattle.grid.specs.State.{Lent, stateOf}
@@ -16,7 +16,7 @@ use Rattle.flume.specs.declared.FlumeSides.{FlumeSides}
 use Rattle.flume.specs.declared.FlumeSettings.{FlumeSettings}
 use Rattle.flume.specs.Flume.{flumeSidesGood, flumeCells, flumeGrid, flumeLengths, levelSettings}
 use Rattle.flume.specs.Outcome.{flumeEntry}
-use Rattle.flumegrid.specs.Ready.{FlumeSized, FlumeEntered}
+use Rattle.flumegrid.specs.inner.Ready.{FlumeSized, FlumeEntered}
 use Rattle.flumegrid.proofs.Checks.{sized, lengths-are}
 
 module _ (s : FlumeSides) (g : FlumeSettings) (a b : Lent) (marks : List ℕ) where

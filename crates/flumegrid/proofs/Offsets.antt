@@ -9,19 +9,19 @@ use native.Mathlib.Omega.{arith}
 use lib.Dec.{eqb}
 use lib.ListN.{getD}
 use borrow.Author.Tests.{eqb-false}
-use Rattle.whole.specs.Bools.{or-false}
-use Rattle.whole.specs.Fold.{tab, open-fold}
-use Rattle.whole.specs.Tab.{getD-tab}
-use Rattle.whole.specs.Search.{Dir, as-dir}
+use Rattle.whole.specs.laws.Bools.{or-false}
+use Rattle.whole.specs.Fold.{tab, open-fold, Dir}
+use Rattle.whole.specs.laws.Tab.{getD-tab}
+use Rattle.whole.specs.laws.Search.{as-dir}
 use Rattle.lattice.specs.Lattice.{pairOpp, d3q19, open-lattice}
 use Rattle.grid.specs.Grid.{Grid, atEnd, flume, toward}
-use Rattle.grid.specs.Passes.{Reaching, Amid}
+use Rattle.grid.specs.inner.Passes.{Reaching, Amid}
 use Rattle.grid.proofs.Laid.{Laid}
 use Rattle.grid.proofs.Offsets.{listed}
 use Rattle.flume.specs.declared.FlumeSides.{FlumeSides}
 use Rattle.flume.specs.Flume.{flumeSidesGood, flumeCells, flumeGrid}
-use Rattle.flume.specs.Offsets.{flumeLow, flumeOffset}
-use Rattle.flume.specs.Spread.{wide, narrow, idle, spread, spreadLattice, spreadGrid}
+use Rattle.flume.specs.inner.Offsets.{flumeLow, flumeOffset}
+use Rattle.flume.specs.inner.Spread.{wide, narrow, idle, spread, spreadLattice, spreadGrid}
 use Rattle.flume.proofs.Places.{by-eight, by-idle, at-places, spread-none}
 use Rattle.flume.proofs.Bridge.{spread-laid}
 use Rattle.flume.proofs.Demands.{flume-laid}

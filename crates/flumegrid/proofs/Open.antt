@@ -7,19 +7,20 @@ use Prim.Native.Nat.{ℕ, suc, _+_, _-_, _<_}
 use native.Mathlib.Omega.{arith}
 use lib.Dec.{ltb, eqb}
 use lib.ListN.{length, getD}
-use Rattle.whole.specs.Bools.{and-right, where-then, never}
+use Rattle.whole.specs.laws.Bools.{and-right, where-then, never}
 use Rattle.whole.specs.Fold.{first, anyDir, tab}
-use Rattle.whole.specs.Search.{first-none, first-cong}
+use Rattle.whole.specs.laws.Search.{first-none, first-cong}
 use Rattle.grid.specs.Grid.{flume}
 use Rattle.grid.specs.Good.{flagGood, badFlag, badFluid, openFluid}
-use Rattle.grid.specs.Passes.{Amid, Reaching, besideAt, openAt, openPlace, Embedded, flagOf}
+use Rattle.grid.specs.inner.Passes.{Amid, Reaching, besideAt, openAt, openPlace, Embedded}
+use Rattle.grid.specs.State.{flagOf}
 use Rattle.grid.proofs.Beside.{any-cong}
 use Rattle.grid.proofs.Lists.{getD-there}
 use Rattle.flume.specs.declared.FlumeSides.{FlumeSides}
 use Rattle.flume.specs.Flume.{flumeCells, flumeGrid}
-use Rattle.flume.specs.Offsets.{flumeLow, flumeOffset}
+use Rattle.flume.specs.inner.Offsets.{flumeLow, flumeOffset}
 use Rattle.flume.proofs.Bridge.{bad-fluid-same}
-use Rattle.flumegrid.specs.Layer.{FlumeFlagged}
+use Rattle.flumegrid.specs.inner.Layer.{FlumeFlagged}
 use Rattle.flumegrid.proofs.Offsets.{wideGrid, place-is, place-low, reaching, inner-of}
 
 -- ---- a neighbour's byte is m: what a loop by offsets finds is what the grid's neighbours have

@@ -9,8 +9,9 @@ use lib.IntN.{ℤ, pos}
 use lib.Dec.{eqb}
 use lib.ListN.{getD}
 use borrow.Author.Tests.{eq-eqb, not-false}
-use Rattle.whole.specs.Machine.{Within}
-use Rattle.whole.specs.Search.{Dir, first-none}
+use Rattle.whole.specs.laws.Machine.{Within}
+use Rattle.whole.specs.Fold.{Dir}
+use Rattle.whole.specs.laws.Search.{first-none}
 use Rattle.lattice.specs.Lattice.{d3q19, d2q9, density, momentum}
 use Rattle.lattice.specs.Cell.{carryGood}
 use Rattle.lattice.specs.Body.{bodyGood}
@@ -22,21 +23,21 @@ use Rattle.grid.specs.Step.{fillFor}
 use Rattle.grid.specs.Good.{dryGood, interfaceGood, fluidGood, fillGood, cellGood, badRule}
 use Rattle.grid.specs.Outcome.{goodAnswer}
 use Rattle.grid.specs.Demands.{Closed}
-use Rattle.grid.specs.Passes.{Amid}
-use Rattle.grid.specs.Sight.{Body}
+use Rattle.grid.specs.inner.Passes.{Amid}
+use Rattle.grid.specs.inner.Sight.{Body}
 use Rattle.grid.proofs.Accepted.{Sound, sound, none-found, cell-good}
 use Rattle.grid.proofs.Laid.{inner}
 use Rattle.grid.proofs.Prepared.{cell-body, cell-mass, cell-fill}
 use Rattle.flume.specs.declared.FlumeSides.{FlumeSides}
 use Rattle.flume.specs.declared.FlumeSettings.{FlumeSettings}
 use Rattle.flume.specs.Flume.{flumeCells, flumeGrid}
-use Rattle.flume.specs.Offsets.{flumeLow}
+use Rattle.flume.specs.inner.Offsets.{flumeLow}
 use Rattle.flume.specs.Outcome.{flumeScene}
-use Rattle.flume.specs.Spread.{spreadLattice, spreadState}
+use Rattle.flume.specs.inner.Spread.{spreadLattice, spreadState}
 use Rattle.flume.proofs.Bridge.{cell-good-same, spread-of}
 use Rattle.flume.proofs.Places.{at-places, spread-at, spread-none}
-use Rattle.nine.specs.Cells.{partOf9}
-use Rattle.flumegrid.specs.Ready.{FlumeReady, FlumePoised}
+use Rattle.nine.specs.inner.Cells.{partOf9}
+use Rattle.flumegrid.specs.inner.Ready.{FlumeReady, FlumePoised}
 use Rattle.flumegrid.proofs.Offsets.{wideGrid, inner-of}
 
 -- ---- tests 1 to 6

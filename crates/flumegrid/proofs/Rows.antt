@@ -8,13 +8,13 @@ use native.Mathlib.Omega.{arith}
 use native.Mathlib.Decide.{decLt}
 use lib.Dec.{ltb, eqb}
 use lib.ListN.{length, getD}
-use Rattle.whole.specs.Search.{first-is, first-all}
+use Rattle.whole.specs.laws.Search.{first-is, first-all}
 use Rattle.grid.specs.Grid.{atEnd, flume}
 use Rattle.grid.specs.Good.{flagGood, badFlag}
 use Rattle.grid.proofs.Lists.{getD-there}
 use Rattle.flume.specs.declared.FlumeSides.{FlumeSides}
 use Rattle.flume.specs.Flume.{flumeCells, flumeGrid}
-use Rattle.flumegrid.specs.Layer.{edge, badAt, Row}
+use Rattle.flumegrid.specs.inner.Layer.{edge, badAt, Row}
 
 module _ (s : FlumeSides) (c z x : ℕ) (r : Row s c z) (h : x < s .nx) where
   at : c + x ≡ x + s .nx * z

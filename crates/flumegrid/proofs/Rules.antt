@@ -13,20 +13,21 @@ use mir.Val.{SFits, ofZ}
 use lib.Dec.{eqb}
 use lib.ListN.{length, getD}
 use borrow.Author.Tests.{eq-eqb, ne-eqb}
-use Rattle.whole.specs.Bools.{cond-yes, cond-no}
+use Rattle.whole.specs.laws.Bools.{cond-yes, cond-no}
 use Rattle.whole.specs.Fold.{all, tab}
-use Rattle.whole.specs.Tab.{getD-tab, tab-cong}
-use Rattle.whole.specs.Search.{first-is, first-all}
+use Rattle.whole.specs.laws.Tab.{getD-tab, tab-cong}
+use Rattle.whole.specs.laws.Search.{first-is, first-all}
 use Rattle.lattice.specs.Lattice.{Lattice, d3q19, d2q9, density, momentum}
 use Rattle.lattice.specs.Cell.{carryGood}
-use Rattle.lattice.specs.Body.{partsOf, bodyGood, goodFluid, goodInterface, eqZ}
+use Rattle.lattice.specs.inner.Held.{partsOf, goodFluid, goodInterface}
+use Rattle.lattice.specs.Body.{bodyGood, eqZ}
 use Rattle.grid.specs.State.{lent, State, stateOf, liquid}
 use Rattle.grid.specs.Good.{dryGood, interfaceGood, fluidGood, fillGood, cellGood, badRule}
 use Rattle.grid.specs.Demands.{Same}
 use Rattle.grid.proofs.Lists.{getD-there}
 use Rattle.grid.proofs.Same.{cell-same}
 use Rattle.grid.proofs.Rules.{wet-cell, dry-cell}
-use Rattle.flume.specs.Spread.{spread, spreadLattice, spreadState, SpreadOf}
+use Rattle.flume.specs.inner.Spread.{spread, spreadLattice, spreadState, SpreadOf}
 use Rattle.flume.proofs.Bridge.{cell-good-same, spread-of}
 
 -- ---- test 6's place

@@ -21,7 +21,7 @@ ghost use Rattle.grid.specs.Good.{cellGood, badRule};
 ghost use Rattle.grid.specs.Outcome.{goodAnswer};
 ghost use Rattle.flume.specs.Flume.{flumeSidesGood, flumeCells, flumeGrid};
 ghost use Rattle.flume.specs.Outcome.{flumeCheck};
-ghost use Rattle.flumegrid.specs.Ready.{FlumeSized};
+ghost use Rattle.flumegrid.specs.inner.Ready.{FlumeSized};
 
 // Whether cell c keeps test 6's rules: those of its nine parts at their places, since an idle place holds 0.
 fn good_cell9(flags: &[u8], parts: &[i32], masses: &[i32], fills: &[u32], c: usize) -> bool

@@ -8,8 +8,8 @@ ghost use Prim.Native.Nat.{_+_, _*_, _≤_};
 ghost use lib.ListN.{length};
 ghost use Rattle.lattice.specs.Lattice.{d3q19, density};
 ghost use Rattle.lattice.specs.Cell.{fillOf};
-ghost use Rattle.grid.specs.Fill.{Weighty};
-ghost use Rattle.nine.specs.Cells.{partOf9};
+ghost use Rattle.grid.specs.inner.Fill.{Weighty};
+ghost use Rattle.nine.specs.inner.Cells.{partOf9};
 
 // The fill of interface cell c, whose mass is m.
 pub fn interface_fill9(parts: &[i32], m: i64, c: usize) -> u32

@@ -4,9 +4,9 @@ use flume::FlumeSides;
 use grid::fluid::first_open_by;
 ghost use mathlib.Core.Path.{_≡_};
 ghost use Rattle.grid.specs.Good.{badFluid};
-ghost use Rattle.grid.specs.Passes.{flagOf};
+ghost use Rattle.grid.specs.State.{flagOf};
 ghost use Rattle.flume.specs.Flume.{flumeGrid};
-ghost use Rattle.flumegrid.specs.Layer.{FlumeFlagged};
+ghost use Rattle.flumegrid.specs.inner.Layer.{FlumeFlagged};
 
 // The lowest-numbered fluid cell that has an empty neighbour; N if there is none.
 pub fn first_open(flags: &[u8], s: FlumeSides) -> usize

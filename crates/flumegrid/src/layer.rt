@@ -7,7 +7,7 @@ ghost use lib.Dec.{ltb, eqb};
 ghost use lib.ListN.{length, getD};
 ghost use Rattle.grid.specs.Good.{badFlag};
 ghost use Rattle.flume.specs.Flume.{flumeSidesGood, flumeCells, flumeGrid};
-ghost use Rattle.flumegrid.specs.Layer.{Within, edge, Row, FirstInRow};
+ghost use Rattle.flumegrid.specs.inner.Layer.{Within, edge, Row, FirstInRow};
 
 fn outer(x: usize, z: usize, s: FlumeSides) -> bool
     requires { ⌜ Within s x z ⌝ }

@@ -5,7 +5,7 @@ ghost use mathlib.Core.Bool.{true};
 ghost use Prim.Native.Nat.{_+_, _*_, _≤_};
 ghost use Rattle.whole.specs.Fold.{tab};
 ghost use Rattle.flume.specs.Flume.{flumeSidesGood};
-ghost use Rattle.flume.specs.Offsets.{flumeLow, flumeOffset};
+ghost use Rattle.flume.specs.inner.Offsets.{flumeLow, flumeOffset};
 
 // A cell near the lowest corner.
 fn cell_at(s: FlumeSides, x: usize, z: usize) -> usize

@@ -9,15 +9,15 @@ use lib.Dec.{eqb}
 use lib.ListN.{getD}
 use borrow.Author.Tests.{eqb-true}
 use Rattle.whole.specs.Fold.{tab}
-use Rattle.whole.specs.Tab.{getD-tab}
-use Rattle.grid.specs.Passes.{besideAt, openMark, turnedAt}
+use Rattle.whole.specs.laws.Tab.{getD-tab}
+use Rattle.grid.specs.inner.Passes.{besideAt, openMark, turnedAt}
 use Rattle.grid.specs.Step.{flagAfter}
 use Rattle.flume.specs.declared.FlumeSides.{FlumeSides}
 use Rattle.flume.specs.Flume.{flumeGrid}
-use Rattle.flume.specs.Spread.{wide, Idle}
-use Rattle.flume.specs.Offsets.{flumeLow, flumeOffset}
+use Rattle.flume.specs.inner.Spread.{wide, Idle}
+use Rattle.flume.specs.inner.Offsets.{flumeLow, flumeOffset}
 use Rattle.flume.proofs.Places.{any-same, spread-none}
-use Rattle.flumemarks.specs.Eight.{besideEight, Idling}
+use Rattle.flumemarks.specs.inner.Eight.{besideEight, Idling}
 
 module _ (bytes off : List ℕ) (low c m : ℕ) (idling : Idling off low) (from : low ≤ c) where
   here : (i : ℕ) → Idle i → c - low + getD off i 0 ≡ c

@@ -1,7 +1,7 @@
 // Whether a byte stands beside a cell of the flume.
 ghost use mathlib.Core.Path.{_≡_};
-ghost use Rattle.grid.specs.Passes.{Reach};
-ghost use Rattle.flumemarks.specs.Eight.{besideEight};
+ghost use Rattle.grid.specs.inner.Passes.{Reach};
+ghost use Rattle.flumemarks.specs.inner.Eight.{besideEight};
 
 // Whether the byte of one of the eight neighbours is m; k is c - low. All in a row, so that the passes above run many cells at a time.
 pub fn beside9(bytes: &[u8], off: &[usize; 19], k: usize, m: u8) -> bool

@@ -1,3 +1,3 @@
-// Layer 2 of the flume: passes 0 and 3 of its step by its eight directions, where the box's `_by` would look at all eighteen places. Knows the promises of flow and turn.
+// Layer 2 of the flume: passes 0 and 3 of its step by its eight directions, where the box's `_by` would look at all eighteen places. Knows the promises of flow and conversion.
 pub mod eight;
 pub mod passes;

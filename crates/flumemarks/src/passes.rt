@@ -1,13 +1,13 @@
 // Passes 0 and 3 by eight directions. What they leave is what the box's passes by offsets leave: an idle offset leads to the cell itself, whose own byte
 // decides before its neighbours' do.
 use crate::eight::beside9;
+use conversion::convert::kind_after;
 use flow::marks::open_mark;
-use turn::convert::kind_after;
 ghost use mathlib.Core.Path.{_≡_};
 ghost use lib.ListN.{length};
 ghost use Rattle.whole.specs.Fold.{tab};
-ghost use Rattle.grid.specs.Passes.{Reaching, openedBy, turnedBy, MarkedBy};
-ghost use Rattle.flumemarks.specs.Eight.{Idling};
+ghost use Rattle.grid.specs.inner.Passes.{Reaching, openedBy, turnedBy, MarkedBy};
+ghost use Rattle.flumemarks.specs.inner.Eight.{Idling};
 
 // Pass 0: marks 1 at fluid cells with no wall beside them.
 pub fn mark_open9(flags: &[u8], marks: &mut [u8], off: &[usize; 19], low: usize)

@@ -2,12 +2,12 @@
 use mathlib.Core.Path.{_≡_, refl, sym, ap, ap₂, _∙_}
 use mathlib.Core.Bool.{Bool, true, false, _&&_}
 use mathlib.Core.List.{List}
-use Prim.Native.Nat.{ℕ, suc, _*_, _≤_}
+use Prim.Native.Nat.{ℕ, _*_, _≤_}
 use native.Mathlib.Omega.{arith}
 use lib.Dec.{eqb}
 use lib.IntN.{ℤ}
 use lib.ListN.{length}
-use Rattle.whole.specs.Bools.{and-left, and-right}
+use Rattle.whole.specs.laws.Bools.{and-left, and-right}
 use Rattle.whole.specs.Fold.{tab}
 use Rattle.lattice.specs.Lattice.{d2q9}
 use Rattle.grid.specs.declared.Answer.{Answer}
@@ -18,13 +18,12 @@ use Rattle.grid.specs.Outcome.{goodAnswer}
 use Rattle.grid.proofs.Accepted.{passed}
 use Rattle.flume.specs.declared.FlumeSides.{FlumeSides}
 use Rattle.flume.specs.Flume.{flumeSidesGood, flumeCells, flumeGrid, flumeLengths}
-use Rattle.flume.specs.Outcome.{flumeCheck}
-use Rattle.flumegrid.specs.Ready.{FlumeSized}
-use Rattle.flumegrid.proofs.Checks.{sized, lengths-are, then-checked}
+use Rattle.flumegrid.specs.inner.Ready.{FlumeSized}
+use Rattle.flumegrid.proofs.Checks.{sized, lengths-are}
 use Rattle.flumegrid.proofs.GoodSides.{few}
 use Rattle.mirror.specs.Mirror.{mirrored, mirroredSet}
 use Rattle.mirroring.specs.Turned.{turnedSet}
-use Rattle.mirroring.specs.Between.{dirIn, tableMirror, Celled, Turnable}
+use Rattle.mirroring.specs.inner.Between.{dirIn, tableMirror, Celled, Turnable}
 use Rattle.mirroring.proofs.Answers.{bare}
 use Rattle.flumemirroring.specs.Turned.{flumeTurned}
 use Rattle.flumemirroring.specs.Outcome.{flumeAxis, flumeMirrorAnswer, ifDone, flumeMirrorSecond}

@@ -3,12 +3,12 @@
 use mathlib.Core.Path.{_≡_, refl, sym, ap, _∙_, subst}
 use mathlib.Core.Bool.{Bool, true, _&&_}
 use mathlib.Core.List.{List, [], _∷_}
-use Prim.Native.Nat.{ℕ, suc, _*_}
+use Prim.Native.Nat.{ℕ, _*_}
 use native.Mathlib.Omega.{arith}
 use borrow.Author.Tests.{eq-eqb}
 use lib.IntN.{ℤ, pos}
 use lib.ListN.{length, getD}
-use Rattle.whole.specs.Tab.{length-tab}
+use Rattle.whole.specs.laws.Tab.{length-tab}
 use Rattle.lattice.specs.Lattice.{d2q9}
 use Rattle.grid.specs.declared.Answer.{Answer}
 use Rattle.grid.specs.declared.Answer.the-variants.{Done}
@@ -18,9 +18,9 @@ use Rattle.grid.specs.Outcome.{goodAnswer}
 use Rattle.grid.proofs.Box.{flume9-laid}
 use Rattle.flume.specs.declared.FlumeSides.{FlumeSides}
 use Rattle.flume.specs.declared.FlumeSettings.{FlumeSettings}
-use Rattle.flume.specs.Flume.{flumeSidesGood, flumeCells, flumeGrid, flumeLengths, flumeGround}
+use Rattle.flume.specs.Flume.{flumeCells, flumeGrid, flumeLengths, flumeGround}
 use Rattle.flume.specs.Outcome.{flumeCheck, flumeScene, flumeStep, flumeSecond, open-outcome}
-use Rattle.flumegrid.specs.Ready.{FlumeSized}
+use Rattle.flumegrid.specs.inner.Ready.{FlumeSized}
 use Rattle.flumegrid.proofs.Checks.{then-checked}
 use Rattle.mirror.specs.Mirror.{Mirror, Reflects, mirrored, mirroredSet}
 use Rattle.mirror.specs.Demands.{Calm, Room}

@@ -8,7 +8,7 @@ use native.Mathlib.Nat.{one-mul}
 use native.Mathlib.Omega.{arith}
 use lib.Dec.{eqb}
 use borrow.Author.Tests.{eqb-true}
-use Rattle.whole.specs.Bools.{or-cases}
+use Rattle.whole.specs.laws.Bools.{or-cases}
 use Rattle.whole.specs.Fold.{tab, open-fold}
 use Rattle.lattice.specs.Lattice.{d2q9, open-lattice}
 use Rattle.grid.specs.declared.Sides.{Sides}
@@ -19,7 +19,7 @@ use Rattle.flume.specs.Flume.{flumeCells}
 use Rattle.mirror.specs.Mirror.{turn, reflect, sameV, turnedDir, flumeMirror}
 use Rattle.mirror.proofs.Lattices.{turns9}
 use Rattle.mirroring.specs.Turned.{turnedSet, axesOf}
-use Rattle.mirroring.specs.Between.{dirIn, tableMirror, Directed}
+use Rattle.mirroring.specs.inner.Between.{dirIn, tableMirror, Directed}
 use Rattle.mirroring.proofs.Reflected.{directed, by-table}
 use Rattle.flumemirroring.specs.Turned.{flumeTurned}
 use Rattle.flumemirroring.specs.Outcome.{flumeAxis}

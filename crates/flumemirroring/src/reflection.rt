@@ -3,7 +3,7 @@ ghost use mathlib.Core.Path.{_≡_};
 ghost use mathlib.Core.Bool.{true};
 ghost use Rattle.whole.specs.Fold.{tab};
 ghost use Rattle.lattice.specs.Lattice.{d2q9};
-ghost use Rattle.mirroring.specs.Between.{dirIn};
+ghost use Rattle.mirroring.specs.inner.Between.{dirIn};
 ghost use Rattle.flumemirroring.specs.Outcome.{flumeAxis};
 
 // The reflected directions, 0 to 8; what stands behind them is not looked at.

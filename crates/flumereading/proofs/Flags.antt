@@ -5,7 +5,7 @@ use mathlib.Core.List.{List}
 use Prim.Native.Nat.{ℕ, _+_, _-_, _≤_}
 use lib.ListN.{length, take, drop}
 use Rattle.grid.specs.Good.{badFlag, badFluid}
-use Rattle.grid.specs.Passes.{flagOf}
+use Rattle.grid.specs.State.{flagOf}
 use Rattle.flume.specs.declared.FlumeSides.{FlumeSides}
 use Rattle.flume.specs.Flume.{flumeGrid}
 use Rattle.record.specs.Layout.{interfaces, liquids}

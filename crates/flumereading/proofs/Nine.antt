@@ -1,21 +1,21 @@
 -- Nine parts at their places in an array: their density and their rules are the flume's own, and the array's numbers are in their ranges. Assumes nothing.
-use mathlib.Core.Path.{_≡_, refl, sym, ap, _∙_, subst}
-use mathlib.Core.Bool.{Bool, true, _&&_}
+use mathlib.Core.Path.{_≡_, sym, ap, _∙_, subst}
+use mathlib.Core.Bool.{_&&_}
 use mathlib.Core.List.{List}
-use mathlib.Core.Logic.{_⊎_, inl, inr}
+use mathlib.Core.Logic.{_⊎_}
 use Prim.Native.Nat.{ℕ, zero, suc, _≤_, _<_}
 use native.Mathlib.Omega.{arith}
 use lib.IntN.{ℤ, pos}
 use lib.ListN.{getD}
 use Rattle.whole.specs.Fold.{tab}
-use Rattle.whole.specs.Machine.{Within}
-use Rattle.whole.specs.Search.{Dir}
-use Rattle.whole.specs.Tab.{getD-tab}
+use Rattle.whole.specs.laws.Machine.{Within}
+use Rattle.whole.specs.laws.Tab.{getD-tab}
 use Rattle.lattice.specs.Lattice.{dot, d3q19, d2q9, density, momentum}
 use Rattle.lattice.specs.Cell.{partGood, dense, slow}
-use Rattle.lattice.specs.Body.{partsOf, bodyGood, Bounded}
+use Rattle.lattice.specs.inner.Held.{partsOf, Bounded}
+use Rattle.lattice.specs.Body.{bodyGood}
 use Rattle.grid.proofs.Same.{density-same, body-same}
-use Rattle.flume.specs.Spread.{wide, spread, spreadLattice, Idle, Spreads}
+use Rattle.flume.specs.inner.Spread.{wide, spread, Spreads}
 use Rattle.flume.proofs.Places.{at-places, spread-at, spread-none, tests-same}
 use Rattle.flume.proofs.Flowing as flowing
 use Rattle.record.proofs.ByFlag.{bounded-by}

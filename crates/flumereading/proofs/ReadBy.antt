@@ -1,13 +1,12 @@
 -- The reader's promise, from what its tests and passes give: a refused record leaves everything as it was, an accepted one is taken. Assumes nothing.
 use mathlib.Core.Path.{_≡_, refl, sym, ap, _∙_}
-use mathlib.Core.Bool.{Bool, true, false, cond, _&&_}
+use mathlib.Core.Bool.{true, false, _&&_}
 use mathlib.Core.List.{List}
 use Prim.Native.Nat.{ℕ, _*_}
 use lib.Dec.{eqb}
 use lib.IntN.{ℤ}
-use lib.ListN.{length}
 use borrow.Author.Tests.{eqb-true}
-use Rattle.whole.specs.Bools.{and-left, and-right}
+use Rattle.whole.specs.laws.Bools.{and-left, and-right}
 use Rattle.flume.specs.declared.FlumeSettings.{FlumeSettings}
 use Rattle.flume.specs.declared.FlumeSides.{FlumeSides}
 use Rattle.grid.specs.declared.Answer.{Answer}
@@ -17,7 +16,7 @@ use Rattle.grid.specs.State.{Lent}
 use Rattle.flumerecord.specs.declared.FlumeSite.{FlumeSite}
 use Rattle.flumerecord.specs.declared.FlumeHead.{FlumeHead}
 use Rattle.flumerecord.specs.Reading.{flumeSidesIn, flumeSettingsIn, flumeSiteIn, flumeSlicesFit, flumeRefusedHead, flumeReadAnswer, flumeReadHead, flumeReadSet}
-use Rattle.flumerecord.specs.Passes.{FlumeTaken}
+use Rattle.flumerecord.specs.inner.Passes.{FlumeTaken}
 use Rattle.flumerecord.specs.Promise.{FlumeRead}
 
 pub read-refused : (r : List ℕ) (a : Lent) (x : Answer) (head : FlumeHead) → x ≡ flumeReadAnswer r a → accepted x ≡ false → head ≡ flumeRefusedHead x

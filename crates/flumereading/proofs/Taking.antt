@@ -1,7 +1,7 @@
 -- What the flume reader's passes leave is the state of the record: parts, masses and fills of every cell. The passes see the flags as a part of the record
 -- and the parts as the list that the first pass left; both are the record's own. Assumes nothing.
-use mathlib.Core.Path.{_≡_, refl, sym, ap, ap₂, _∙_, subst}
-use mathlib.Core.Bool.{Bool, true}
+use mathlib.Core.Path.{_≡_, sym, ap, ap₂, _∙_, subst}
+use mathlib.Core.Bool.{true}
 use mathlib.Core.List.{List}
 use Prim.Native.Nat.{ℕ, suc, _+_, _*_, _/_, _%_, _≤_, _<_}
 use native.Mathlib.Omega.{arith}
@@ -9,24 +9,23 @@ use lib.IntN.{ℤ, pos}
 use lib.ListN.{length, getD}
 use lib.Signed.{_≤ℤ_}
 use Rattle.whole.specs.Fold.{tab}
-use Rattle.whole.specs.Machine.{Within}
-use Rattle.whole.specs.Tab.{tab-cong}
+use Rattle.whole.specs.laws.Machine.{Within}
+use Rattle.whole.specs.laws.Tab.{tab-cong}
 use Rattle.lattice.specs.Lattice.{d2q9, density}
 use Rattle.lattice.proofs.Tame.{dense-low}
 use Rattle.grid.specs.declared.Answer.the-variants.{Done}
 use Rattle.grid.specs.Grid.{flume}
-use Rattle.grid.specs.State.{byFlag, liquid, lentOf}
+use Rattle.grid.specs.State.{byFlag, liquid, lentOf, flagOf}
 use Rattle.grid.specs.Step.{fillFor}
 use Rattle.grid.specs.Good.{badFluid, badRule, cellGood}
 use Rattle.grid.specs.Outcome.{ifNone}
-use Rattle.grid.specs.Passes.{flagOf}
 use Rattle.grid.proofs.Accepted.{passed, none-found, cell-good}
 use Rattle.grid.proofs.Listed.{part-at}
 use Rattle.grid.proofs.Same.{density-same}
 use Rattle.flume.specs.Flume.{flumeCells, flumeGrid}
 use Rattle.record.specs.Places.{massesFrom, partsFrom}
 use Rattle.record.specs.Reading.{partsRead, massesRead}
-use Rattle.record.specs.Passes.{heldMass, partHeld, Heavy, massLoaded, fillLoaded}
+use Rattle.record.specs.inner.Passes.{heldMass, partHeld, Heavy, massLoaded, fillLoaded}
 use Rattle.record.proofs.Rules.{part-small, is-dense}
 use Rattle.flumerecord.specs.Layout.{flumeCounts, flumeSiteGood}
 use Rattle.flumerecord.specs.Reading.{flumeSidesIn, flumeSettingsIn, flumeSiteIn, flumeCellsIn, flumeFlagsIn, flumeFlagIn, flumeInterfacesIn, flumeStateIn, flumeContent}

@@ -18,7 +18,7 @@ ghost use Rattle.flume.specs.Flume.{flumeGrid};
 ghost use Rattle.grid.specs.Good.{badFluid, badRule};
 ghost use Rattle.grid.specs.Outcome.{ifNone};
 ghost use Rattle.flumerecord.specs.Reading.{flumeSidesIn, flumeCellsIn, flumeFlagIn, flumeStateIn, flumeContent};
-ghost use Rattle.flumerecord.specs.Passes.{FlumeSound};
+ghost use Rattle.flumerecord.specs.inner.Passes.{FlumeSound};
 
 // Tests 5 and 6.
 fn cell_tests(rec: &[u8], s: FlumeSides) -> Answer

@@ -14,12 +14,11 @@ ghost use lib.IntN.{pos};
 ghost use lib.ListN.{length};
 ghost use Rattle.whole.specs.Fold.{first, tab};
 ghost use Rattle.lattice.specs.Lattice.{d2q9};
-ghost use Rattle.grid.specs.State.{liquid};
-ghost use Rattle.grid.specs.Passes.{flagOf};
-ghost use Rattle.flume.specs.Spread.{spread};
+ghost use Rattle.grid.specs.State.{liquid, flagOf};
+ghost use Rattle.flume.specs.inner.Spread.{spread};
 ghost use Rattle.record.specs.Bytes.{i32At};
 ghost use Rattle.record.specs.Layout.{interfaces, liquids};
-ghost use Rattle.record.specs.Passes.{fairOf, fairHeld};
+ghost use Rattle.record.specs.inner.Passes.{fairOf, fairHeld};
 
 // The nine parts that begin at `at`, at their places, 0 at the idle ones.
 fn parts_at(rec: &[u8], at: usize) -> [i32; 19]

@@ -14,7 +14,6 @@ use grid::Answer;
 use record::section::passed;
 ghost use mathlib.Core.Path.{_≡_};
 ghost use mathlib.Core.List.{[]};
-ghost use lib.IntN.{pos};
 ghost use Rattle.grid.specs.State.{lent};
 ghost use Rattle.flumerecord.specs.Promise.{FlumeRead};
 ghost use Rattle.flumerecord.specs.Reading.{flumeRefusedHead};

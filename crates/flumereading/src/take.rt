@@ -8,7 +8,7 @@ ghost use Prim.Native.Nat.{_*_};
 ghost use lib.ListN.{length};
 ghost use Rattle.grid.specs.declared.Answer.the-variants.{Done};
 ghost use Rattle.flumerecord.specs.Reading.{flumeCellsIn, flumeContent};
-ghost use Rattle.flumerecord.specs.Passes.{FlumeSound, FlumeTaken};
+ghost use Rattle.flumerecord.specs.inner.Passes.{FlumeSound, FlumeTaken};
 
 pub fn take(
     rec: &[u8],

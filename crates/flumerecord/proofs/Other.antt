@@ -1,6 +1,6 @@
 -- The other lattice's record is refused with 11 at section 1: a record that the box's reader accepts begins with the count 3, one that the flume's accepts
 -- with the count 2. Assumes nothing.
-use mathlib.Core.Path.{_≡_, refl, sym, _∙_}
+use mathlib.Core.Path.{_≡_, sym, _∙_}
 use mathlib.Core.List.{List}
 use Prim.Native.Nat.{ℕ, _+_, _≤_}
 use native.Mathlib.Omega.{arith}

@@ -2,7 +2,7 @@
 -- slices of the right lengths. The one idea: the sections before the flags are read number by number, and behind them the law over any lattice and any
 -- counts says it. Assumes nothing.
 use mathlib.Core.Path.{_≡_, refl, sym, ap, ap₂, _∙_, subst}
-use mathlib.Core.Bool.{Bool, true, false, cond, _&&_}
+use mathlib.Core.Bool.{true, false, _&&_}
 use mathlib.Core.List.{List, [], _∷_, _++_}
 use Prim.Native.Nat.{ℕ, suc, _+_, _*_, _≤_, _<_}
 use native.Mathlib.Nat.{le-trans, le-of-eq}
@@ -12,16 +12,15 @@ use lib.ListN.{length}
 use borrow.Author.Tests.{leb-true}
 use mir.Syntax.{w32, w64}
 use mir.Val.{SFits}
-use Rattle.whole.specs.Bools.{and-left, and-right}
+use Rattle.whole.specs.laws.Bools.{and-left, and-right}
 use Rattle.lattice.specs.Lattice.{d2q9, density}
-use Rattle.lattice.specs.Cell.{edgeGood, coordinateGood, carryGood}
+use Rattle.lattice.specs.Cell.{edgeGood, coordinateGood}
 use Rattle.grid.specs.declared.Answer.the-variants.{Done}
 use Rattle.grid.specs.Grid.{flume}
-use Rattle.grid.specs.State.{Lent, State, stateOf, lentOf, byFlag}
+use Rattle.grid.specs.State.{Lent, State, stateOf, lentOf, byFlag, flagOf}
 use Rattle.grid.specs.Good.{badFlag, badFluid, badRule, cellGood}
 use Rattle.grid.specs.Demands.{Same}
-use Rattle.grid.specs.Outcome.{accepted, orRefuse, ifNone, goodAnswer, settingsGood}
-use Rattle.grid.specs.Passes.{flagOf}
+use Rattle.grid.specs.Outcome.{accepted, ifNone, goodAnswer, settingsGood}
 use Rattle.grid.proofs.Accepted.{done-accepted, skip, none-found, cell-good, sound}
 use Rattle.grid.proofs.Same.{bad-rule-same}
 use Rattle.flume.specs.declared.FlumeSides.{FlumeSides}
@@ -32,7 +31,7 @@ use Rattle.record.specs.Bytes.{bytesOf, value, part, u32At, i32At, i64At, join}
 use Rattle.record.specs.Places.{settingsFrom, originFrom, totalsFrom, cellsFrom}
 use Rattle.record.specs.Layout.{siteGood, interfaces, liquids, cellSections}
 use Rattle.record.specs.Reading.{stateRead}
-use Rattle.record.specs.Passes.{Shaped}
+use Rattle.record.specs.inner.Passes.{Shaped}
 use Rattle.record.proofs.Numbers.{value-bytesOf, back}
 use Rattle.record.proofs.Answers.{or-pass}
 use Rattle.record.proofs.Standing.{fits-word, fits-long, coordinate-fits}
@@ -40,10 +39,10 @@ use Rattle.record.proofs.Rules.{carry-fair}
 use Rattle.record.proofs.GridBack as grid
 use Rattle.flumerecord.specs.declared.FlumeSite.{FlumeSite}
 use Rattle.flumerecord.specs.declared.FlumeHead.{FlumeHead}
-use Rattle.flumerecord.specs.Layout.{flumeRecorded, flumeCounts, levelSite, flumeSiteGood, flumeSiteBytes, flumeHeadBytes, flumeRecordOf}
+use Rattle.flumerecord.specs.Layout.{flumeRecorded, flumeCounts, flumeSiteGood, flumeSiteBytes, flumeHeadBytes, flumeRecordOf}
 use Rattle.flumerecord.specs.Reading.{flumeSidesIn, flumeSettingsIn, flumeSiteIn, flumeCarryIn, flumeFlagsAt, flumeCellsIn, flumeFlagsIn, flumeFlagIn, flumeStateIn, flumeSlicesFit, flumeContent, flumeReadAnswer, flumeReadHead, flumeReadFlags, flumeReadSet}
 use Rattle.flumerecord.specs.Writing.{flumeWriteAnswer}
-use Rattle.flumerecord.specs.Passes.{FlumeSound}
+use Rattle.flumerecord.specs.inner.Passes.{FlumeSound}
 use Rattle.flumerecord.proofs.Assembled.{length-head}
 use Rattle.flumerecord.proofs.WrittenBy.{Fit, level-small, write-fit}
 use Rattle.flumerecord.proofs.Shaped.{shape-passes}

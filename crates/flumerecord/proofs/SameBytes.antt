@@ -1,7 +1,7 @@
 -- An accepted flume's record is written back as the same bytes: what the reader hands back, with the slices that it filled, has the record r itself as its
 -- record. The one idea: each number of the record is the part of r that it was read from, and parts that follow each other join. Assumes nothing.
 use mathlib.Core.Path.{_≡_, refl, sym, ap, _∙_}
-use mathlib.Core.Bool.{Bool, true}
+use mathlib.Core.Bool.{true}
 use mathlib.Core.List.{List, _∷_, _++_}
 use Prim.Native.Nat.{ℕ, _+_, _*_, _≤_, _<_}
 use native.Mathlib.Omega.{arith}
@@ -11,20 +11,18 @@ use Rattle.lattice.specs.Lattice.{d2q9, density}
 use Rattle.grid.specs.declared.Answer.the-variants.{Done}
 use Rattle.grid.specs.Outcome.{accepted}
 use Rattle.grid.specs.State.{Lent, lent, stateOf, lentOf, byFlag}
-use Rattle.grid.specs.Passes.{flagOf}
 use Rattle.grid.proofs.Accepted.{done-accepted}
 use Rattle.grid.proofs.Listed.{same-listed}
-use Rattle.flume.specs.Flume.{flumeCells}
 use Rattle.record.specs.Bytes.{part, join}
 use Rattle.record.specs.Places.{cellsFrom}
-use Rattle.record.specs.Layout.{interfaces, cellSections}
+use Rattle.record.specs.Layout.{cellSections}
 use Rattle.record.specs.Reading.{massRead, partRead, partsRead}
 use Rattle.record.proofs.Numbers.{Bytes}
 use Rattle.record.proofs.ByFlag.{by-liquid}
 use Rattle.record.proofs.Again.{joined, word-again, int-again, long-again, count-again, There, whole-again}
 use Rattle.flumerecord.specs.Layout.{flumeCounts, flumeSiteBytes, flumeHeadBytes, flumeRecordOf}
 use Rattle.flumerecord.specs.Reading.{flumeSidesIn, flumeSettingsIn, flumeSiteIn, flumeCarryIn, flumeCellsIn, flumeFlagsIn, flumeFlagIn, flumeInterfacesIn, flumeStateIn, flumeReadAnswer, flumeReadHead, flumeReadFlags, flumeReadSet}
-use Rattle.flumerecord.specs.Passes.{FlumeSound}
+use Rattle.flumerecord.specs.inner.Passes.{FlumeSound}
 use Rattle.flumerecord.proofs.Shaped.{sound, shape-accepted}
 
 -- the set that the reader hands back

@@ -12,12 +12,12 @@ use Rattle.grid.specs.Outcome.{accepted, ifNone}
 use Rattle.grid.proofs.Accepted.{accepted-done}
 use Rattle.flume.specs.Flume.{flumeSidesGood, flumeGrid}
 use Rattle.record.specs.Places.{massesFrom}
-use Rattle.record.specs.Reading.{opensOn, frontsOn, endsOn, shapesOn}
+use Rattle.record.specs.Reading.{opensOn, frontsOn, endsOn}
 use Rattle.record.proofs.Answers.{Chain, chain-both}
 use Rattle.record.proofs.Sections.{chain-opens-on, chain-fronts-on, chain-shapes, shaped, fitted, shapes-pass}
 use Rattle.flumerecord.specs.Layout.{flumeCounts}
 use Rattle.flumerecord.specs.Reading.{flumeSidesIn, flumeCellsIn, flumeFlagIn, flumeInterfacesIn, flumeLiquidsIn, flumeSlicesFit, flumeShape, flumeContent, flumeReadAnswer}
-use Rattle.flumerecord.specs.Passes.{FlumeSound}
+use Rattle.flumerecord.specs.inner.Passes.{FlumeSound}
 
 module _ (r : List ℕ) (p m f k : ℕ) where
   abbrev good : Bool

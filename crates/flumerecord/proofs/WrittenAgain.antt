@@ -5,22 +5,21 @@ use mathlib.Core.Bool.{Bool, true, _&&_, cond}
 use mathlib.Core.List.{List, _++_}
 use Prim.Native.Nat.{ℕ, suc, _+_, _*_, _≤_}
 use native.Mathlib.Omega.{arith}
-use lib.Dec.{eqb, leb}
+use lib.Dec.{eqb}
 use lib.ListN.{length, drop}
 use borrow.Author.Tests.{eq-eqb, le-leb}
-use Rattle.whole.specs.Tab.{length-tab}
+use Rattle.whole.specs.laws.Tab.{length-tab}
 use Rattle.lattice.specs.Lattice.{d2q9}
 use Rattle.grid.specs.declared.Answer.{Answer}
 use Rattle.grid.specs.declared.Answer.the-variants.{Done}
 use Rattle.grid.specs.Grid.{flume}
-use Rattle.grid.specs.Good.{badFlag, badFluid, badRule}
 use Rattle.grid.specs.Demands.{Same}
-use Rattle.grid.specs.Outcome.{accepted, orRefuse, ifNone, goodAnswer}
-use Rattle.grid.specs.State.{Lent, lent, State, stateOf, lentOf}
+use Rattle.grid.specs.Outcome.{accepted, goodAnswer}
+use Rattle.grid.specs.State.{Lent, lent, stateOf, lentOf}
 use Rattle.grid.proofs.Accepted.{done-accepted, passed, none-found, skip}
 use Rattle.grid.proofs.Listed.{same-listed, lengths-fit}
 use Rattle.grid.proofs.Same.{bad-rule-same}
-use Rattle.flume.specs.Flume.{flumeSidesGood, flumeCells, flumeGrid, flumeLengths}
+use Rattle.flume.specs.Flume.{flumeCells, flumeGrid, flumeLengths}
 use Rattle.record.proofs.Numbers.{Bytes}
 use Rattle.record.proofs.Answers.{or-pass}
 use Rattle.record.proofs.FlagPart.{length-part-is}
@@ -28,7 +27,7 @@ use Rattle.flumerecord.specs.declared.FlumeHead.{FlumeHead}
 use Rattle.flumerecord.specs.Layout.{flumeSiteGood, flumeRecordOf, flumeRecordLength}
 use Rattle.flumerecord.specs.Reading.{flumeSidesIn, flumeSettingsIn, flumeSiteIn, flumeFlagsAt, flumeCellsIn, flumeFlagsIn, flumeStateIn, flumeSetIn, flumeContent, flumeReadAnswer, flumeReadHead, flumeReadFlags, flumeReadSet}
 use Rattle.flumerecord.specs.Writing.{flumeWriteAnswer, flumeWrittenRoom}
-use Rattle.flumerecord.specs.Passes.{FlumeSound}
+use Rattle.flumerecord.specs.inner.Passes.{FlumeSound}
 use Rattle.flumerecord.proofs.Assembled.{length-record}
 use Rattle.flumerecord.proofs.Shaped.{sound, shape-accepted, content-accepted}
 use Rattle.flumerecord.proofs.SameBytes.{gridRead, same-bytes}

@@ -14,10 +14,10 @@ use Rattle.grid.proofs.Accepted.{accepted-done, done-accepted}
 use Rattle.flume.specs.declared.FlumeSides.{FlumeSides}
 use Rattle.flume.specs.declared.FlumeSettings.{FlumeSettings}
 use Rattle.flume.specs.Flume.{flumeSidesGood, flumeCells, flumeGrid, flumeLengths, levelSettings}
-use Rattle.flumegrid.specs.Ready.{FlumeSized}
+use Rattle.flumegrid.specs.inner.Ready.{FlumeSized}
 use Rattle.flumegrid.proofs.Checks.{sized}
 use Rattle.record.specs.declared.Written.{Written}
-use Rattle.record.specs.Layout.{Small}
+use Rattle.record.specs.inner.Small.{Small}
 use Rattle.record.specs.Writing.{roomTest}
 use Rattle.record.proofs.Answers.{Chain, chain-or, chain-both, chain-then, or-true}
 use Rattle.record.proofs.WrittenBy.{small, chain-good, WroteOn, refused-on, short-on, done-on}

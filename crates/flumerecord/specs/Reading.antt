@@ -7,10 +7,9 @@ use lib.ListN.{length}
 use Rattle.lattice.specs.Lattice.{d2q9}
 use Rattle.grid.specs.declared.Answer.{Answer}
 use Rattle.grid.specs.declared.Answer.the-variants.{Done}
-use Rattle.grid.specs.State.{State, Lent, lentOf}
+use Rattle.grid.specs.State.{State, Lent, lentOf, flagOf}
 use Rattle.grid.specs.Good.{badFlag, badFluid, badRule}
 use Rattle.grid.specs.Outcome.{accepted, orRefuse, ifNone}
-use Rattle.grid.specs.Passes.{flagOf}
 use Rattle.flume.specs.declared.FlumeSides.{FlumeSides}
 use Rattle.flume.specs.declared.FlumeSettings.{FlumeSettings}
 use Rattle.flume.specs.Flume.{flumeSidesGood, flumeCells, flumeGrid}

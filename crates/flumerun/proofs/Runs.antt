@@ -15,11 +15,11 @@ use Rattle.grid.specs.State.{Lent, stateOf}
 use Rattle.grid.specs.Step.{next}
 use Rattle.grid.specs.Outcome.{goodAnswer, moveAnswer}
 use Rattle.grid.specs.Demands.{gridAnswer}
-use Rattle.grid.specs.Halfway.{Alike}
+use Rattle.grid.specs.inner.Halfway.{Alike}
 use Rattle.grid.proofs.Conserved.{good-any-on}
 use Rattle.grid.proofs.Listed.{same-listed}
 use Rattle.grid.proofs.Reached.{step-good}
-use Rattle.run.specs.Turns.{here, there, Evened}
+use Rattle.run.specs.inner.Turns.{here, there, Evened}
 use Rattle.run.proofs.Admitted.{RanOn, refuses-on, entered-on, admits, not-admitted-on, ended-on}
 use Rattle.run.proofs.Courses
 use Rattle.run.proofs.Courses.{Course, Lawful, Passed, Ended}
@@ -29,11 +29,11 @@ use Rattle.flume.specs.Flume.{flumeCells, flumeGrid, flumeLengths, flumeGround,
 use Rattle.flume.specs.Outcome.{flumeScene, flumeEntry, flumeStep, flumeNext, flumeRunEntry, open-outcome}
 use Rattle.flume.specs.Promise.{FlumeRanTo}
 use Rattle.flume.proofs.Demands.{flume-laid}
-use Rattle.flumegrid.specs.Ready.{FlumeSized, FlumeReady, FlumeEntered}
+use Rattle.flumegrid.specs.inner.Ready.{FlumeSized, FlumeReady, FlumeEntered}
 use Rattle.flumegrid.proofs.Entrance.{enters}
-use Rattle.flumestep.specs.Finished.{FlumeAdvanced}
+use Rattle.flumestep.specs.inner.Finished.{FlumeAdvanced}
 use Rattle.flumestep.proofs.Finishes.{alike-sized, next-sized}
-use Rattle.flumerun.specs.Turns.{FlumeCrossed, FlumeWent}
+use Rattle.flumerun.specs.inner.Turns.{FlumeCrossed, FlumeWent}
 
 -- ---- an accepted step of a set that is ready
 module _ (s : FlumeSides) (g : FlumeSettings) (a : Lent) where

@@ -9,11 +9,11 @@ use run::running;
 use run::running::Ran;
 ghost use mathlib.Core.Path.{_≡_};
 ghost use Rattle.grid.specs.State.{lent};
-ghost use Rattle.run.specs.Turns.{here, there};
+ghost use Rattle.run.specs.inner.Turns.{here, there};
 ghost use Rattle.flume.specs.Outcome.{flumeRunEntry};
 ghost use Rattle.flume.specs.Promise.{FlumeRanTo};
-ghost use Rattle.flumegrid.specs.Ready.{FlumeEntered};
-ghost use Rattle.flumerun.specs.Turns.{FlumeCrossed, FlumeWent};
+ghost use Rattle.flumegrid.specs.inner.Ready.{FlumeEntered};
+ghost use Rattle.flumerun.specs.inner.Turns.{FlumeCrossed, FlumeWent};
 
 // One step from the set that holds the state to the other one.
 fn turn(
@@ -36,7 +36,7 @@ fn turn(
     ensures { λ r. ⌜ FlumeCrossed s g back (lent (now (flags .entry)) (now (parts .entry)) (now (mass .entry)) (now (fill .entry)) (now (carry .entry))) (lent (now (flags2 .entry)) (now (parts2 .entry)) (now (mass2 .entry)) (now (fill2 .entry)) (now (carry2 .entry))) r (lent (now (flags .exit)) (now (parts .exit)) (now (mass .exit)) (now (fill .exit)) (now (carry .exit))) (lent (now (flags2 .exit)) (now (parts2 .exit)) (now (mass2 .exit)) (now (fill2 .exit)) (now (carry2 .exit))) (now (marks .exit)) ⌝ }
 {
     if back {
-        return stepping::stepped(
+        return stepping::advanced(
             flags2,
             parts2,
             mass2,
@@ -52,7 +52,7 @@ fn turn(
             g,
         );
     }
-    stepping::stepped(
+    stepping::advanced(
         flags,
         parts,
         mass,

@@ -9,26 +9,26 @@ use native.Mathlib.Omega.{arith}
 use lib.IntN.{ℤ, pos}
 use lib.ListN.{length, getD, replicate, length-replicate}
 use lib.Seq.{ext-getD}
-use Rattle.whole.specs.Bools.{and-left, and-right}
+use Rattle.whole.specs.laws.Bools.{and-left, and-right}
 use Rattle.whole.specs.Fold.{tab, first}
-use Rattle.whole.specs.Tab.{length-tab, getD-tab}
+use Rattle.whole.specs.laws.Tab.{length-tab, getD-tab}
 use Rattle.lattice.specs.Lattice.{d3q19, d2q9}
 use Rattle.lattice.specs.Body.{bodyGood}
 use Rattle.lattice.specs.declared.Settings.{Settings}
 use Rattle.grid.specs.declared.Answer.{Answer}
 use Rattle.grid.specs.declared.Answer.the-variants.{Done, Refused}
 use Rattle.grid.specs.State.{Lent, lent, Scene, liquid, stateOf}
-use Rattle.grid.specs.Step.{tooFast, collided, newFlag, newPart, newMass, newFill, newCarry}
+use Rattle.grid.specs.Step.{unsteady, collided, newFlag, newPart, newMass, newFill, newCarry}
 use Rattle.grid.specs.Good.{badRule}
 use Rattle.grid.specs.Outcome.{accepted, ifNone, moveAnswer}
-use Rattle.grid.specs.Halfway.{Alike}
-use Rattle.grid.specs.Passes.{openedBy}
+use Rattle.grid.specs.inner.Halfway.{Alike}
+use Rattle.grid.specs.inner.Passes.{openedBy}
 use Rattle.grid.proofs.Listed.{lengths-fit}
 use Rattle.flow.specs.declared.passing.Passed.{Passed}
 use Rattle.flow.specs.declared.passing.Passed.the-variants.{Stopped, Through}
-use Rattle.flow.specs.Flowed.{MovedTo}
-use Rattle.turn.specs.Filled.{Refilled}
-use Rattle.turn.proofs.Field.{Field, sceneIn, Sound}
+use Rattle.flow.specs.inner.Flowed.{MovedTo}
+use Rattle.fills.specs.inner.Filled.{Refilled}
+use Rattle.conversion.proofs.Field.{Field, sceneIn, Sound}
 use Rattle.step.proofs.Opened.{open-fluid, open-near}
 use Rattle.step.proofs.Refills.{fills-weighty}
 use Rattle.step.proofs.Tests
@@ -36,22 +36,22 @@ use Rattle.step.proofs.Uncarried
 use Rattle.flume.specs.declared.FlumeSides.{FlumeSides}
 use Rattle.flume.specs.declared.FlumeSettings.{FlumeSettings}
 use Rattle.flume.specs.Flume.{flumeCells, flumeGrid, flumeLengths, levelSettings}
-use Rattle.flume.specs.Offsets.{flumeLow, flumeOffset}
+use Rattle.flume.specs.inner.Offsets.{flumeLow, flumeOffset}
 use Rattle.flume.specs.Outcome.{flumeScene, flumeNext}
-use Rattle.flume.specs.Spread.{wide, spreadLattice}
+use Rattle.flume.specs.inner.Spread.{wide, spreadLattice}
 use Rattle.flume.proofs.Bridge.{bad-rule-same, spread-of}
 use Rattle.flume.proofs.Places.{wide-dir, spread-at}
 use Rattle.flume.proofs.Sets.{flume-move, flume-next}
-use Rattle.nine.specs.Cells.{partOf9}
-use Rattle.flumegrid.specs.Ready.{FlumeSized, FlumeReady, FlumeEntered}
+use Rattle.nine.specs.inner.Cells.{partOf9}
+use Rattle.flumegrid.specs.inner.Ready.{FlumeSized, FlumeReady, FlumeEntered}
 use Rattle.flumegrid.proofs.Checks.{sized}
 use Rattle.flumegrid.proofs.Poise.{poised}
-use Rattle.flumeflow.specs.Flowed.{wideScene, FlumeFlowable, FlumeWent, stopped, through, FlumeFlowed}
+use Rattle.flumeflow.specs.inner.Flowed.{wideScene, FlumeFlowable, FlumeWent, stopped, through, FlumeFlowed}
 use Rattle.flumeflow.proofs.Nines.{part-at, place-low}
-use Rattle.flumeturn.specs.Filled.{Fillable9}
-use Rattle.flumeturn.specs.Turned.{FlumeTurning, FlumeTurned}
-use Rattle.flumeturn.proofs.Flumes.{flumeField, flume-scene, flume-sound}
-use Rattle.flumestep.specs.Finished.{FlumeFinishing, FlumeFinished, FlumeTried, FlumeAdvanced}
+use Rattle.flumefills.specs.inner.Filled.{Fillable9}
+use Rattle.flumeconversion.specs.inner.Turned.{FlumeTurning, FlumeTurned}
+use Rattle.flumeconversion.proofs.Flumes.{flumeField, flume-scene, flume-sound}
+use Rattle.flumestep.specs.inner.Finished.{FlumeFinishing, FlumeFinished, FlumeTried, FlumeAdvanced}
 
 -- what pass 1 answered
 abbrev is-stopped : Passed → Bool
@@ -66,9 +66,9 @@ abbrev was-fair : Passed → Bool
 was-fair (Stopped c) = false
 was-fair (Through u v) = u
 
-abbrev was-still : Passed → Bool
-was-still (Stopped c) = false
-was-still (Through u v) = v
+abbrev was-calm : Passed → Bool
+was-calm (Stopped c) = false
+was-calm (Through u v) = v
 
 -- nine parts a cell in one list, from the nineteen places
 nine-list : (f : ℕ → ℕ → ℤ) (parts : List ℤ) (n : ℕ) → length parts ≡ 9 * n → ((c k : ℕ) → c < n → k < 19 → partOf9 parts c k ≡ f c k)
@@ -113,10 +113,10 @@ module _ (s : FlumeSides) (g : FlumeSettings) (a : Lent) where
   U = wideScene s (levelSettings g) (lent (a .flags) (a .parts) (a .masses) (a .fills) [])
 
   -- ---- pass 1
-  pub moved-carried : {part : ℕ → ℕ → ℤ} {masses : List ℤ} {marks : List ℕ} {fair still : Bool} → MovedTo U n part masses marks fair still → MovedTo S n part masses marks fair still
+  pub moved-carried : {part : ℕ → ℕ → ℤ} {masses : List ℤ} {marks : List ℕ} {fair calm : Bool} → MovedTo U n part masses marks fair calm → MovedTo S n part masses marks fair calm
   moved-carried m = Uncarried.moved-carried (S .lat) (S .grid) (S .old .flag) (S .old .part) (S .old .mass) (S .old .fill) (S .g) (S .relax) (pos 0) (S .old .carry) m
 
-  fast-carried : tooFast U ≡ tooFast S
+  fast-carried : unsteady U ≡ unsteady S
   fast-carried = Uncarried.fast-is (S .lat) (S .grid) (S .old .flag) (S .old .part) (S .old .mass) (S .old .fill) (S .g) (S .relax) (pos 0) (S .old .carry)
 
   module _ (r : FlumeReady s g a) where
@@ -127,7 +127,7 @@ module _ (s : FlumeSides) (g : FlumeSettings) (a : Lent) where
     move-is = ap moveAnswer (flume-scene s g a) ∙ flume-move s g a (r .sized .flags)
 
     -- a cell that is too fast: refusal 7 there
-    pub stopped-answer : {c : ℕ} → c < n → first n (tooFast U) ≡ c → Refused 7 c ≡ moveAnswer (flumeScene s g a)
+    pub stopped-answer : {c : ℕ} → c < n → first n (unsteady U) ≡ c → Refused 7 c ≡ moveAnswer (flumeScene s g a)
     stopped-answer h e = Tests.stopped-answer F (field .stands) h (sym (ap (first n) fast-carried) ∙ e) ∙ move-is
 
     -- after pass 0
@@ -145,7 +145,7 @@ module _ (s : FlumeSides) (g : FlumeSettings) (a : Lent) where
           subst (λ (b : ℕ). liquid (getD (a .flags) b 3) ≡ true) (spread-at c (flumeGrid s .near c) k (d .most)) (open-near F field before e c h l o (wide k) (wide-dir k d));
     }
 
-    module _ (t : n ≤ first n (tooFast S)) {flags2 : List ℕ} {parts2 masses2 carry2 : List ℤ} {marks : List ℕ} {turned : Bool}
+    module _ (t : n ≤ first n (unsteady S)) {flags2 : List ℕ} {parts2 masses2 carry2 : List ℤ} {marks : List ℕ} {turned : Bool}
         (w : FlumeTurned s (levelSettings g) a flags2 parts2 masses2 carry2 marks turned) where
       count : length flags2 ≡ n
       count = ap length (w .turned .flags-are) ∙ length-tab n (newFlag S)
@@ -179,7 +179,7 @@ module _ (s : FlumeSides) (g : FlumeSettings) (a : Lent) where
         second-next =
             (λ i. lent (w .turned .flags-are i) (parts-are i) (w .turned .masses-are i) (fills-are i) (w .turned .carry-is i))
             ∙ (λ i. listed (flume-scene s g a i))
-            ∙ sym (flume-next s g a (r .sized .flags) (subst (λ (T : Scene). n ≤ first n (tooFast T)) (flume-scene s g a) t))
+            ∙ sym (flume-next s g a (r .sized .flags) (subst (λ (T : Scene). n ≤ first n (unsteady T)) (flume-scene s g a) t))
 
         -- test 8 where all was found fair
         pub fair-answer : ((c : ℕ) → c < n → liquid (getD (a .flags) c 3) ≡ true → bodyGood d3q19 (collided S c) ≡ true) → turned ≡ true → weighed ≡ true
@@ -202,22 +202,22 @@ next-lengths s g a e = subst (λ (x : Lent). FlumeSized (flumeCells s) x) (sym e
 pub cleared : (n : ℕ) {marks : List ℕ} → marks ≡ replicate n 0 → length marks ≡ n
 cleared n e = ap length e ∙ length-replicate n 0
 
-went-stopped : {T : Scene} {n : ℕ} {o : Passed} {parts masses : List ℤ} {marks : List ℕ} (c : ℕ) → o ≡ Stopped c → FlumeWent T n o parts masses marks → (c < n) × (first n (tooFast T) ≡ c)
+went-stopped : {T : Scene} {n : ℕ} {o : Passed} {parts masses : List ℤ} {marks : List ℕ} (c : ℕ) → o ≡ Stopped c → FlumeWent T n o parts masses marks → (c < n) × (first n (unsteady T) ≡ c)
 went-stopped {T} {n} c e (stopped {c = d} h f) = let k : d ≡ c = ap stopped-at e in (subst (λ (m : ℕ). m < n) k h, f ∙ k)
 went-stopped c e (through m) = absurd (false≢true (ap is-stopped e))
 
 went-through : {T : Scene} {n : ℕ} {o : Passed} {parts masses : List ℤ} {marks : List ℕ} (u v : Bool) → o ≡ Through u v → FlumeWent T n o parts masses marks
     → MovedTo T n (partOf9 parts) masses marks u v
 went-through u v e (stopped h f) = absurd (false≢true (sym (ap is-stopped e)))
-went-through {T} {n} {o} {parts} {masses} {marks} u v e (through {fair = x} {still = y} m) =
-    subst (λ (z : Bool). MovedTo T n (partOf9 parts) masses marks z v) (ap was-fair e) (subst (λ (z : Bool). MovedTo T n (partOf9 parts) masses marks x z) (ap was-still e) m)
+went-through {T} {n} {o} {parts} {masses} {marks} u v e (through {fair = x} {calm = y} m) =
+    subst (λ (z : Bool). MovedTo T n (partOf9 parts) masses marks z v) (ap was-fair e) (subst (λ (z : Bool). MovedTo T n (partOf9 parts) masses marks x z) (ap was-calm e) m)
 
 module _ {s : FlumeSides} {g : FlumeSettings} {a : Lent} where
   -- finished; h are the settings as the code has them, with gy = 0
-  pub turning : {h : Settings} {b : Lent} {marks : List ℕ} {fair still : Bool} → h ≡ levelSettings g → FlumeFinishing s g a b marks fair still
-      → FlumeTurning s h a (b .flags) (b .parts) (b .masses) (b .carry) marks still
-  turning {h} {b} {marks} {fair} {still} e f =
-      subst (λ (k : Settings). FlumeTurning s k a (b .flags) (b .parts) (b .masses) (b .carry) marks still) (sym e)
+  pub turning : {h : Settings} {b : Lent} {marks : List ℕ} {fair calm : Bool} → h ≡ levelSettings g → FlumeFinishing s g a b marks fair calm
+      → FlumeTurning s h a (b .flags) (b .parts) (b .masses) (b .carry) marks calm
+  turning {h} {b} {marks} {fair} {calm} e f =
+      subst (λ (k : Settings). FlumeTurning s k a (b .flags) (b .parts) (b .masses) (b .carry) marks calm) (sym e)
       (record {
         ready = f .ready;
         level = refl;
@@ -227,7 +227,7 @@ module _ {s : FlumeSides} {g : FlumeSettings} {a : Lent} where
           masses-are = f .moved .masses-are;
           marks-are = f .moved .marks-are;
           fair-tells = λ e. absurd (false≢true e);
-          still-tells = f .moved .still-tells;
+          calm-tells = f .moved .calm-tells;
         };
         flags-room = f .second .flags;
         parts-room = f .second .parts;
@@ -239,7 +239,7 @@ module _ {s : FlumeSides} {g : FlumeSettings} {a : Lent} where
   turned-level {flags2 = flags2} {parts2 = parts2} {masses2 = masses2} {carry2 = carry2} {marks = marks} {turned = turned} e w =
       subst (λ (k : Settings). FlumeTurned s k a flags2 parts2 masses2 carry2 marks turned) e w
 
-  module _ {b : Lent} {before : List ℕ} {fair still : Bool} (f : FlumeFinishing s g a b before fair still) {flags2 : List ℕ} {parts2 masses2 carry2 : List ℤ} {marks : List ℕ} {turned : Bool}
+  module _ {b : Lent} {before : List ℕ} {fair calm : Bool} (f : FlumeFinishing s g a b before fair calm) {flags2 : List ℕ} {parts2 masses2 carry2 : List ℤ} {marks : List ℕ} {turned : Bool}
       (w : FlumeTurned s (levelSettings g) a flags2 parts2 masses2 carry2 marks turned) where
     pub flags-count : length flags2 ≡ flumeCells s
     flags-count = ap length (w .turned .flags-are) ∙ length-tab (flumeCells s) (newFlag (wideScene s (levelSettings g) a))
@@ -298,8 +298,8 @@ module _ {s : FlumeSides} {g : FlumeSettings} {a : Lent} where
             marks-are = λ k. absurd (false≢true (ap accepted k));
           }
 
-      pub finishing : (fair still : Bool) → o ≡ Through fair still → FlumeFinishing s g a flowed marks2 fair still
-      finishing fair still e = record { ready = f .ready; moved = moved-carried s g a (went-through fair still e (w .went)); second = flowed-sized }
+      pub finishing : (fair calm : Bool) → o ≡ Through fair calm → FlumeFinishing s g a flowed marks2 fair calm
+      finishing fair calm e = record { ready = f .ready; moved = moved-carried s g a (went-through fair calm e (w .went)); second = flowed-sized }
 
   pub tried-finished : {answer : Answer} {second : Lent} {after : List ℕ} → FlumeFinished s g a answer second after → FlumeTried s g a answer second after
   tried-finished f = record {

@@ -8,9 +8,9 @@ ghost use mathlib.Core.Path.{_≡_};
 ghost use mathlib.Core.Bool.{true};
 ghost use lib.ListN.{length};
 ghost use Rattle.whole.specs.Fold.{tab};
-ghost use Rattle.grid.specs.Passes.{openedBy};
+ghost use Rattle.grid.specs.inner.Passes.{openedBy};
 ghost use Rattle.flume.specs.Flume.{flumeSidesGood, flumeCells, levelSettings};
-ghost use Rattle.flume.specs.Offsets.{flumeLow, flumeOffset};
+ghost use Rattle.flume.specs.inner.Offsets.{flumeLow, flumeOffset};
 
 // The flume's gravity has no y.
 pub(crate) fn level(g: FlumeSettings) -> Settings

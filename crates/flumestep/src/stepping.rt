@@ -3,11 +3,11 @@ use crate::marking;
 use flow::passing::Passed;
 use flume::FlumeSettings;
 use flume::FlumeSides;
+use flumeconversion::turning;
+use flumefills::filling;
 use flumeflow::passing;
 use flumegrid::checking;
 use flumegrid::entry;
-use flumeturn::filling;
-use flumeturn::turning;
 use grid::Answer;
 use grid::copying;
 use step::sets;
@@ -19,8 +19,8 @@ ghost use Rattle.grid.specs.State.{lent, stateOf};
 ghost use Rattle.grid.specs.Good.{badRule};
 ghost use Rattle.grid.specs.Outcome.{ifNone};
 ghost use Rattle.flume.specs.Promise.{FlumeStepped};
-ghost use Rattle.flumegrid.specs.Ready.{FlumeSized, FlumeEntered};
-ghost use Rattle.flumestep.specs.Finished.{FlumeFinishing, FlumeFinished, FlumeTried, FlumeAdvanced};
+ghost use Rattle.flumegrid.specs.inner.Ready.{FlumeSized, FlumeEntered};
+ghost use Rattle.flumestep.specs.inner.Finished.{FlumeFinishing, FlumeFinished, FlumeTried, FlumeAdvanced};
 
 // Test 8 where something is not fair: test 6's own scan of the second set.
 fn judged(flags2: &[u8], parts2: &[i32], mass2: &[i32], fill2: &[u32], carry2: &[i64]) -> Answer
@@ -48,11 +48,11 @@ fn finished(
     carry2: &mut [i64],
     marks: &mut [u8],
     fair: bool,
-    still: bool,
+    calm: bool,
     s: FlumeSides,
     g: FlumeSettings,
 ) -> Answer
-    requires { ⌜ FlumeFinishing s g (lent (now flags) (now parts) (now mass) (now fill) (now carry)) (lent (now flags2) (now parts2) (now mass2) (now fill2) (now carry2)) (now marks) fair still ⌝ }
+    requires { ⌜ FlumeFinishing s g (lent (now flags) (now parts) (now mass) (now fill) (now carry)) (lent (now flags2) (now parts2) (now mass2) (now fill2) (now carry2)) (now marks) fair calm ⌝ }
     ensures { λ r. ⌜ FlumeFinished s g (lent (now (flags .entry)) (now (parts .entry)) (now (mass .entry)) (now (fill .entry)) (now (carry .entry))) r (lent (now (flags2 .exit)) (now (parts2 .exit)) (now (mass2 .exit)) (now (fill2 .exit)) (now (carry2 .exit))) (now (marks .exit)) ⌝ }
 {
     let h = marking::level(g);
@@ -67,7 +67,7 @@ fn finished(
         mass2,
         carry2,
         marks,
-        still,
+        calm,
         s,
         h,
     );
@@ -79,7 +79,7 @@ fn finished(
 }
 
 // The passes in a row; after a refusal the second set holds what was worked out so far.
-fn advanced(
+fn tried(
     flags: &[u8],
     parts: &[i32],
     mass: &[i32],
@@ -102,7 +102,7 @@ fn advanced(
     let a = passing::flowing9(flags, parts, mass, fill, parts2, mass2, marks, s, h);
     match a {
         Passed::Stopped(c) => Answer::Refused(7, c),
-        Passed::Through(fair, still) => finished(
+        Passed::Through(fair, calm) => finished(
             flags,
             parts,
             mass,
@@ -115,7 +115,7 @@ fn advanced(
             carry2,
             marks,
             fair,
-            still,
+            calm,
             s,
             g,
         ),
@@ -123,7 +123,7 @@ fn advanced(
 }
 
 // The step of a set that is ready.
-pub fn stepped(
+pub fn advanced(
     flags: &[u8],
     parts: &[i32],
     mass: &[i32],
@@ -141,7 +141,7 @@ pub fn stepped(
     requires { ⌜ FlumeEntered s g (lent (now flags) (now parts) (now mass) (now fill) (now carry)) (lent (now flags2) (now parts2) (now mass2) (now fill2) (now carry2)) (now marks) ⌝ }
     ensures { λ r. ⌜ FlumeAdvanced s g (lent (now (flags .entry)) (now (parts .entry)) (now (mass .entry)) (now (fill .entry)) (now (carry .entry))) r (lent (now (flags2 .exit)) (now (parts2 .exit)) (now (mass2 .exit)) (now (fill2 .exit)) (now (carry2 .exit))) (now (marks .exit)) ⌝ }
 {
-    let a = advanced(
+    let a = tried(
         flags,
         parts,
         mass,
@@ -211,7 +211,7 @@ pub fn step(
     if let Answer::Refused(no, at) = a {
         return Answer::Refused(no, at);
     }
-    stepped(
+    advanced(
         flags,
         parts,
         mass,

@@ -13,7 +13,8 @@ ghost use lib.ListN.{length};
 ghost use lib.Seq.{sets};
 ghost use Rattle.flume.specs.Flume.{flumeSidesGood, levelSettings};
 ghost use Rattle.record.specs.Bytes.{u32Of, i32Of, i64Of};
-ghost use Rattle.record.specs.Layout.{section, Small};
+ghost use Rattle.record.specs.Layout.{section};
+ghost use Rattle.record.specs.inner.Small.{Small};
 ghost use Rattle.flumerecord.specs.Layout.{levelSite, flumeHeadBytes};
 
 fn put_sides(room: &mut [u8], s: FlumeSides)

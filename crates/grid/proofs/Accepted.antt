@@ -4,14 +4,14 @@ use mathlib.Core.Bool.{Bool, true, false, _&&_, _||_, not, cond, false≢true, t
 use Prim.Native.Nat.{ℕ, zero, suc, _+_, _≤_, _<_}
 use native.Mathlib.Nat.{le-of-eq}
 use native.Mathlib.Omega.{arith}
-use lib.IntN.{ℤ, pos, negsuc}
+use lib.IntN.{ℤ, pos}
 use lib.Dec.{eqb, ltb, leb}
 use borrow.Author.Tests.{leb-true, ltb-true, eqb-true, eq-eqb, le-leb, lt-ltb, not-false, ne-eqb}
-use Rattle.whole.specs.Bools.{and-left, and-right, where-then, never}
-use Rattle.whole.specs.Fold.{all, anyDir, first}
-use Rattle.whole.specs.Search.{any-dir, any-where, first-none, first-all}
+use Rattle.whole.specs.laws.Bools.{and-left, and-right, where-then, never}
+use Rattle.whole.specs.Fold.{all, anyDir}
+use Rattle.whole.specs.laws.Search.{any-dir, any-where, first-none, first-all}
 use Rattle.lattice.specs.Lattice.{Lattice, density}
-use Rattle.lattice.specs.Cell.{massGood, carryGood}
+use Rattle.lattice.specs.Cell.{carryGood}
 use Rattle.grid.specs.declared.Answer.{Answer}
 use Rattle.grid.specs.declared.Answer.the-variants.{Done, Refused}
 use Rattle.grid.specs.Grid.{Grid}

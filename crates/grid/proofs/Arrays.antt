@@ -6,10 +6,10 @@ use native.Mathlib.Omega.{arith}
 use lib.IntN.{ℤ, pos}
 use lib.ListN.{getD}
 use Rattle.whole.specs.Fold.{tab}
-use Rattle.whole.specs.Tab.{getD-tab}
-use Rattle.whole.specs.Machine.{Within}
+use Rattle.whole.specs.laws.Tab.{getD-tab}
+use Rattle.whole.specs.laws.Machine.{Within}
 use Rattle.lattice.specs.Lattice.{d3q19, density, momentum}
-use Rattle.lattice.specs.Body.{partsOf, Bounded}
+use Rattle.lattice.specs.inner.Held.{partsOf, Bounded}
 use Rattle.grid.proofs.Same.{density-same, momentum-same}
 
 module _ (l : List ℤ) (f : ℕ → ℤ) (e : l ≡ tab 19 f) where

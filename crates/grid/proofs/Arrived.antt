@@ -5,7 +5,7 @@ use mathlib.Core.Bool.{Bool, true, false}
 use mathlib.Core.List.{List}
 use Prim.Native.Nat.{ℕ, zero, suc}
 use lib.Dec.{leb}
-use Rattle.whole.specs.Bools.{cond-yes}
+use Rattle.whole.specs.laws.Bools.{cond-yes}
 use Rattle.lattice.specs.Lattice.{Lattice, d3q19}
 use Rattle.lattice.specs.declared.Settings.{Settings}
 use Rattle.lattice.proofs.Paired.{Paired, paired19}

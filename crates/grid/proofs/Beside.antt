@@ -7,12 +7,12 @@ use native.Mathlib.Nat.{lt-suc-self, le-step}
 use native.Mathlib.Omega.{arith}
 use lib.Dec.{eqb}
 use lib.ListN.{length, getD}
-use Rattle.whole.specs.Bools.{never}
+use Rattle.whole.specs.laws.Bools.{never}
 use Rattle.whole.specs.Fold.{any, anyDir, tab}
-use Rattle.whole.specs.Search.{any-where}
+use Rattle.whole.specs.laws.Search.{any-where}
 use Rattle.grid.specs.declared.Sides.{Sides}
 use Rattle.grid.specs.Grid.{gridOf, cellsOf}
-use Rattle.grid.specs.Passes.{Inner, lowOf, offsetOf, besideAt, Reach}
+use Rattle.grid.specs.inner.Passes.{Inner, lowOf, offsetOf, besideAt, Reach}
 use Rattle.grid.proofs.Offsets.{neighbour, near-below}
 use Rattle.grid.proofs.Lists.{getD-there}
 

@@ -1,20 +1,20 @@
 -- A list of parts that is written cell by cell: what stands in it after one cell's parts are pasted, and what a pass over all cells has made of it.
 -- Use: the invariant `Blocks f out c` of such a pass, kept by `blocks-more`, and `blocks-all` at its end. Assumes nothing.
-use mathlib.Core.Path.{_≡_, refl, sym, ap, _∙_, subst}
+use mathlib.Core.Path.{_≡_, sym, ap, _∙_, subst}
 use mathlib.Core.List.{List, _++_, append-assoc}
 use mathlib.Core.Logic.{⊎-elim}
-use Prim.Native.Nat.{ℕ, zero, suc, _+_, _*_, _/_, _%_, _-_, _≤_, _<_}
+use Prim.Native.Nat.{ℕ, _+_, _*_, _/_, _%_, _-_, _≤_, _<_}
 use native.Mathlib.Decide.{ℕ-discrete}
-use native.Mathlib.Nat.{not-suc-le-zero, div-add-mod, mod-lt, div-lt-iff-lt-mul, le-trans}
+use native.Mathlib.Nat.{not-suc-le-zero, div-add-mod, mod-lt}
 use native.Mathlib.Omega.{arith}
 use lib.Arith.{lt-of-le-ne}
 use lib.IntN.{ℤ, pos}
-use lib.ListN.{length, getD, take, drop, length-append, length-take, length-drop, List·getD-append}
+use lib.ListN.{length, getD, take, drop, length-append, length-drop, List·getD-append}
 use lib.Seq.{take-all, length-take-le, paste, getD-append-add, getD-take, getD-drop, ext-getD}
 use Rattle.whole.specs.Fold.{tab}
-use Rattle.whole.specs.Order.{≤-or}
-use Rattle.whole.specs.Tab.{length-tab, getD-tab}
-use Rattle.grid.specs.Pasted.{pasted}
+use Rattle.whole.specs.laws.Order.{≤-or}
+use Rattle.whole.specs.laws.Tab.{length-tab, getD-tab}
+use Rattle.grid.specs.inner.Pasted.{pasted}
 
 module _ (out : List ℤ) (at : ℕ) (v : List ℤ) (fits : at + 19 ≤ length out) (nineteen : length v ≡ 19) where
   -- the copy of nineteen elements, as a loop makes it

@@ -9,13 +9,12 @@ use lib.IntN.{ℤ, pos, negsuc, negℤ, natAbs}
 use lib.Dec.{eqb}
 use lib.ListN.{getD}
 use borrow.Author.Tests.{eqb-true, eqb-false}
-use Rattle.whole.specs.Bools.{and-left, and-right, or-false}
-use Rattle.whole.specs.Parts.{up, down}
-use Rattle.whole.specs.Search.{Dir}
+use Rattle.whole.specs.laws.Bools.{and-left, and-right, or-false}
+use Rattle.whole.specs.Fold.{up, down, Dir}
 use Rattle.lattice.specs.Lattice.{Lattice, Row, d3q19, d2q9, rows9}
-use Rattle.lattice.proofs.Paired.{Paired, Turned, paired19, paired9}
+use Rattle.lattice.proofs.Paired.{Paired, paired19, paired9}
 use Rattle.grid.specs.declared.Sides.{Sides}
-use Rattle.grid.specs.Grid.{Grid, atEnd, cellAt, toward, box, flume, gridOf}
+use Rattle.grid.specs.Grid.{atEnd, cellAt, toward, box, flume, gridOf}
 use Rattle.lattice.specs.Body.{eqZ}
 use Rattle.grid.proofs.Laid.{Laid}
 

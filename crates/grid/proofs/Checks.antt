@@ -14,11 +14,10 @@ use Rattle.grid.specs.declared.Sides.{Sides}
 use Rattle.grid.specs.declared.Answer.{Answer}
 use Rattle.grid.specs.declared.Answer.the-variants.{Done, Refused}
 use Rattle.grid.specs.Grid.{cellsOf, gridOf, box, sidesGood}
-use Rattle.grid.specs.State.{Lent, lent, stateOf}
+use Rattle.grid.specs.State.{Lent, lent, stateOf, flagOf}
 use Rattle.grid.specs.Good.{badFlag, badFluid, badRule, cellGood, dryGood, interfaceGood, fluidGood, fillGood}
 use Rattle.grid.specs.Outcome.{orRefuse, ifNone, goodAnswer, lengthsGood, checkAnswer}
-use Rattle.grid.specs.Passes.{flagOf}
-use Rattle.grid.specs.Between.{Sized}
+use Rattle.grid.specs.inner.Between.{Sized}
 use Rattle.grid.proofs.Accepted.{skip}
 use Rattle.grid.proofs.Prepared.{sized}
 

@@ -1,16 +1,17 @@
 -- Closed: from a closed state the next flags are closed, so that stage 7 need not test them again; and they are flags, with the outer layer wall.
 -- For any lattice with paired directions, any grid laid on it, and any relaxation. The idea: a new fluid cell was fluid with no emptied neighbour, or is
 -- filled; a new empty cell was empty with no filled neighbour, or is emptied, which no cell beside a filled one is. Assumes nothing.
-use mathlib.Core.Path.{_≡_, refl, sym, ap, _∙_, subst}
+use mathlib.Core.Path.{_≡_, refl, sym, _∙_, subst}
 use mathlib.Core.Logic.{_⊎_, inl, inr}
 use mathlib.Core.Bool.{Bool, true, false, _&&_, not, false≢true}
 use Prim.Native.Nat.{ℕ, zero, suc, _≤_, _<_}
 use native.Mathlib.Omega.{arith}
-use Rattle.whole.specs.Search.{Dir, any-dir}
+use Rattle.whole.specs.Fold.{Dir}
+use Rattle.whole.specs.laws.Search.{any-dir}
 use Rattle.lattice.specs.Cell.{under}
 use Rattle.lattice.proofs.Paired.{Paired}
 use Rattle.grid.specs.State.{Scene, byFlag}
-use Rattle.grid.specs.Step.{filled, emptied, besideFilled, besideEmptied, newFlag, flagAfter, tradedMass, newDensity}
+use Rattle.grid.specs.Step.{filled, emptied, besideFilled, besideEmptied, newFlag, flagAfter, tradedMass, streamedDensity}
 use Rattle.grid.specs.Demands.{Walled, Closed}
 use Rattle.grid.proofs.Laid.{Laid, inner}
 
@@ -62,7 +63,7 @@ module _ (S : Scene) where
 
   pub emptied-lone : (c : ℕ) → emptied S c ≡ true → besideFilled S c ≡ false
   unfolding emptied
-  emptied-lone c e = lone-cases (S .old .flag c) (under (tradedMass S c) (newDensity S c)) (besideFilled S c) e
+  emptied-lone c e = lone-cases (S .old .flag c) (under (tradedMass S c) (streamedDensity S c)) (besideFilled S c) e
 
   beside-filled : (c i : ℕ) → Dir (S .lat .q) i → filled S (S .grid .near c i) ≡ true → besideFilled S c ≡ true
   unfolding besideFilled

@@ -7,10 +7,10 @@ use mathlib.Core.Bool.{Bool, true, false, _&&_}
 use mathlib.Core.List.{List}
 use Prim.Native.Nat.{ℕ, suc, _≤_, _<_}
 use native.Mathlib.Omega.{arith}
-use lib.IntN.{ℤ, pos, _+ℤ_}
+use lib.IntN.{ℤ, _+ℤ_}
 use lib.Dec.{eqb, leb}
 use lib.ListN.{length}
-use Rattle.whole.specs.Bools.{and-left}
+use Rattle.whole.specs.laws.Bools.{and-left}
 use Rattle.whole.specs.Fold.{first}
 use Rattle.lattice.specs.Lattice.{Lattice, d3q19}
 use Rattle.lattice.specs.declared.Settings.{Settings}
@@ -20,7 +20,7 @@ use Rattle.grid.specs.declared.Answer.{Answer}
 use Rattle.grid.specs.declared.Answer.the-variants.{Done}
 use Rattle.grid.specs.Grid.{Grid, cellsOf, sidesGood, box, gridOf}
 use Rattle.grid.specs.State.{Lent, State, Scene, stateOf}
-use Rattle.grid.specs.Step.{tooFast, next}
+use Rattle.grid.specs.Step.{unsteady, next}
 use Rattle.grid.specs.Good.{badRule}
 use Rattle.grid.specs.Outcome.{numberOf, orRefuse, ifNone, goodAnswer, moveAnswer, lengthsGood, settingsGood, checkAnswer, byAnswer}
 use Rattle.grid.specs.Ground.{Ground, ground, boxGround, lengthsOn, stateOn, checkOn, sceneOn, entryOn, stepOn, nextOn, secondOn}
@@ -30,7 +30,7 @@ use Rattle.grid.proofs.Box.{grid-laid}
 use Rattle.grid.proofs.Laid.{Laid}
 use Rattle.grid.proofs.Listed.{same-listed, lengths-fit}
 use Rattle.grid.proofs.Accepted.{passed, none-found, skip}
-use Rattle.grid.proofs.Reached.{Kept, reached-holds}
+use Rattle.grid.proofs.Reached.{reached-holds}
 
 -- what is claimed of a set b reached from a by r
 pub record Holds (G : Ground) (a b : Lent) (r : Reached G a b) : Type 0 where
@@ -126,7 +126,7 @@ unfolding moveAnswer
 move-number S n low high e = seven (refuse-cases (leb (S .grid .cells) a) 7 a rest)
   where
     a : ℕ
-    a = first (S .grid .cells) (tooFast S)
+    a = first (S .grid .cells) (unsteady S)
 
     b : ℕ
     b = badRule (S .lat) (S .grid .cells) (next S)

@@ -7,11 +7,11 @@ use native.Mathlib.Nat.{mod-lt, mod-eq-of-lt, div-eq-of-lt, add-mul-div-left, ad
 use native.Mathlib.Omega.{arith}
 use lib.Dec.{eqb, ltb}
 use borrow.Author.Tests.{eqb-false, ltb-true, ltb-false}
-use Rattle.whole.specs.Bools.{or-false}
+use Rattle.whole.specs.laws.Bools.{or-false}
 use Rattle.grid.specs.declared.Sides.{Sides}
 use Rattle.grid.specs.declared.layer.Place.{Place}
 use Rattle.grid.specs.Grid.{atEnd, gridOf, box, cellsOf, sidesGood}
-use Rattle.grid.specs.Passes.{Inner, Stands, Of, placeAfter, outerAt, lowOf}
+use Rattle.grid.specs.inner.Passes.{Inner, Stands, Of, placeAfter, outerAt, lowOf}
 use Rattle.grid.proofs.GoodSides.{good-sides}
 
 module _ {s : Sides} {c : ℕ} {p : Place} (h : Stands s c p) where

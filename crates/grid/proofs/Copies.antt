@@ -3,7 +3,7 @@ use mathlib.Core.Path.{_≡_, sym, _∙_, subst}
 use mathlib.Core.List.{List}
 use Prim.Native.Nat.{ℕ, _≤_}
 use lib.ListN.{length, getD}
-use Rattle.whole.specs.Tab.{Upto, upto-all, tab-self}
+use Rattle.whole.specs.laws.Tab.{Upto, upto-all, tab-self}
 
 module _ {ℓ} {A : Type ℓ} (d : A) (src dst₀ : List A) where
   -- dst holds the first i elements of src, and its length is what it was

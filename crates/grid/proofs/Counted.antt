@@ -1,12 +1,12 @@
 -- Counted: the count that a run returns is the largest number of leading accepted steps, the state reached is that of so many steps, and where the count
 -- falls short of the steps asked, the step that stopped it is refused with the answer that the run returns. Assumes nothing.
-use mathlib.Core.Path.{_≡_, refl, sym, ap, _∙_, subst}
-use mathlib.Core.Bool.{Bool, true, false, cond, false≢true}
+use mathlib.Core.Path.{_≡_, refl, sym, _∙_}
+use mathlib.Core.Bool.{Bool, true, false, false≢true}
 use mathlib.Core.List.{List}
 use Prim.Native.Nat.{ℕ, zero, suc, _+_, _≤_, _<_}
 use native.Mathlib.Nat.{le-of-suc-le-suc}
 use native.Mathlib.Omega.{arith}
-use Rattle.whole.specs.Bools.{cond-yes}
+use Rattle.whole.specs.laws.Bools.{cond-yes}
 use Rattle.lattice.specs.declared.Settings.{Settings}
 use Rattle.grid.specs.declared.Sides.{Sides}
 use Rattle.grid.specs.declared.Answer.{Answer}

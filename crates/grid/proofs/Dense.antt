@@ -6,17 +6,17 @@ use Prim.Native.Nat.{ℕ, zero, suc, _*_, _≤_, _<_}
 use native.Mathlib.Omega.{arith}
 use lib.IntN.{ℤ, pos, negsuc, natAbs}
 use lib.Signed.{_≤ℤ_, leZ}
-use Rattle.whole.specs.Bools.{and-true, cond-yes}
+use Rattle.whole.specs.laws.Bools.{and-true, cond-yes}
 use Rattle.whole.specs.Fold.{count}
-use Rattle.whole.specs.Machine.{Within}
-use Rattle.whole.specs.Order.{≤-leZ}
-use Rattle.whole.specs.Parts.{≤-parts, parts-≤}
-use Rattle.whole.specs.Search.{as-dir, any-where}
-use Rattle.lattice.specs.Lattice.{Lattice, density}
+use Rattle.whole.specs.laws.Machine.{Within}
+use Rattle.whole.specs.laws.Order.{≤-leZ}
+use Rattle.whole.specs.laws.Parts.{≤-parts, parts-≤}
+use Rattle.whole.specs.laws.Search.{as-dir, any-where}
+use Rattle.lattice.specs.Lattice.{density}
 use Rattle.lattice.specs.Cell.{dense, over}
 use Rattle.lattice.proofs.Tame.{dense-low, dense-in}
 use Rattle.grid.specs.State.{Scene, byFlag, liquid}
-use Rattle.grid.specs.Step.{tradedMass, newDensity, collided, filled, emptied, besideFilled, besideEmptied, newFlag, flagAfter, liquidNear, nearSum, bornDensity, born, newPart}
+use Rattle.grid.specs.Step.{tradedMass, streamedDensity, collided, filled, emptied, besideFilled, besideEmptied, newFlag, flagAfter, liquidNear, nearSum, bornDensity, born, newPart}
 use Rattle.grid.specs.Demands.{Walled}
 use Rattle.grid.proofs.Accurate.{stays}
 use Rattle.grid.proofs.Laid.{Laid, inner}
@@ -26,7 +26,7 @@ use Rattle.grid.proofs.Same.{density-same}
 
 -- stage 3 has passed: every liquid cell's ρ' is in its range
 abbrev pub Passed : Scene → Type 0
-Passed S = (c : ℕ) → c < S .grid .cells → liquid (S .old .flag c) ≡ true → dense (newDensity S c) ≡ true
+Passed S = (c : ℕ) → c < S .grid .cells → liquid (S .old .flag c) ≡ true → dense (streamedDensity S c) ≡ true
 
 abbrev pub Claim : Type 0
 Claim =
@@ -66,7 +66,7 @@ module _ (S : Scene) (c : ℕ) (z : S .old .flag c ≡ 0) (n : newFlag S c ≡ 1
       let f = any-where (S .lat .q) (λ a. filled S (S .grid .near c (suc a))) beside in
       let d = S .grid .near c (suc (f .0)) in
       count-some (S .lat .q) (λ a. liquid (S .old .flag (S .grid .near c (suc a)))) (f .0) (f .1)
-      (filled-wet (S .old .flag d) (over (tradedMass S d) (newDensity S d)) (f .2))
+      (filled-wet (S .old .flag d) (over (tradedMass S d) (streamedDensity S d)) (f .2))
 
   pub born-part : (k : ℕ) → newPart S c k ≡ born S c k
   unfolding newPart
@@ -89,7 +89,7 @@ module _ (S : Scene) (laid : Laid (S .lat) (S .grid)) (w : Walled (S .grid) (S .
     wet a = liquid (S .old .flag (S .grid .near c (suc a)))
 
     abbrev rho : ℕ → ℤ
-    rho a = newDensity S (S .grid .near c (suc a))
+    rho a = streamedDensity S (S .grid .near c (suc a))
 
     rho-dense : (a : ℕ) → a < S .lat .q → wet a ≡ true → dense (rho a) ≡ true
     rho-dense a k e = t (S .grid .near c (suc a)) (laid .cell c (suc a) h (inner (S .grid) (S .old .flag) w c h (λ e. absurd (omega arith))) (as-dir k)) e

@@ -1,6 +1,6 @@
 -- When test 8 cannot refuse: a liquid cell's parts and speed, an interface mass, and the carry are all that the next state can break after an accepted
 -- stage 3. Density, fluid mass, fill, and what is dry, are right by themselves. Assumes nothing.
-use mathlib.Core.Path.{_≡_, refl, sym, ap, ap₂, _∙_, subst}
+use mathlib.Core.Path.{_≡_, refl, sym, ap, ap₂, _∙_}
 use mathlib.Core.Bool.{Bool, true, false, _&&_, _||_, not, cond, false≢true}
 use Prim.Native.Nat.{ℕ, zero, suc, _+_, _≤_, _<_}
 use native.Mathlib.Decide.{ℕ-discrete}
@@ -10,13 +10,13 @@ use lib.Arith.{lt-of-le-ne}
 use lib.IntN.{ℤ, pos, negsuc, _+ℤ_, +ℤ-idr}
 use lib.Dec.{eqb}
 use borrow.Author.Tests.{eq-eqb, ne-eqb}
-use Rattle.whole.specs.Bools.{and-true}
-use Rattle.whole.specs.Fold.{all, first}
-use Rattle.whole.specs.Search.{first-all}
-use Rattle.lattice.specs.Lattice.{dot, Lattice, density, momentum}
+use Rattle.whole.specs.laws.Bools.{and-true}
+use Rattle.whole.specs.Fold.{all}
+use Rattle.whole.specs.laws.Search.{first-all}
+use Rattle.lattice.specs.Lattice.{dot, density, momentum}
 use Rattle.lattice.specs.Cell.{partGood, massGood, carryGood, dense, slow}
-use Rattle.grid.specs.State.{State, Scene, byFlag, liquid}
-use Rattle.grid.specs.Step.{tradedMass, newDensity, collided, filled, emptied, besideFilled, besideEmptied, newFlag, flagAfter, baseMass, born, newPart, received, newMass, newCarry, fillFor, newFill, next}
+use Rattle.grid.specs.State.{Scene, byFlag, liquid}
+use Rattle.grid.specs.Step.{tradedMass, streamedDensity, collided, filled, emptied, besideFilled, besideEmptied, newFlag, flagAfter, baseMass, born, newPart, received, newMass, newCarry, fillFor, newFill, next}
 use Rattle.grid.specs.Good.{dryGood, interfaceGood, fluidGood, fillGood, cellGood, badRule}
 use Rattle.grid.specs.Demands.{Walled}
 use Rattle.lattice.specs.Body.{bodyGood, eqZ}
@@ -24,7 +24,7 @@ use Rattle.grid.proofs.Accurate.{stays}
 use Rattle.grid.proofs.Dense.{Passed, dense-holds}
 use Rattle.grid.proofs.Laid.{Laid}
 use Rattle.grid.proofs.Moved.{density-collided}
-use Rattle.grid.proofs.Same.{density-same, all-same}
+use Rattle.grid.proofs.Same.{density-same}
 
 -- what is asked of the next state
 pub record Fair (S : Scene) : Type 0 where
@@ -114,7 +114,7 @@ module _ (S : Scene) (laid : Laid (S .lat) (S .grid)) (w : Walled (S .grid) (S .
   dry c h e =
       and-true (eqZ (newMass S c) (pos 0)) (all (suc (S .lat .q)) (λ k. eqZ (newPart S c k) (pos 0)))
       (ap (λ (z : ℤ). eqZ z (pos 0)) (no-gifts c (not-interface (newFlag S c) e)
-      ∙ dry-mass (S .old .flag c) (besideFilled S c) (filled S c) (emptied S c) (besideEmptied S c) (tradedMass S c) (newDensity S c) e))
+      ∙ dry-mass (S .old .flag c) (besideFilled S c) (filled S c) (emptied S c) (besideEmptied S c) (tradedMass S c) (streamedDensity S c) e))
       (all-true (suc (S .lat .q)) (λ k. eqZ (newPart S c k) (pos 0))
       (λ k l. ap (λ (z : ℤ). eqZ z (pos 0)) (dry-part (S .old .flag c) (besideFilled S c) (filled S c) (emptied S c) (besideEmptied S c) (born S c k) (collided S c k) e)))
 
@@ -126,15 +126,15 @@ module _ (S : Scene) (laid : Laid (S .lat) (S .grid)) (w : Walled (S .grid) (S .
   unfolding fluidGood next newFlag baseMass
   fluid c h e =
       and-true (bodyGood (S .lat) (newPart S c)) (eqZ (newMass S c) (density (S .lat) (newPart S c))) (body c h (ap liquid e))
-      (ap₂ eqZ mass-is (density-is ∙ density-collided S c) ∙ eqZ-refl (newDensity S c))
+      (ap₂ eqZ mass-is (density-is ∙ density-collided S c) ∙ eqZ-refl (streamedDensity S c))
     where
       was : liquid (S .old .flag c) ≡ true
       was = fluid-was (S .old .flag c) (besideFilled S c) (filled S c) (emptied S c) (besideEmptied S c) e
 
-      mass-is : newMass S c ≡ newDensity S c
+      mass-is : newMass S c ≡ streamedDensity S c
       mass-is =
           no-gifts c (ne-eqb (newFlag S c) 1 (λ k. absurd (omega arith)))
-          ∙ fluid-mass (S .old .flag c) (besideFilled S c) (filled S c) (emptied S c) (besideEmptied S c) (tradedMass S c) (newDensity S c) e
+          ∙ fluid-mass (S .old .flag c) (besideFilled S c) (filled S c) (emptied S c) (besideEmptied S c) (tradedMass S c) (streamedDensity S c) e
 
       density-is : density (S .lat) (newPart S c) ≡ density (S .lat) (collided S c)
       density-is = density-same (S .lat) (newPart S c) (collided S c) (λ k l. stays S c k (t c h was) was (ap liquid e))

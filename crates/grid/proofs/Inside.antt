@@ -8,7 +8,7 @@ use native.Mathlib.Omega.{arith}
 use lib.ListN.{length, getD}
 use Rattle.grid.specs.declared.Sides.{Sides}
 use Rattle.grid.specs.Grid.{sidesGood, cellsOf}
-use Rattle.grid.specs.Passes.{Inner, lowOf, Reaching, Amid, Reach}
+use Rattle.grid.specs.inner.Passes.{Inner, lowOf, Reaching, Amid, Reach}
 use Rattle.grid.proofs.Beside.{Offsets, place-low}
 use Rattle.grid.proofs.GoodSides.{good-sides}
 
@@ -18,9 +18,6 @@ unfolding lowOf cellsOf
 room s e =
     let g = good-sides s e in
     omega (arith, g .x .low, mul-le-mul-left (s .nx) (g .y .low), mul-le-mul-left (s .nx * s .ny) (g .z .low))
-
-pub range-inner : (s : Sides) (low n c : ℕ) → low ≡ lowOf s → n ≡ cellsOf s → low ≤ c → c < n - low → Inner s c
-range-inner s low n c l e h k = record { low = omega arith; high = omega arith }
 
 pub few : (s : Sides) → sidesGood s ≡ true → cellsOf s ≤ 262144
 unfolding cellsOf

@@ -2,7 +2,7 @@
 use mathlib.Core.Path.{_≡_, refl}
 use mathlib.Core.Bool.{Bool, true, false}
 use Prim.Native.Nat.{ℕ, _<_}
-use Rattle.whole.specs.Search.{Dir}
+use Rattle.whole.specs.Fold.{Dir}
 use Rattle.lattice.specs.Lattice.{Lattice}
 use Rattle.grid.specs.Grid.{Grid}
 use Rattle.grid.specs.Demands.{Walled}

@@ -3,7 +3,7 @@ use mathlib.Core.Path.{_≡_, refl, ap, ap₂, _∙_}
 use mathlib.Core.List.{[], _∷_}
 use Prim.Native.Nat.{ℕ, zero, suc}
 use lib.IntN.{ℤ, pos, _-ℤ_}
-use Rattle.whole.specs.Ring.{ring-by, quotes}
+use Rattle.whole.specs.laws.Ring.{ring-by, quotes}
 use Rattle.grid.specs.State.{Scene, byFlag}
 use Rattle.grid.specs.Step.{flagAt, near, seen, normal}
 

@@ -2,17 +2,16 @@
 -- an equal set. Assumes nothing.
 use mathlib.Core.Path.{_≡_, refl, sym, ap, ap₂, _∙_, subst}
 use mathlib.Core.Bool.{Bool, true, _&&_}
-use mathlib.Core.List.{List, [], _∷_}
-use Prim.Native.Nat.{ℕ, zero, suc, _+_, _*_, _/_, _%_, _≤_, _<_}
-use native.Mathlib.Nat.{mul-comm, zero-lt-suc}
+use mathlib.Core.List.{[], _∷_}
+use Prim.Native.Nat.{ℕ, suc, _+_, _*_, _/_, _%_, _≤_, _<_}
+use native.Mathlib.Nat.{mul-comm}
 use native.Mathlib.Omega.{arith}
 use lib.Arith.{digits-lt, digits-div, digits-mod}
 use lib.IntN.{ℤ, pos}
-use lib.Dec.{eqb}
-use lib.ListN.{length, getD}
+use lib.ListN.{getD}
 use borrow.Author.Tests.{eq-eqb}
 use Rattle.whole.specs.Fold.{tab}
-use Rattle.whole.specs.Tab.{length-tab, getD-tab}
+use Rattle.whole.specs.laws.Tab.{length-tab, getD-tab}
 use Rattle.grid.specs.State.{Lent, lent, State, stateOf, lentOf}
 use Rattle.grid.specs.Outcome.{lengthsFit, lengthsGood}
 use Rattle.grid.specs.Demands.{Same}

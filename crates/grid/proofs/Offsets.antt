@@ -9,15 +9,14 @@ use native.Mathlib.Omega.{arith}
 use lib.Dec.{leb}
 use lib.ListN.{getD}
 use borrow.Author.Tests.{leb-true}
-use Rattle.whole.specs.Bools.{and-left, and-right}
-use Rattle.whole.specs.Parts.{up, down}
-use Rattle.whole.specs.Fold.{tab, open-fold}
-use Rattle.whole.specs.Tab.{getD-tab}
-use Rattle.whole.specs.Search.{all-at}
+use Rattle.whole.specs.laws.Bools.{and-left, and-right}
+use Rattle.whole.specs.Fold.{up, down, tab, open-fold}
+use Rattle.whole.specs.laws.Tab.{getD-tab}
+use Rattle.whole.specs.laws.Search.{all-at}
 use Rattle.lattice.specs.Lattice.{V3, d3q19, open-lattice}
 use Rattle.grid.specs.declared.Sides.{Sides}
 use Rattle.grid.specs.Grid.{cellAt, toward, gridOf, box, cellsOf}
-use Rattle.grid.specs.Passes.{Inner, lowOf, offsetOf}
+use Rattle.grid.specs.inner.Passes.{Inner, lowOf, offsetOf}
 
 -- a vector's components, either way
 abbrev aheadSmall : V3 → Bool
@@ -95,10 +94,6 @@ module _ (s : Sides) (i : ℕ) (h : i < 19) where
   pub near-below : (c : ℕ) → Inner s c → gridOf s .near c i < cellsOf s
   unfolding gridOf box toward
   near-below c g = omega (arith, ahead-low, back-low, g .low, g .high)
-
-  pub offset-most : offsetOf s i ≤ lowOf s + lowOf s
-  unfolding offsetOf toward
-  offset-most = omega (arith, ahead-low, back-low)
 
 -- direction 0 leads to the cell itself
 pub near-self : (s : Sides) (c : ℕ) → gridOf s .near c 0 ≡ c

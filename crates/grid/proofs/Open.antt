@@ -9,12 +9,13 @@ use native.Mathlib.Decide.{ℕ-discrete}
 use lib.Dec.{eqb}
 use lib.ListN.{length, getD}
 use Rattle.whole.specs.Fold.{first, anyDir}
-use Rattle.whole.specs.Bools.{and-true}
-use Rattle.whole.specs.Search.{first-is, first-all, first-cong, any-hit}
+use Rattle.whole.specs.laws.Bools.{and-true}
+use Rattle.whole.specs.laws.Search.{first-is, first-all, first-cong, any-hit}
 use Rattle.grid.specs.declared.Sides.{Sides}
 use Rattle.grid.specs.Grid.{gridOf, box, cellsOf}
 use Rattle.grid.specs.Good.{badFluid, openFluid}
-use Rattle.grid.specs.Passes.{Reaching, besideAt, openAt, openPlace, Embedded, Flagged, flagOf}
+use Rattle.grid.specs.inner.Passes.{Reaching, besideAt, openAt, openPlace, Embedded, Flagged}
+use Rattle.grid.specs.State.{flagOf}
 use Rattle.grid.proofs.Walls.{inner}
 use Rattle.grid.proofs.Beside.{Offsets, beside-is, any-none}
 use Rattle.grid.proofs.Inside.{reaching, amid-inner}

@@ -1,13 +1,13 @@
 -- Sums over pairs of neighbours: each pair of inner neighbours is met from either side, so that what is given and what is received add up to the same.
 -- No sum is shifted: an indicator of the neighbour and an exchange of the sums do it. Assumes nothing.
-use mathlib.Core.Path.{_≡_, refl, sym, ap, ap₂, _∙_, subst}
+use mathlib.Core.Path.{_≡_, refl, sym, ap, ap₂, _∙_}
 use mathlib.Core.Bool.{Bool, true, false}
-use Prim.Native.Nat.{ℕ, zero, suc, _≤_, _<_}
+use Prim.Native.Nat.{ℕ, suc, _≤_, _<_}
 use native.Mathlib.Decide.{ℕ-discrete}
-use lib.IntN.{ℤ, pos, negℤ, _+ℤ_}
-use Rattle.whole.specs.Fold.{sum, dirs}
-use Rattle.whole.specs.Search.{Dir, as-dir}
-use Rattle.whole.specs.Sums.{sum-cong, sum-zero, sum-swap, sum-only, sum-table, only, only-at, only-off}
+use lib.IntN.{ℤ, pos, _+ℤ_}
+use Rattle.whole.specs.Fold.{sum, dirs, Dir}
+use Rattle.whole.specs.laws.Search.{as-dir}
+use Rattle.whole.specs.laws.Sums.{sum-cong, sum-zero, sum-swap, sum-only, sum-table, only, only-at, only-off}
 use Rattle.lattice.specs.Lattice.{Lattice}
 use Rattle.lattice.proofs.Paired.{Paired, dirs-opp}
 use Rattle.grid.specs.Grid.{Grid}

@@ -10,9 +10,9 @@ use native.Mathlib.Omega.{arith}
 use lib.IntN.{ℤ, pos, negsuc, natAbs, _+ℤ_}
 use lib.Signed.{_≤ℤ_, shrZ}
 use Rattle.whole.specs.Fold.{sum, count}
-use Rattle.whole.specs.Parts.{≤-parts, parts-≤, is-le, is-add, is-self, is-pos}
-use Rattle.whole.specs.Bounds.{abs-add}
-use Rattle.whole.specs.Machine.{Within}
+use Rattle.whole.specs.laws.Parts.{≤-parts, parts-≤, is-le, is-add, is-self, is-pos}
+use Rattle.whole.specs.laws.Bounds.{abs-add}
+use Rattle.whole.specs.laws.Machine.{Within}
 
 module _ (w : ℕ → Bool) where
   pub count-le : (n : ℕ) → count n w ≤ n

@@ -1,33 +1,31 @@
 -- What the passes may take for granted: from tests 1 to 6, that the set is sized and sound, and what each liquid cell then has. Assumes nothing.
 use mathlib.Core.Path.{_≡_, refl, sym, ap, _∙_, subst}
-use mathlib.Core.Bool.{Bool, true, false, _&&_, not, cond, false≢true}
+use mathlib.Core.Bool.{Bool, true, _&&_, not, cond, false≢true}
 use Prim.Native.Nat.{ℕ, zero, suc, _+_, _*_, _≤_, _<_}
 use native.Mathlib.Nat.{lt-suc-self}
 use native.Mathlib.Omega.{arith}
 use lib.IntN.{ℤ, pos, natAbs}
-use lib.Dec.{eqb, leb}
+use lib.Dec.{eqb}
 use lib.ListN.{length, getD}
 use borrow.Author.Tests.{leb-true, eqb-true, eq-eqb, not-false}
-use Rattle.whole.specs.Bools.{and-left, and-right}
+use Rattle.whole.specs.laws.Bools.{and-left, and-right}
 use Rattle.whole.specs.Fold.{all}
-use Rattle.whole.specs.Machine.{Within}
-use Rattle.whole.specs.Search.{all-at, first-none}
-use Rattle.lattice.specs.Lattice.{V3, dot, d3q19, density, momentum}
+use Rattle.whole.specs.laws.Machine.{Within}
+use Rattle.whole.specs.laws.Search.{all-at, first-none}
+use Rattle.lattice.specs.Lattice.{dot, d3q19, density, momentum}
 use Rattle.lattice.specs.Cell.{partGood, massGood, carryGood, dense, slow}
 use Rattle.lattice.specs.declared.Settings.{Settings}
 use Rattle.grid.specs.declared.Sides.{Sides}
-use Rattle.grid.specs.declared.Answer.{Answer}
 use Rattle.grid.specs.declared.Answer.the-variants.{Done}
-use Rattle.grid.specs.Grid.{cellsOf, sidesGood, gridOf, box}
-use Rattle.grid.specs.State.{Lent, State, Scene, byFlag, liquid, stateOf}
-use Rattle.grid.specs.Step.{oldDensity, oldMomentum, fillFor}
+use Rattle.grid.specs.Grid.{cellsOf, gridOf, box}
+use Rattle.grid.specs.State.{Lent, State, byFlag, liquid, stateOf}
+use Rattle.grid.specs.Step.{fillFor}
 use Rattle.grid.specs.Good.{dryGood, interfaceGood, fluidGood, fillGood, cellGood, badRule}
 use Rattle.lattice.specs.Body.{bodyGood, eqZ}
-use Rattle.grid.specs.Outcome.{lengthsGood, settingsGood, goodAnswer, sceneOf}
-use Rattle.grid.specs.Between.{Sized, Ready}
-use Rattle.grid.specs.Sight.{Body}
+use Rattle.grid.specs.Outcome.{lengthsGood, goodAnswer}
+use Rattle.grid.specs.inner.Between.{Sized, Ready}
+use Rattle.grid.specs.inner.Sight.{Body}
 use Rattle.grid.proofs.Accepted.{Sound, sound, none-found, cell-good}
-use Rattle.lattice.proofs.Equal.{eqZ-true}
 
 pub sized : (n : ℕ) (a : Lent) → lengthsGood n a ≡ true → Sized n a
 unfolding lengthsGood
@@ -106,15 +104,6 @@ module _ (s : Sides) (g : Settings) (a : Lent) (r : Ready s g a) where
   pub ready-cell : (c : ℕ) → c < cellsOf s → cellGood d3q19 (stateOf 18 a) c ≡ true
   unfolding gridOf box cellsOf
   ready-cell c h = cell-good d3q19 (gridOf s) (stateOf 18 a) rules c h
-
-  pub ready-body : (c : ℕ) → c < cellsOf s → liquid (stateOf 18 a .flag c) ≡ true → Body (stateOf 18 a .part c)
-  ready-body = cell-body (cellsOf s) (stateOf 18 a) ready-cell
-
-  pub ready-mass : (c : ℕ) → c < cellsOf s → stateOf 18 a .flag c ≡ 1 → Within (stateOf 18 a .mass c) 2359296
-  ready-mass = cell-mass (cellsOf s) (stateOf 18 a) ready-cell
-
-  pub ready-fill : (c : ℕ) → c < cellsOf s → stateOf 18 a .fill c ≡ fillFor (stateOf 18 a .flag c) (stateOf 18 a .mass c) (density d3q19 (stateOf 18 a .part c))
-  ready-fill = cell-fill (cellsOf s) (stateOf 18 a) ready-cell
 
   -- the carry is in its range
   pub ready-carry : carryGood (getD (a .carry) 0 (pos 0)) ≡ true

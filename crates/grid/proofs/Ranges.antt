@@ -13,11 +13,11 @@ use lib.Dec.{leb, ltb}
 use lib.ListN.{length, getD, set, length-set}
 use lib.Seq.{getD-set-same, getD-set-other}
 use borrow.Author.Tests.{le-leb, lt-leb, lt-ltb, le-ltb}
-use Rattle.whole.specs.Bools.{cond-yes, cond-no, and-true}
+use Rattle.whole.specs.laws.Bools.{cond-yes, cond-no, and-true}
 use Rattle.whole.specs.Fold.{tab}
-use Rattle.whole.specs.Order.{≤-or}
-use Rattle.whole.specs.Tab.{upto-all}
-use Rattle.grid.specs.Passes.{Lacking, Unmarked}
+use Rattle.whole.specs.laws.Order.{≤-or}
+use Rattle.whole.specs.laws.Tab.{upto-all}
+use Rattle.grid.specs.inner.Passes.{Lacking, Unmarked}
 
 -- two tests of order that go together
 pub ltb-same : (a b c d : ℕ) → (a < b → c < d) → (c < d → a < b) → ltb a b ≡ ltb c d

@@ -2,28 +2,24 @@
 -- reached passes them, so no step makes, or is refused for, a fluid cell beside an empty one; its water is the starting water, to the unit; and the carry
 -- has changed by exactly what strayed. First over any lattice and grid, then over the step's own outcome. Assumes nothing.
 use mathlib.Core.Path.{_≡_, refl, sym, ap, ap₂, _∙_, subst}
-use mathlib.Core.Bool.{Bool, true, false, _&&_, cond}
-use mathlib.Core.List.{List, [], _∷_}
+use mathlib.Core.Bool.{false, _&&_}
+use mathlib.Core.List.{[], _∷_}
 use Prim.Native.Nat.{ℕ, zero, suc, _+_, _*_, _/_, _%_, _≤_, _<_}
-use native.Mathlib.Nat.{le-of-eq}
 use native.Mathlib.Omega.{arith}
 use lib.IntN.{ℤ, pos, _+ℤ_, +ℤ-idl, +ℤ-idr, +ℤ-assoc}
-use lib.ListN.{length}
 use Rattle.whole.specs.Fold.{sum, first}
-use Rattle.whole.specs.Ring.{ring-by, quotes}
-use Rattle.whole.specs.Sums.{sum-add, sum-cong}
-use Rattle.lattice.specs.Lattice.{V3, Lattice, density, d3q19}
-use Rattle.lattice.proofs.Paired.{Paired, paired19}
-use Rattle.grid.specs.declared.Answer.{Answer}
-use Rattle.grid.specs.declared.Answer.the-variants.{Done, Refused}
+use Rattle.whole.specs.laws.Sums.{sum-add, sum-cong}
+use Rattle.lattice.specs.Lattice.{V3, Lattice, density}
+use Rattle.lattice.proofs.Paired.{Paired}
+use Rattle.grid.specs.declared.Answer.the-variants.{Done}
 use Rattle.grid.specs.Grid.{Grid}
-use Rattle.grid.specs.State.{State, Scene, byFlag}
-use Rattle.grid.specs.Step.{newFlag, newMass, newCarry, tooFast, next}
+use Rattle.grid.specs.State.{State, byFlag}
+use Rattle.grid.specs.Step.{newFlag, newMass, unsteady, next}
 use Rattle.grid.specs.Good.{badRule}
 use Rattle.grid.specs.Outcome.{goodAnswer, moveAnswer}
 use Rattle.grid.specs.Demands.{Walled, Closed, fluidWater, interfaceWater, water, strayed, scene, gridAnswer, Same, Reaches, start, then, strays}
 use Rattle.grid.proofs.Laid.{Laid, inner}
-use Rattle.grid.proofs.Closed.{closed-holds, flags-hold, outer-stays, wall-stays}
+use Rattle.grid.proofs.Closed.{closed-holds, flags-hold, outer-stays}
 use Rattle.grid.proofs.Total.{Massed, total-holds, carry-holds}
 use Rattle.grid.proofs.Same.{bad-rule-same}
 use Rattle.grid.proofs.Accepted.{Sound, sound, none-found, pass-good}
@@ -69,7 +65,7 @@ module _ (L : Lattice) (G : Grid) (p : Paired L) (l : Laid L G) (s t : State) (g
   rules : suc (G .cells) ≤ badRule L (G .cells) t
   unfolding moveAnswer
   rules =
-      let a = none-found (G .cells) 7 (first (G .cells) (tooFast (scene L G s g q))) _ (before .1) in
+      let a = none-found (G .cells) 7 (first (G .cells) (unsteady (scene L G s g q))) _ (before .1) in
       let b = none-found (suc (G .cells)) 8 (badRule L (G .cells) (next (scene L G s g q))) Done (a .1) in
       subst (λ (k : ℕ). suc (G .cells) ≤ k) (bad-rule-same L (G .cells) (next (scene L G s g q)) t same) (b .0)
 

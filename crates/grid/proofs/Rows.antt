@@ -1,5 +1,5 @@
 -- Rows: where a row begins, its cells stand at y and z with x counted up, and the next row begins where it ends. Assumes nothing.
-use mathlib.Core.Path.{_≡_, refl, sym, ap, _∙_, subst}
+use mathlib.Core.Path.{_≡_, refl, sym, _∙_, subst}
 use mathlib.Core.Bool.{Bool, true, false, not, _&&_, _||_, cond, true≢false}
 use mathlib.Core.List.{List}
 use Prim.Native.Nat.{ℕ, _+_, _-_, _*_, _≤_, _<_}
@@ -9,12 +9,12 @@ use native.Mathlib.Decide.{decLt}
 use lib.Dec.{ltb, eqb}
 use lib.ListN.{length, getD}
 use borrow.Author.Tests.{le-ltb}
-use Rattle.whole.specs.Search.{first-is, first-all}
+use Rattle.whole.specs.laws.Search.{first-is, first-all}
 use Rattle.grid.specs.declared.Sides.{Sides}
 use Rattle.grid.specs.declared.layer.Place.{Place}
 use Rattle.grid.specs.Grid.{gridOf, box, cellsOf, sidesGood}
 use Rattle.grid.specs.Good.{flagGood, badFlag}
-use Rattle.grid.specs.Passes.{Stands, Of, RowAt, outerAt, placeAfter}
+use Rattle.grid.specs.inner.Passes.{Stands, Of, RowAt, outerAt, placeAfter}
 use Rattle.grid.proofs.GoodSides.{good-sides}
 use Rattle.grid.proofs.Coordinates.{stands-after, place-of, outer-at}
 use Rattle.grid.proofs.Lists.{getD-there}

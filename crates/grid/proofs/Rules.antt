@@ -13,13 +13,14 @@ use mir.Facts.{toZ-ofZ}
 use lib.Dec.{eqb}
 use lib.ListN.{length, getD}
 use borrow.Author.Tests.{eq-eqb, ne-eqb}
-use Rattle.whole.specs.Bools.{cond-yes, cond-no, never}
+use Rattle.whole.specs.laws.Bools.{cond-yes, cond-no, never}
 use Rattle.whole.specs.Fold.{all, tab}
-use Rattle.whole.specs.Tab.{getD-tab}
-use Rattle.whole.specs.Search.{first-is, first-all}
+use Rattle.whole.specs.laws.Tab.{getD-tab}
+use Rattle.whole.specs.laws.Search.{first-is, first-all}
 use Rattle.lattice.specs.Lattice.{d3q19, density}
 use Rattle.lattice.specs.Cell.{carryGood, massGood, fillOf}
-use Rattle.lattice.specs.Body.{partsOf, bodyGood, goodFluid, goodInterface, eqZ}
+use Rattle.lattice.specs.inner.Held.{partsOf, goodFluid, goodInterface}
+use Rattle.lattice.specs.Body.{bodyGood, eqZ}
 use Rattle.grid.specs.State.{lent, State, stateOf, liquid, byFlag}
 use Rattle.grid.specs.Step.{fillFor}
 use Rattle.grid.specs.Good.{dryGood, interfaceGood, fluidGood, fillGood, cellGood, badRule}

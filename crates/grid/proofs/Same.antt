@@ -1,17 +1,17 @@
 -- Two states that agree on the grid's cells break the same rules at the same places. Assumes nothing.
 use mathlib.Core.Path.{_≡_, refl, sym, ap, ap₂, _∙_}
-use mathlib.Core.Bool.{Bool, true, false, _&&_, not, cond}
+use mathlib.Core.Bool.{Bool, _&&_, not, cond}
 use Prim.Native.Nat.{ℕ, zero, suc, _+_, _≤_, _<_}
-use native.Mathlib.Nat.{le-of-suc-le-suc, lt-irrefl, zero-add}
+use native.Mathlib.Nat.{le-of-suc-le-suc, zero-add}
 use native.Mathlib.Decide.{ℕ-discrete}
 use native.Mathlib.Omega.{arith}
 use lib.Arith.{lt-of-le-ne}
 use lib.IntN.{ℤ, pos, _*ℤ_}
 use lib.Dec.{eqb}
 use borrow.Author.Tests.{eq-eqb, ne-eqb}
-use Rattle.whole.specs.Fold.{sum, all, dirs, first}
-use Rattle.whole.specs.Search.{first-cong}
-use Rattle.whole.specs.Sums.{sum-cong}
+use Rattle.whole.specs.Fold.{all, dirs}
+use Rattle.whole.specs.laws.Search.{first-cong}
+use Rattle.whole.specs.laws.Sums.{sum-cong}
 use Rattle.lattice.specs.Lattice.{V3, dot, Lattice, density, momentum}
 use Rattle.lattice.specs.Cell.{dense, slow, partGood, massGood, carryGood}
 use Rattle.grid.specs.State.{State, byFlag}

@@ -7,11 +7,11 @@ use lib.IntN.{ℤ, pos}
 use lib.ListN.{length, getD}
 use mir.Syntax.{w32}
 use mir.Val.{SFits}
-use Rattle.whole.specs.Machine.{does-fit, known}
-use Rattle.whole.specs.Ring.{ring-by, quotes}
+use Rattle.whole.specs.laws.Machine.{does-fit, known}
+use Rattle.whole.specs.laws.Ring.{ring-by, quotes}
 use Rattle.lattice.specs.Lattice.{V3, dot}
 use Rattle.grid.specs.State.{byFlag}
-use Rattle.grid.specs.Passes.{seenAt, Sloping}
+use Rattle.grid.specs.inner.Passes.{seenAt, Sloping}
 use Rattle.grid.proofs.Lists.{getD-there}
 
 -- ---- by cases of a flag

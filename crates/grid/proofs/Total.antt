@@ -5,22 +5,20 @@ use mathlib.Core.Path.{_≡_, refl, sym, ap, ap₂, _∙_, subst}
 use mathlib.Core.Bool.{Bool, true, false, _&&_, _||_, not, cond, false≢true}
 use mathlib.Core.List.{[], _∷_}
 use Prim.Native.Nat.{ℕ, zero, suc, _+_, _≤_, _<_}
-use native.Mathlib.Omega.{arith}
-use lib.IntN.{ℤ, pos, negsuc, negℤ, _+ℤ_, _-ℤ_, _*ℤ_, +ℤ-assoc, +ℤ-comm, +ℤ-idl, +ℤ-idr}
+use lib.IntN.{ℤ, pos, negℤ, _+ℤ_, _-ℤ_, _*ℤ_, +ℤ-assoc, +ℤ-comm, +ℤ-idl, +ℤ-idr}
 use lib.Dec.{eqb}
-use Rattle.whole.specs.Fold.{sum, dirs, any, anyDir}
-use Rattle.whole.specs.Ring.{ring-by, quotes, neg-sub, self-neg, back-sub}
-use Rattle.whole.specs.Search.{Dir, as-dir, any-hit, any-where}
-use Rattle.whole.specs.Sums.{sum-add, sum-neg, sum-cong, sum-zero, sum-first}
+use Rattle.whole.specs.Fold.{sum, dirs, anyDir, Dir}
+use Rattle.whole.specs.laws.Ring.{ring-by, quotes, neg-sub, self-neg, back-sub}
+use Rattle.whole.specs.laws.Search.{as-dir, any-hit, any-where}
+use Rattle.whole.specs.laws.Sums.{sum-add, sum-neg, sum-cong, sum-zero, sum-first}
 use Rattle.lattice.specs.Lattice.{Lattice, density}
 use Rattle.lattice.specs.Cell.{over, under, exchange, isPositive, share}
 use Rattle.lattice.proofs.Paired.{Paired, dirs-opp}
 use Rattle.lattice.proofs.Shares.{shares-total, share-none, positive-sum}
 use Rattle.lattice.proofs.ExchangeBack.{exchange-back}
 use Rattle.grid.specs.State.{State, Scene, byFlag}
-use Rattle.grid.specs.Step.{oldDensity, leansTo, rebuilt, rebuild, arrives, streamed, difference, traded, tradedMass, newDensity}
-use Rattle.grid.specs.Step.{filled, emptied, besideFilled, besideEmptied, newFlag, baseMass, target, leanWeight, shareWeight, anyTarget, excess, gift, toCarry, received, newMass, newCarry}
-use Rattle.grid.specs.Between.{movedMass}
+use Rattle.grid.specs.Step.{oldDensity, leansTo, rebuilds, rebuiltPart, arrives, streamed, difference, traded, tradedMass, streamedDensity, filled, emptied, besideFilled, newFlag, baseMass, target, leanWeight, shareWeight, anyTarget, excess, gift, toCarry, received, newMass, newCarry}
+use Rattle.grid.specs.inner.Between.{movedMass}
 use Rattle.grid.specs.Demands.{Walled, Closed, strayed}
 use Rattle.grid.proofs.Laid.{Laid}
 use Rattle.grid.proofs.Closed.{wall-stays}
@@ -142,12 +140,12 @@ module _ (S : Scene) where
       ap (λ (t : ℤ). t +ℤ toCarry S c) (sym (cond-dirs q ((filled S c || emptied S c) && anyTarget S c) (share q (excess S c) (shareWeight S c))))
       ∙ given (filled S c) (emptied S c) (anyTarget S c) (excess S c) (dirs q (share q (excess S c) (shareWeight S c)))
       (λ h. shares-total q (excess S c) (shareWeight S c) (some-weight c h))
-      ∙ only-converted (filled S c) (emptied S c) (tradedMass S c -ℤ newDensity S c) (tradedMass S c)
+      ∙ only-converted (filled S c) (emptied S c) (tradedMass S c -ℤ streamedDensity S c) (tradedMass S c)
 
   base-moved : (c : ℕ) → baseMass S c +ℤ excess S c ≡ movedMass S c
   unfolding baseMass excess filled emptied movedMass
   base-moved c =
-      base-excess (flag c) (over (tradedMass S c) (newDensity S c)) (under (tradedMass S c) (newDensity S c) && not (besideFilled S c)) (tradedMass S c) (newDensity S c)
+      base-excess (flag c) (over (tradedMass S c) (streamedDensity S c)) (under (tradedMass S c) (streamedDensity S c) && not (besideFilled S c)) (tradedMass S c) (streamedDensity S c)
 
 module _ (S : Scene) (p : Paired (S .lat)) (l : Laid (S .lat) (S .grid)) (w : Walled (S .grid) (S .old .flag)) where
   -- what is given is received
@@ -251,15 +249,15 @@ module _ (S : Scene) where
       pair-flow (S .old .flag c) (S .old .flag (S .grid .near c i)) (exchange (S .old .fill c + S .old .fill (S .grid .near c i)) (difference S c i)) (difference S c i)
 
   -- what streams into a fluid cell is never rebuilt: it leans to no neighbour, and has no empty one
-  pub fluid-kept : (c i : ℕ) → S .old .flag c ≡ 2 → (S .old .flag (S .grid .near c i) ≡ 0 → ⊥) → rebuilt S c i ≡ false
-  unfolding rebuilt leansTo
+  pub fluid-kept : (c i : ℕ) → S .old .flag c ≡ 2 → (S .old .flag (S .grid .near c i) ≡ 0 → ⊥) → rebuilds S c i ≡ false
+  unfolding rebuilds leansTo
   fluid-kept c i e z = not-rebuilt (S .old .flag (S .grid .near c i)) (leansTo S c i) (rw e refl) z
 
-  arrives-one : (c i : ℕ) → (S .old .flag (S .grid .near c i) ≡ 0 → ⊥) → rebuilt S c i ≡ false
+  arrives-one : (c i : ℕ) → (S .old .flag (S .grid .near c i) ≡ 0 → ⊥) → rebuilds S c i ≡ false
       → arrives S c i (S .lat .opp i) ≡ S .old .part c i +ℤ byFlag (S .old .flag (S .grid .near c i)) (pos 0) (difference S c i) (difference S c i) (pos 0)
   unfolding arrives difference
   arrives-one c i z e =
-      arrives-fluid (S .old .flag (S .grid .near c i)) (rebuilt S c i) (rebuild S c i) (S .old .part (S .grid .near c i) (S .lat .opp i)) (S .old .part c i)
+      arrives-fluid (S .old .flag (S .grid .near c i)) (rebuilds S c i) (rebuiltPart S c i) (S .old .part (S .grid .near c i) (S .lat .opp i)) (S .old .part c i)
       (S .old .part (S .grid .near c i) (S .lat .opp i) -ℤ S .old .part c i) z e (sym (back-sub (S .old .part c i) (S .old .part (S .grid .near c i) (S .lat .opp i))))
 
 module _ (S : Scene) (p : Paired (S .lat)) (l : Laid (S .lat) (S .grid)) (w : Walled (S .grid) (S .old .flag)) where
@@ -311,8 +309,8 @@ module _ (S : Scene) (p : Paired (S .lat)) (l : Laid (S .lat) (S .grid)) (w : Wa
 
   -- a fluid cell's new density
   fluid-density : Closed (S .lat .q) (S .grid) (S .old .flag) → (c : ℕ) → c < S .grid .cells → S .old .flag c ≡ 2
-      → newDensity S c ≡ oldDensity S c +ℤ dirs (S .lat .q) (λ i. byFlag (S .old .flag (S .grid .near c i)) (pos 0) (difference S c i) (difference S c i) (pos 0))
-  unfolding newDensity oldDensity density streamed
+      → streamedDensity S c ≡ oldDensity S c +ℤ dirs (S .lat .q) (λ i. byFlag (S .old .flag (S .grid .near c i)) (pos 0) (difference S c i) (difference S c i) (pos 0))
+  unfolding streamedDensity oldDensity density streamed
   fluid-density cl c h e =
       sum-first (S .lat .q) (streamed S c)
       ∙ ap (λ (t : ℤ). S .old .part c 0 +ℤ t) (arrived ∙ sum-add (S .lat .q) (λ a. S .old .part c (suc a)) (λ a. byFlag (S .old .flag (S .grid .near c (suc a))) (pos 0) (difference S c (suc a)) (difference S c (suc a)) (pos 0)))
@@ -337,8 +335,8 @@ module _ (S : Scene) (p : Paired (S .lat)) (l : Laid (S .lat) (S .grid)) (w : Wa
   unfolding movedMass flow pair-flow tradedMass traded
   moved-flow cl m c h = go (S .old .flag c) refl
     where
-      bring : (f : ℕ) → S .old .flag c ≡ f → movedMass S c ≡ byFlag f (pos 0) (tradedMass S c) (newDensity S c) (pos 0)
-      bring f e = ap (λ (k : ℕ). byFlag k (pos 0) (tradedMass S c) (newDensity S c) (pos 0)) e
+      bring : (f : ℕ) → S .old .flag c ≡ f → movedMass S c ≡ byFlag f (pos 0) (tradedMass S c) (streamedDensity S c) (pos 0)
+      bring f e = ap (λ (k : ℕ). byFlag k (pos 0) (tradedMass S c) (streamedDensity S c) (pos 0)) e
 
       had : (f : ℕ) → S .old .flag c ≡ f → S .old .mass c ≡ byFlag f (pos 0) (S .old .mass c) (oldDensity S c) (pos 0)
       had f e = m c h ∙ ap (λ (k : ℕ). byFlag k (pos 0) (S .old .mass c) (oldDensity S c) (pos 0)) e

@@ -7,12 +7,13 @@ use native.Mathlib.Omega.{arith}
 use lib.Dec.{ltb, eqb}
 use lib.ListN.{length, getD}
 use borrow.Author.Tests.{ltb-true, eqb-true, not-false}
-use Rattle.whole.specs.Bools.{and-left, and-right, where-then, never}
-use Rattle.whole.specs.Search.{first-none}
+use Rattle.whole.specs.laws.Bools.{and-left, and-right, where-then, never}
+use Rattle.whole.specs.laws.Search.{first-none}
 use Rattle.grid.specs.declared.Sides.{Sides}
 use Rattle.grid.specs.Grid.{gridOf, box, cellsOf}
 use Rattle.grid.specs.Good.{flagGood, badFlag}
-use Rattle.grid.specs.Passes.{Inner, Flagged, flagOf}
+use Rattle.grid.specs.inner.Passes.{Inner, Flagged}
+use Rattle.grid.specs.State.{flagOf}
 use Rattle.grid.proofs.Coordinates.{inner-of}
 use Rattle.grid.proofs.Lists.{getD-there}
 

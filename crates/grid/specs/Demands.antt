@@ -1,9 +1,9 @@
 -- Demand 3 in definitions: the closed layer, the water, and "reached by accepted steps", over any lattice and grid; and the same over the step's own
 -- outcome on a ground. Assumes nothing.
 use mathlib.Core.Path.{_≡_}
-use mathlib.Core.Bool.{Bool, true, false, not, _&&_, cond}
+use mathlib.Core.Bool.{true, not, _&&_, cond}
 use mathlib.Core.List.{List}
-use Prim.Native.Nat.{ℕ, zero, suc, _+_, _≤_, _<_}
+use Prim.Native.Nat.{ℕ, _+_, _≤_, _<_}
 use lib.IntN.{ℤ, pos, _+ℤ_}
 use lib.Dec.{eqb}
 use Rattle.whole.specs.Fold.{sum, anyDir}
@@ -11,7 +11,7 @@ use Rattle.lattice.specs.Lattice.{V3, Lattice}
 use Rattle.lattice.specs.declared.Settings.{Settings}
 use Rattle.grid.specs.declared.Sides.{Sides}
 use Rattle.grid.specs.declared.Answer.{Answer}
-use Rattle.grid.specs.declared.Answer.the-variants.{Done, Refused}
+use Rattle.grid.specs.declared.Answer.the-variants.{Done}
 use Rattle.grid.specs.Grid.{Grid, cellsOf}
 use Rattle.grid.specs.State.{Lent, State, Scene, byFlag, stateOf}
 use Rattle.grid.specs.Step.{converted, excess, newFlag, next}

@@ -1,10 +1,10 @@
 -- A good state, rule by rule, and the lowest place where a rule breaks: what refusals 4, 5 and 6 say. Assumes nothing.
-use Prim.Native.Nat.{ℕ, zero, suc}
-use mathlib.Core.Bool.{Bool, true, false, _&&_, _||_, not, cond}
-use lib.IntN.{ℤ, pos, negsuc}
+use Prim.Native.Nat.{ℕ, suc}
+use mathlib.Core.Bool.{Bool, _&&_, _||_, not, cond}
+use lib.IntN.{pos}
 use lib.Dec.{ltb, eqb}
 use Rattle.whole.specs.Fold.{all, first}
-use Rattle.lattice.specs.Lattice.{dot, Lattice, density, momentum}
+use Rattle.lattice.specs.Lattice.{Lattice, density}
 use Rattle.lattice.specs.Cell.{massGood, carryGood}
 use Rattle.lattice.specs.Body.{eqZ, bodyGood}
 use Rattle.grid.specs.Grid.{Grid}

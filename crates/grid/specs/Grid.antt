@@ -1,9 +1,9 @@
 -- The grid: its sides, cell numbers, neighbours and outer layer. Assumes nothing.
-use Prim.Native.Nat.{ℕ, zero, suc, _+_, _-_, _*_, _/_, _%_}
-use mathlib.Core.Bool.{Bool, true, false, _&&_, _||_}
+use Prim.Native.Nat.{ℕ, suc, _+_, _-_, _*_, _/_, _%_}
+use mathlib.Core.Bool.{Bool, _&&_, _||_}
 use lib.Dec.{eqb, leb}
-use Rattle.whole.specs.Parts.{up, down}
-use Rattle.lattice.specs.Lattice.{V3, Lattice, d3q19}
+use Rattle.whole.specs.Fold.{up, down}
+use Rattle.lattice.specs.Lattice.{Lattice, d3q19}
 use Rattle.grid.specs.declared.Sides.{Sides}
 
 -- cells 0 .. cells − 1; the neighbour of an inner cell in a direction; the outer layer

@@ -7,9 +7,4 @@ pub mod Outcome
 pub mod Ground
 pub mod Demands
 pub mod Promise
-pub mod Passes
-pub mod Between
-pub mod Sight
-pub mod Pasted
-pub mod Fill
-pub mod Halfway
+pub mod inner

@@ -7,11 +7,11 @@ use Rattle.lattice.specs.declared.Settings.{Settings}
 use Rattle.turbulence.specs.Turbulence.{ownRelaxation}
 use Rattle.grid.specs.Grid.{Grid}
 use Rattle.grid.specs.State.{State, Scene}
-use Rattle.grid.specs.Step.{streamed, newDensity, newMomentum}
+use Rattle.grid.specs.Step.{streamed, streamedDensity, streamedMomentum}
 
 -- own p of cell c, where the settings have p: from what stages 1 to 3 make of it
 unfoldable pub ownAt : Scene → ℤ → ℕ → ℤ
-ownAt S p c = ownRelaxation (S .lat) (newDensity S c) (newMomentum S c) p (streamed S c)
+ownAt S p c = ownRelaxation (S .lat) (streamedDensity S c) (streamedMomentum S c) p (streamed S c)
 
 -- in the plain mode, and in the turbulent one
 abbrev pub relaxIn : Bool → Scene → ℤ → ℕ → ℤ

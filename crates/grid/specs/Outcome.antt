@@ -2,11 +2,10 @@
 use Prim.Native.Nat.{ℕ, zero, suc, _+_, _*_}
 use mathlib.Core.Bool.{Bool, true, false, _&&_, cond}
 use mathlib.Core.List.{List, [], _∷_}
-use lib.IntN.{ℤ, pos}
-use lib.Dec.{leb, ltb, eqb}
+use lib.Dec.{leb, eqb}
 use lib.ListN.{length, replicate}
 use Rattle.whole.specs.Fold.{first}
-use Rattle.lattice.specs.Lattice.{V3, Lattice, d3q19}
+use Rattle.lattice.specs.Lattice.{Lattice, d3q19}
 use Rattle.lattice.specs.Cell.{relaxationGood, gravityGood}
 use Rattle.lattice.specs.declared.Settings.{Settings}
 use Rattle.grid.specs.declared.Sides.{Sides}
@@ -14,7 +13,7 @@ use Rattle.grid.specs.declared.Answer.{Answer}
 use Rattle.grid.specs.declared.Answer.the-variants.{Done, Refused}
 use Rattle.grid.specs.Grid.{Grid, cellsOf, sidesGood, gridOf}
 use Rattle.grid.specs.State.{Lent, State, Scene, stateOf, lentOf}
-use Rattle.grid.specs.Step.{tooFast, next}
+use Rattle.grid.specs.Step.{unsteady, next}
 use Rattle.grid.specs.Mode.{sceneBy}
 use Rattle.grid.specs.Good.{badFlag, badFluid, badRule}
 
@@ -61,7 +60,7 @@ goodAnswer L G s rest =
 
 unfoldable pub moveAnswer : Scene → Answer
 moveAnswer S =
-    ifNone (S .grid .cells) 7 (first (S .grid .cells) (tooFast S))
+    ifNone (S .grid .cells) 7 (first (S .grid .cells) (unsteady S))
     (ifNone (suc (S .grid .cells)) 8 (badRule (S .lat) (S .grid .cells) (next S)) Done)
 
 -- ---- tests 1 to 3

@@ -20,6 +20,14 @@ pub record Lent : Type 0 where
 abbrev pub lent : List ℕ → List ℤ → List ℤ → List ℕ → List ℤ → Lent
 lent flags parts masses fills carry = record { flags = flags; parts = parts; masses = masses; fills = fills; carry = carry }
 
+-- the flag of a cell; what is no cell counts as wall
+abbrev pub flagOf : List ℕ → ℕ → ℕ
+flagOf flags c = getD flags c 3
+
+-- part k of cell c
+abbrev pub partOf : List ℤ → ℕ → ℕ → ℤ
+partOf parts c k = getD parts (19 * c + k) (pos 0)
+
 -- the state that it holds, cell by cell
 pub record State : Type 0 where
   pub flag : ℕ → ℕ

@@ -4,9 +4,9 @@ use mathlib.Core.Bool.{Bool, true, false, _&&_, _||_, not, cond}
 use lib.IntN.{ℤ, pos, negℤ, _+ℤ_, _-ℤ_, _*ℤ_}
 use lib.Dec.{eqb}
 use Rattle.whole.specs.Fold.{sum, dirs, anyDir, countDir}
-use Rattle.lattice.specs.Lattice.{V3, dot, Lattice, density, momentum}
-use Rattle.lattice.specs.Cell.{cut, floor, dense, slow, gas, exchange, pull, quad, relaxed, over, under, still, positive, isPositive, share, fillOf}
-use Rattle.grid.specs.Grid.{Grid}
+use Rattle.lattice.specs.Lattice.{V3, dot, density, momentum}
+use Rattle.lattice.specs.Cell.{cut, floor, dense, slow, gasPair, exchange, pull, over, under, positive, isPositive, share, fillOf}
+use Rattle.lattice.specs.Body.{relaxedDir, collidedPart, equilibriumDir, equilibriumPart}
 use Rattle.grid.specs.State.{State, Scene, byFlag, liquid}
 
 -- ---- names for what a stage reads
@@ -58,18 +58,18 @@ unfoldable pub leansTo : Scene → ℕ → ℕ → Bool
 leansTo S c i = eqb (flagAt S c) 1 && isPositive (dot (normal S c) (S .lat .e i))
 
 -- the part that arrives at c from direction i is rebuilt: there is an empty cell, or a liquid one to which c leans
-unfoldable pub rebuilt : Scene → ℕ → ℕ → Bool
-rebuilt S c i = byFlag (flagAt S (near S c i)) true (leansTo S c i) (leansTo S c i) false
+unfoldable pub rebuilds : Scene → ℕ → ℕ → Bool
+rebuilds S c i = byFlag (flagAt S (near S c i)) true (leansTo S c i) (leansTo S c i) false
 
 -- what is rebuilt: the gas's two opposite parts less the cell's own part i
-unfoldable pub rebuild : Scene → ℕ → ℕ → ℤ
-rebuild S c i =
-    gas (S .lat .weight i) (oldDensity S c) (dot (S .lat .e i) (oldMomentum S c)) (dot (oldMomentum S c) (oldMomentum S c)) -ℤ partAt S c i
+unfoldable pub rebuiltPart : Scene → ℕ → ℕ → ℤ
+rebuiltPart S c i =
+    gasPair (S .lat .weight i) (oldDensity S c) (dot (S .lat .e i) (oldMomentum S c)) (dot (oldMomentum S c) (oldMomentum S c)) -ℤ partAt S c i
 
 -- what comes from direction i, whose opposite is k: a liquid neighbour's part k, or at a wall the cell's own part i
 unfoldable pub arrives : Scene → ℕ → ℕ → ℕ → ℤ
 arrives S c i k =
-    cond (rebuilt S c i) (rebuild S c i) (byFlag (flagAt S (near S c i)) (pos 0) (partAt S (near S c i) k) (partAt S (near S c i) k) (partAt S c i))
+    cond (rebuilds S c i) (rebuiltPart S c i) (byFlag (flagAt S (near S c i)) (pos 0) (partAt S (near S c i) k) (partAt S (near S c i) k) (partAt S c i))
 
 -- part 0 stays; part k comes from the opposite of k
 unfoldable pub streamed : Scene → ℕ → ℕ → ℤ
@@ -93,46 +93,42 @@ tradedMass S c = S .old .mass c +ℤ over-dirs S (traded S c)
 -- ---- 3 gravity and test
 
 -- ρ'
-unfoldable pub newDensity : Scene → ℕ → ℤ
-newDensity S c = density (S .lat) (streamed S c)
+unfoldable pub streamedDensity : Scene → ℕ → ℤ
+streamedDensity S c = density (S .lat) (streamed S c)
 
 -- j' with gravity added to each component
-unfoldable pub newMomentum : Scene → ℕ → V3
-newMomentum S c = record {
-  x = momentum (S .lat) (streamed S c) .x +ℤ pull (newDensity S c) (S .g .x);
-  y = momentum (S .lat) (streamed S c) .y +ℤ pull (newDensity S c) (S .g .y);
-  z = momentum (S .lat) (streamed S c) .z +ℤ pull (newDensity S c) (S .g .z);
+unfoldable pub streamedMomentum : Scene → ℕ → V3
+streamedMomentum S c = record {
+  x = momentum (S .lat) (streamed S c) .x +ℤ pull (streamedDensity S c) (S .g .x);
+  y = momentum (S .lat) (streamed S c) .y +ℤ pull (streamedDensity S c) (S .g .y);
+  z = momentum (S .lat) (streamed S c) .z +ℤ pull (streamedDensity S c) (S .g .z);
 }
 
 -- ρ' outside its range, or 9|j'|² > ρ'²: refusal 7
-unfoldable pub tooFast : Scene → ℕ → Bool
-tooFast S c =
-    liquid (flagAt S c) && not (dense (newDensity S c) && slow (newDensity S c) (dot (newMomentum S c) (newMomentum S c)))
+unfoldable pub unsteady : Scene → ℕ → Bool
+unsteady S c =
+    liquid (flagAt S c) && not (dense (streamedDensity S c) && slow (streamedDensity S c) (dot (streamedMomentum S c) (streamedMomentum S c)))
 
 -- ---- 4 collision
 
-unfoldable pub collidedDir : Scene → ℕ → ℕ → ℤ
-collidedDir S c i =
-    relaxed (S .relax c) (S .lat .weight i)
-    (quad (newDensity S c) (dot (S .lat .e i) (newMomentum S c)) (dot (newMomentum S c) (newMomentum S c)))
-    (newDensity S c) (streamed S c i)
+-- part i of 1..q relaxed; all parts, of which part 0 becomes ρ' less the others
+abbrev pub collidedDir : Scene → ℕ → ℕ → ℤ
+collidedDir S c i = relaxedDir (S .lat) (streamedDensity S c) (streamedMomentum S c) (S .relax c) (streamed S c) i
 
--- part 0 becomes ρ' less the others
 unfoldable pub collided : Scene → ℕ → ℕ → ℤ
-collided S c zero = newDensity S c -ℤ over-dirs S (collidedDir S c)
-collided S c (suc a) = collidedDir S c (suc a)
+collided S c k = collidedPart (S .lat) (streamedDensity S c) (streamedMomentum S c) (S .relax c) (streamed S c) k
 
 -- ---- 5 conversion
 
 unfoldable pub filled : Scene → ℕ → Bool
-filled S c = byFlag (flagAt S c) false (over (tradedMass S c) (newDensity S c)) false false
+filled S c = byFlag (flagAt S c) false (over (tradedMass S c) (streamedDensity S c)) false false
 
 unfoldable pub besideFilled : Scene → ℕ → Bool
 besideFilled S c = beside S (filled S) c
 
 -- emptied, and no neighbour is filled
 unfoldable pub emptied : Scene → ℕ → Bool
-emptied S c = byFlag (flagAt S c) false (under (tradedMass S c) (newDensity S c) && not (besideFilled S c)) false false
+emptied S c = byFlag (flagAt S c) false (under (tradedMass S c) (streamedDensity S c) && not (besideFilled S c)) false false
 
 unfoldable pub besideEmptied : Scene → ℕ → Bool
 besideEmptied S c = beside S (emptied S) c
@@ -148,7 +144,7 @@ newFlag S c = flagAfter (flagAt S c) (besideFilled S c) (filled S c) (emptied S 
 -- the mass before any excess arrives
 unfoldable pub baseMass : Scene → ℕ → ℤ
 baseMass S c =
-    byFlag (flagAt S c) (pos 0) (cond (filled S c) (newDensity S c) (cond (emptied S c) (pos 0) (tradedMass S c))) (newDensity S c) (pos 0)
+    byFlag (flagAt S c) (pos 0) (cond (filled S c) (streamedDensity S c) (cond (emptied S c) (pos 0) (tradedMass S c))) (streamedDensity S c) (pos 0)
 
 -- over the neighbours that were liquid in the old state: how many, and a sum
 unfoldable pub liquidNear : Scene → ℕ → ℕ
@@ -159,25 +155,21 @@ nearSum S c f = over-dirs S (λ i. cond (liquid (flagAt S (near S c i))) (f (nea
 
 -- a new interface cell: ρ the floor of the mean ρ', j the cut mean j'
 unfoldable pub bornDensity : Scene → ℕ → ℤ
-bornDensity S c = floor (nearSum S c (newDensity S)) (liquidNear S c)
+bornDensity S c = floor (nearSum S c (streamedDensity S)) (liquidNear S c)
 
 unfoldable pub bornMomentum : Scene → ℕ → V3
 bornMomentum S c = record {
-  x = cut (nearSum S c (λ d. newMomentum S d .x)) (pos (liquidNear S c));
-  y = cut (nearSum S c (λ d. newMomentum S d .y)) (pos (liquidNear S c));
-  z = cut (nearSum S c (λ d. newMomentum S d .z)) (pos (liquidNear S c));
+  x = cut (nearSum S c (λ d. streamedMomentum S d .x)) (pos (liquidNear S c));
+  y = cut (nearSum S c (λ d. streamedMomentum S d .y)) (pos (liquidNear S c));
+  z = cut (nearSum S c (λ d. streamedMomentum S d .z)) (pos (liquidNear S c));
 }
 
-unfoldable pub bornDir : Scene → ℕ → ℕ → ℤ
-bornDir S c i =
-    still (S .lat .weight i)
-    (quad (bornDensity S c) (dot (S .lat .e i) (bornMomentum S c)) (dot (bornMomentum S c) (bornMomentum S c)))
-    (bornDensity S c)
+-- its parts at their equilibrium, part 0 the rest
+abbrev pub bornDir : Scene → ℕ → ℕ → ℤ
+bornDir S c i = equilibriumDir (S .lat) (bornDensity S c) (bornMomentum S c) i
 
--- part 0 is the rest
 unfoldable pub born : Scene → ℕ → ℕ → ℤ
-born S c zero = bornDensity S c -ℤ over-dirs S (bornDir S c)
-born S c (suc a) = bornDir S c (suc a)
+born S c k = equilibriumPart (S .lat) (bornDensity S c) (bornMomentum S c) k
 
 unfoldable pub newPart : Scene → ℕ → ℕ → ℤ
 newPart S c k =
@@ -186,7 +178,7 @@ newPart S c k =
 -- ---- 6 excess
 
 unfoldable pub excess : Scene → ℕ → ℤ
-excess S c = cond (filled S c) (tradedMass S c -ℤ newDensity S c) (cond (emptied S c) (tradedMass S c) (pos 0))
+excess S c = cond (filled S c) (tradedMass S c -ℤ streamedDensity S c) (cond (emptied S c) (tradedMass S c) (pos 0))
 
 -- targets are neighbours whose new flag is interface
 unfoldable pub target : Scene → ℕ → ℕ → Bool
@@ -243,5 +235,5 @@ next S = record { flag = newFlag S; part = newPart S; mass = newMass S; fill = n
 
 -- names every definition of this file: whoever unfolds this computes with all of them
 unfoldable pub open-step : Unit {0}
-unfolding seen normal oldDensity oldMomentum leansTo rebuilt rebuild arrives streamed difference traded tradedMass newDensity newMomentum tooFast collidedDir collided filled besideFilled emptied besideEmptied newFlag baseMass liquidNear nearSum bornDensity bornMomentum bornDir born newPart excess target anyTarget lean leanWeight shareWeight gift toCarry received newMass newCarry fillFor newFill next
+unfolding seen normal oldDensity oldMomentum leansTo rebuilds rebuiltPart arrives streamed difference traded tradedMass streamedDensity streamedMomentum unsteady collided relaxedDir collidedPart filled besideFilled emptied besideEmptied newFlag baseMass liquidNear nearSum bornDensity bornMomentum born equilibriumDir equilibriumPart newPart excess target anyTarget lean leanWeight shareWeight gift toCarry received newMass newCarry fillFor newFill next
 open-step = tt

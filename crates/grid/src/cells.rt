@@ -4,7 +4,7 @@ ghost use Prim.Native.Nat.{ℕ, _+_, _*_, _≤_};
 ghost use lib.IntN.{pos};
 ghost use lib.ListN.{length, getD};
 ghost use Rattle.whole.specs.Fold.{tab};
-ghost use Rattle.grid.specs.Pasted.{pasted};
+ghost use Rattle.grid.specs.inner.Pasted.{pasted};
 
 // The parts of cell c.
 pub fn own(parts: &[i32], c: usize) -> [i32; 19]

@@ -20,7 +20,7 @@ ghost use Rattle.grid.specs.Grid.{sidesGood, cellsOf, gridOf};
 ghost use Rattle.grid.specs.State.{lent, stateOf};
 ghost use Rattle.grid.specs.Good.{cellGood, badRule};
 ghost use Rattle.grid.specs.Outcome.{goodAnswer, checkAnswer};
-ghost use Rattle.grid.specs.Between.{Sized};
+ghost use Rattle.grid.specs.inner.Between.{Sized};
 
 // Whether cell c keeps test 6's rules.
 fn good_cell(flags: &[u8], parts: &[i32], masses: &[i32], fills: &[u32], c: usize) -> bool

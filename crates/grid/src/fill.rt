@@ -8,7 +8,8 @@ ghost use Prim.Native.Nat.{_+_, _*_, _≤_};
 ghost use lib.ListN.{length};
 ghost use Rattle.lattice.specs.Lattice.{d3q19, density};
 ghost use Rattle.lattice.specs.Cell.{fillOf};
-ghost use Rattle.grid.specs.Fill.{partOf, Weighty};
+ghost use Rattle.grid.specs.State.{partOf};
+ghost use Rattle.grid.specs.inner.Fill.{Weighty};
 
 // The fill of interface cell c, whose mass is m.
 pub fn interface_fill(parts: &[i32], m: i64, c: usize) -> u32

@@ -6,7 +6,8 @@ ghost use mathlib.Core.Bool.{false};
 ghost use lib.ListN.{length};
 ghost use Rattle.grid.specs.Grid.{gridOf};
 ghost use Rattle.grid.specs.Good.{badFluid};
-ghost use Rattle.grid.specs.Passes.{Embedded, openPlace, Flagged, flagOf};
+ghost use Rattle.grid.specs.inner.Passes.{Embedded, openPlace, Flagged};
+ghost use Rattle.grid.specs.State.{flagOf};
 
 // Whether a fluid cell may have an empty neighbour: if not, none has. No way out of the loop, so that it runs many cells at a time.
 fn any_open(flags: &[u8], off: &[usize; 19], low: usize) -> bool

@@ -7,7 +7,7 @@ ghost use lib.Dec.{ltb, eqb};
 ghost use lib.ListN.{length, getD};
 ghost use Rattle.grid.specs.Grid.{sidesGood, cellsOf, gridOf};
 ghost use Rattle.grid.specs.Good.{badFlag};
-ghost use Rattle.grid.specs.Passes.{Of, placeAfter, outerAt, RowAt, FirstInRow};
+ghost use Rattle.grid.specs.inner.Passes.{Of, placeAfter, outerAt, RowAt, FirstInRow};
 
 // A cell's coordinates.
 pub struct Place {

@@ -5,7 +5,7 @@ ghost use mathlib.Core.Bool.{true};
 ghost use Prim.Native.Nat.{_≤_};
 ghost use Rattle.whole.specs.Fold.{tab};
 ghost use Rattle.grid.specs.Grid.{sidesGood, cellAt};
-ghost use Rattle.grid.specs.Passes.{lowOf, offsetOf, besideAt, Reach};
+ghost use Rattle.grid.specs.inner.Passes.{lowOf, offsetOf, besideAt, Reach};
 
 // A cell near the lowest corner.
 fn cell_at(s: Sides, x: usize, y: usize, z: usize) -> usize

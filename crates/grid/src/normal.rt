@@ -4,8 +4,8 @@ ghost use mathlib.Core.Path.{_≡_};
 ghost use Prim.Native.Nat.{ℕ, _≤_, _<_};
 ghost use lib.IntN.{pos, _-ℤ_};
 ghost use lib.ListN.{length, getD};
-ghost use Rattle.lattice.specs.Body.{vec};
-ghost use Rattle.grid.specs.Passes.{seenAt, normalAt, Sloping};
+ghost use Rattle.lattice.specs.inner.Held.{vec};
+ghost use Rattle.grid.specs.inner.Passes.{seenAt, normalAt, Sloping};
 
 // The cell whose fill counts for c at b: for a wall c itself. A choice between two places costs no branch where one between two fills does.
 fn seen(flags: &[u8], c: usize, b: usize) -> usize

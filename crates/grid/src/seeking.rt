@@ -5,7 +5,7 @@ ghost use Prim.Native.Nat.{_+_, _≤_};
 ghost use lib.Dec.{eqb};
 ghost use lib.ListN.{length, getD};
 ghost use Rattle.whole.specs.Fold.{all};
-ghost use Rattle.grid.specs.Passes.{Lacking, NextOf, NextMarked, Unmarked};
+ghost use Rattle.grid.specs.inner.Passes.{Lacking, NextOf, NextMarked, Unmarked};
 
 // Whether none of 32 cells from a on is of a kind. By no way out, so that they are looked at together.
 fn lacking(flags: &[u8], a: usize, kind: u8) -> bool

@@ -6,19 +6,15 @@ use Prim.Native.Nat.{ℕ, _*_, _≤_, _<_}
 use borrow.Author.Tests.{leb-true, le-leb, lt-leb}
 use lib.Dec.{leb}
 use lib.ListN.{length}
-use Rattle.grid.specs.declared.Answer.{Answer}
-use Rattle.grid.specs.declared.Answer.the-variants.{Done, Refused}
+use Rattle.grid.specs.declared.Answer.the-variants.{Done}
 use Rattle.grid.specs.Grid.{sidesGood, gridOf}
 use Rattle.grid.specs.Good.{badFlag}
-use Rattle.grid.specs.State.{Lent}
 use Rattle.grid.specs.Outcome.{accepted, nextOf}
 use Rattle.grid.proofs.Accepted.{done-accepted, passed}
 use Rattle.record.specs.Places.{counts}
-use Rattle.record.specs.Passes.{Held}
-use Rattle.record.specs.Reading.{sidesIn, settingsIn, totalsIn, cellsIn, flagIn, interfacesIn, liquidsIn, slicesFit, shapesOn, shapeAnswer, contentAnswer, readAnswer}
+use Rattle.record.specs.Reading.{sidesIn, settingsIn, totalsIn, cellsIn, flagIn, interfacesIn, liquidsIn, shapesOn, shapeAnswer, contentAnswer, readAnswer}
 use Rattle.record.proofs.Answers.{chain-both, or-pass, or-fail, whole-there}
 use Rattle.record.proofs.Sections.{chain-shapes, shaped, fitted}
-use Rattle.console.specs.Room.{roomFor}
 use Rattle.gridstep.specs.declared.playing.Told.{Told}
 use Rattle.gridstep.specs.Counts.{lineOf}
 use Rattle.gridstep.specs.Told.{recordAnswer, stateBefore, stepOf, stateAfter, refusal, toldOf}

@@ -18,12 +18,12 @@ use Rattle.grid.specs.Outcome.{accepted}
 use Rattle.grid.specs.Promise.{Stepped}
 use Rattle.grid.proofs.Accepted.{accepted-done}
 use Rattle.record.specs.declared.Head.{Head}
-use Rattle.record.specs.Reading.{sidesIn, settingsIn, siteIn, carryIn, flagsIn, stateIn, setIn, readAnswer, readHead, readFlags, readSet}
+use Rattle.record.specs.Reading.{sidesIn, settingsIn, siteIn, stateIn, readAnswer, readHead, readFlags, readSet}
 use Rattle.gridstep.specs.declared.counting.Line.{Line}
 use Rattle.gridstep.specs.declared.playing.Told.{Told}
 use Rattle.gridstep.specs.Counts.{lineWith}
 use Rattle.gridstep.specs.Told.{stateBefore, refusal}
-use Rattle.gridstep.specs.Playing.{totalBy, lineBy, steppedBy, toldBy}
+use Rattle.gridstep.specs.inner.Playing.{totalBy, lineBy, steppedBy, toldBy}
 
 -- a carry that passed the machine is what it was
 pub went : {s : Sides} {g : Settings} {flags fills : List ℕ} {parts masses : List ℤ} (k : ℤ) {b x : Lent} {marks left : List ℕ} {before after : Line} {step : Answer}

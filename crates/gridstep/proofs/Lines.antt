@@ -4,21 +4,19 @@ use mathlib.Core.Bool.{Bool, true, false, _&&_, cond}
 use mathlib.Core.List.{List}
 use Prim.Native.Nat.{ℕ, _*_, _≤_, _<_}
 use borrow.Author.Tests.{leb-true, le-leb, lt-leb, eq-eqb}
-use lib.Dec.{eqb, leb}
 use lib.ListN.{length}
 use Rattle.grid.specs.declared.Answer.{Answer}
 use Rattle.grid.specs.declared.Answer.the-variants.{Done, Refused}
 use Rattle.grid.specs.State.{Lent}
-use Rattle.grid.specs.Outcome.{accepted, orRefuse, lengthsGood, stepAnswer, stepSecond}
-use Rattle.record.specs.Reading.{sidesIn, settingsIn, cellsIn, slicesFit, shapeAnswer, contentAnswer, readAnswer}
-use Rattle.record.specs.Passes.{Sound}
-use Rattle.record.proofs.Answers.{or-pass, or-fail}
+use Rattle.grid.specs.Outcome.{accepted, lengthsGood}
+use Rattle.record.specs.Reading.{sidesIn, settingsIn, cellsIn, readAnswer}
+use Rattle.record.proofs.Answers.{or-pass}
 use Rattle.record.proofs.Shaped.{sound, fitting, shape-accepted, content-accepted}
 use Rattle.console.specs.Room.{roomFor}
 use Rattle.gridstep.specs.declared.playing.Told.{Told}
 use Rattle.gridstep.specs.Counts.{lineOf}
 use Rattle.gridstep.specs.Told.{recordAnswer, stateBefore, stepOf, stateAfter, refusal, toldOf}
-use Rattle.gridstep.specs.Playing.{lineBy, steppedBy, toldBy}
+use Rattle.gridstep.specs.inner.Playing.{lineBy, steppedBy, toldBy}
 use Rattle.gridstep.proofs.Rooms.{room-whole, fits-room, Roomy, read-is}
 use Rattle.gridstep.proofs.Stepping.{line-is, before-carry, step-is, second-is, after-carry}
 

@@ -9,7 +9,7 @@ use native.Mathlib.Omega.{arith}
 use borrow.Author.Tests.{le-leb, lt-leb, eq-eqb, ne-eqb}
 use lib.Dec.{leb}
 use lib.ListN.{length, getD}
-use Rattle.whole.specs.Order.{≤-or}
+use Rattle.whole.specs.laws.Order.{≤-or}
 use Rattle.grid.specs.declared.Answer.{Answer}
 use Rattle.grid.specs.declared.Answer.the-variants.{Done}
 use Rattle.grid.specs.Grid.{cellsOf, sidesGood, gridOf}
@@ -19,7 +19,7 @@ use Rattle.grid.specs.Outcome.{accepted, orRefuse}
 use Rattle.grid.proofs.GoodSides.{good-sides}
 use Rattle.record.specs.Places.{counts}
 use Rattle.record.specs.Reading.{sidesIn, totalsIn, cellsIn, flagIn, interfacesIn, liquidsIn, whole, opensOn, shapesOn, slicesFit, shapeAnswer, contentAnswer, readAnswer}
-use Rattle.record.specs.Passes.{Held}
+use Rattle.record.specs.Bytes.{Held}
 use Rattle.record.proofs.Numbers.{four}
 use Rattle.record.proofs.Answers.{whole-refused, whole-passed, whole-held}
 use Rattle.console.specs.Room.{lowCells, roomFor}

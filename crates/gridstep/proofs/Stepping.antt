@@ -7,18 +7,18 @@ use Prim.Native.Nat.{ℕ, suc, _*_, _≤_}
 use native.Mathlib.Omega.{arith}
 use borrow.Author.Tests.{eq-eqb}
 use lib.Dec.{eqb, leb}
-use lib.IntN.{ℤ, pos, _+ℤ_}
+use lib.IntN.{pos, _+ℤ_}
 use lib.ListN.{length, getD}
-use Rattle.whole.specs.Bools.{and-left, and-true}
+use Rattle.whole.specs.laws.Bools.{and-left, and-true}
 use Rattle.whole.specs.Fold.{first}
-use Rattle.whole.specs.Tab.{length-tab}
+use Rattle.whole.specs.laws.Tab.{length-tab}
 use Rattle.lattice.specs.Lattice.{d3q19}
 use Rattle.lattice.specs.Cell.{edgeGood, coordinateGood, carryGood}
 use Rattle.grid.specs.declared.Answer.{Answer}
 use Rattle.grid.specs.declared.Answer.the-variants.{Done}
 use Rattle.grid.specs.Grid.{cellsOf, gridOf, box}
-use Rattle.grid.specs.State.{Lent, State, Scene, stateOf, lentOf}
-use Rattle.grid.specs.Step.{tooFast, next}
+use Rattle.grid.specs.State.{Lent, Scene, stateOf, lentOf}
+use Rattle.grid.specs.Step.{unsteady, next}
 use Rattle.grid.specs.Good.{badRule}
 use Rattle.grid.specs.Demands.{Same}
 use Rattle.grid.specs.Outcome.{accepted, orRefuse, byAnswer, goodAnswer, moveAnswer, lengthsGood, settingsGood, sceneOf, entryAnswer, stepAnswer, nextOf, stepSecond}
@@ -27,13 +27,13 @@ use Rattle.grid.proofs.Listed.{same-listed, lengths-listed}
 use Rattle.grid.proofs.Same.{bad-rule-same}
 use Rattle.record.specs.Layout.{siteGood}
 use Rattle.record.specs.Reading.{sidesIn, settingsIn, siteIn, carryIn, flagsAt, cellsIn, flagsIn, flagIn, stateIn, contentAnswer}
-use Rattle.record.specs.Passes.{Sound}
+use Rattle.record.specs.inner.Passes.{Sound}
 use Rattle.record.proofs.Answers.{or-pass}
 use Rattle.record.proofs.FlagPart.{length-flags}
 use Rattle.record.proofs.Rules.{carry-fair}
 use Rattle.gridstep.specs.Counts.{massSum, lineWith, lineOf}
 use Rattle.gridstep.specs.Told.{stateBefore, stepOf, stateAfter}
-use Rattle.gridstep.specs.Playing.{totalBy, lineBy}
+use Rattle.gridstep.specs.inner.Playing.{totalBy, lineBy}
 
 -- a move is accepted, or refused with 7 or 8
 by-tests : (t u : Bool) (p q : ℕ) (x y z : Lent) → byAnswer (orRefuse t 7 p (orRefuse u 8 q Done)) x y z ≡ cond (accepted (orRefuse t 7 p (orRefuse u 8 q Done))) x y
@@ -45,7 +45,7 @@ moved : (S : Scene) (x y z : Lent) → byAnswer (moveAnswer S) x y z ≡ cond (a
 unfolding moveAnswer
 moved S x y z =
     let n = S .grid .cells in
-    let p = first n (tooFast S) in
+    let p = first n (unsteady S) in
     let q = badRule (S .lat) n (next S) in
     by-tests (leb n p) (leb (suc n) q) p q x y z
 

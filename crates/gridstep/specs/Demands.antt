@@ -8,7 +8,7 @@ use Rattle.grid.specs.declared.Answer.the-variants.{Done, Refused}
 use Rattle.grid.specs.Grid.{sidesGood}
 use Rattle.grid.specs.State.{Lent}
 use Rattle.grid.specs.Outcome.{accepted}
-use Rattle.record.specs.Passes.{Held}
+use Rattle.record.specs.Bytes.{Held}
 use Rattle.record.specs.Reading.{sidesIn, cellsIn, slicesFit, readAnswer}
 use Rattle.console.specs.Room.{roomFor}
 use Rattle.gridstep.specs.Told.{recordAnswer, toldOf}

@@ -8,7 +8,7 @@ ghost use lib.Dec.{eqb};
 ghost use lib.IntN.{natAbs};
 ghost use lib.ListN.{length};
 ghost use Rattle.gridstep.specs.Counts.{cellsWith, massSum, lineWith};
-ghost use Rattle.gridstep.specs.Playing.{totalBy};
+ghost use Rattle.gridstep.specs.inner.Playing.{totalBy};
 
 // A line's numbers, as document 01 orders them.
 pub struct Line {

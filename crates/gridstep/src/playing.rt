@@ -15,7 +15,7 @@ ghost use lib.IntN.{pos};
 ghost use lib.ListN.{length, getD};
 ghost use Rattle.grid.specs.State.{lent};
 ghost use Rattle.gridstep.specs.Told.{refusal};
-ghost use Rattle.gridstep.specs.Playing.{steppedBy, toldBy};
+ghost use Rattle.gridstep.specs.inner.Playing.{steppedBy, toldBy};
 
 // The record's answer; and where it is accepted the state's line, the step's answer, and the line of the state after it.
 pub struct Told {

@@ -1,12 +1,12 @@
 -- The invert of 5 columns and 4 rows, the same in other spelling, and the faults put into it: what the reader tells of each. Assumes nothing.
-use mathlib.Core.Bool.{Bool, true, false, cond}
+use mathlib.Core.Bool.{true, false, cond}
 use mathlib.Core.List.{List, [], _∷_, _++_}
-use Prim.Native.Nat.{ℕ, zero, suc, _+_}
+use Prim.Native.Nat.{ℕ, suc, _+_}
 use Prim.Native.String.{String}
 use lib.Dec.{eqb}
 use lib.IntN.{ℤ, pos, negsuc}
 use Rattle.lattice.specs.declared.Settings.{Settings}
-use Rattle.grid.specs.State.{Lent, lent}
+use Rattle.grid.specs.State.{lent}
 use Rattle.grid.specs.Outcome.{numberOf, placeOf}
 use Rattle.record.specs.declared.Head.{Head}
 use Rattle.invert.specs.declared.testing.Lengths.{Lengths}

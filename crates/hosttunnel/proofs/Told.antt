@@ -17,10 +17,10 @@ use Rattle.hosttunnel.specs.Promise.{PlaceTold, ProfileTold}
 
 -- and so are the edge, the origin and the point
 pub place-told : {s : Sides} {edge e : ℤ} {origin o point q : Point} {r : Placed} {number place cell : ℕ}
-    → e ≡ edge → o ≡ origin → q ≡ point → r ≡ placing.placeOf s e o q → number ≡ refusalNumber r → place ≡ refusalPlace r → cell ≡ cellNumber r
+    → e ≡ edge → o ≡ origin → q ≡ point → r ≡ placing.placingOf s e o q → number ≡ refusalNumber r → place ≡ refusalPlace r → cell ≡ cellNumber r
     → PlaceTold s edge origin point number place cell
 place-told {s} ee eo eq h n p c =
-    let k = h ∙ (λ i. placing.placeOf s (ee i) (eo i) (eq i)) in
+    let k = h ∙ (λ i. placing.placingOf s (ee i) (eo i) (eq i)) in
     record { number-is = n ∙ ap refusalNumber k; place-is = p ∙ ap refusalPlace k; cell-is = c ∙ ap cellNumber k }
 
 -- and so is the frame

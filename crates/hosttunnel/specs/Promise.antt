@@ -25,9 +25,9 @@ frameOf nx ny nz edge x y z = record { sides = sidesOf nx ny nz; edge = edge; or
 
 -- placing: number, place and the cell, 0 beside a refusal
 pub record PlaceTold (s : Sides) (edge : ℤ) (origin point : Point) (number place cell : ℕ) : Type 0 where
-  pub number-is : number ≡ refusalNumber (placing.placeOf s edge origin point)
-  pub place-is : place ≡ refusalPlace (placing.placeOf s edge origin point)
-  pub cell-is : cell ≡ cellNumber (placing.placeOf s edge origin point)
+  pub number-is : number ≡ refusalNumber (placing.placingOf s edge origin point)
+  pub place-is : place ≡ refusalPlace (placing.placingOf s edge origin point)
+  pub cell-is : cell ≡ cellNumber (placing.placingOf s edge origin point)
 
 -- cell point: number, place, and four `f32`, each exact
 pub record PointTold (w : WholePoint) (number place : ℕ) (x y z fill : Float) : Type 0 where

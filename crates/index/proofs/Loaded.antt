@@ -4,8 +4,8 @@ use mathlib.Core.Bool.{true, _&&_}
 use Prim.Native.Nat.{ℕ, _+_, _-_, _<_}
 use native.Mathlib.Omega.{arith}
 use lib.ListN.{getD}
-use Rattle.whole.specs.Bools.{and-right}
-use Rattle.whole.specs.Search.{first-cong}
+use Rattle.whole.specs.laws.Bools.{and-right}
+use Rattle.whole.specs.laws.Search.{first-cong}
 use Rattle.lattice.specs.Lattice.{d3q19}
 use Rattle.grid.specs.declared.Sides.{Sides}
 use Rattle.grid.specs.declared.Answer.the-variants.{Done}
@@ -16,7 +16,7 @@ use Rattle.grid.proofs.Accepted.{passed, sound}
 use Rattle.pumps.specs.Three.{numberIn, totalsGood, threeLengths}
 use Rattle.index.specs.Index.{Index, wordsOf, interface, wordOf, surfaceCells, indexOf, indexSized, indexTrue, isSet, howMany, nextFrom}
 use Rattle.index.specs.Outcome.{trueAnswer, loadAnswer, told}
-use Rattle.index.specs.Laid.{Room}
+use Rattle.index.specs.inner.Laid.{Room}
 use Rattle.index.specs.Walked.{AsWalked}
 use Rattle.index.proofs.Flagged.{room-of, true-words, true-index, as-flags, same-number}
 use Rattle.index.proofs.Answers.{few-cells, next-asked, count-told}

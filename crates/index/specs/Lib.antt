@@ -1,6 +1,6 @@
 pub mod Index
 pub mod Outcome
 pub mod Held
-pub mod Laid
 pub mod Walked
 pub mod Sweep
+pub mod inner

@@ -34,8 +34,3 @@ pub record SurfaceSwept (s : Sides) (a : Lent) (start : ℕ) (cells : List ℕ) 
   pub each : cells ≡ listFrom (cellsOf s - start) start (interface (a .flags))
   pub cost : looked ≤ wordsOf (cellsOf s) + length cells
   pub most : length cells ≤ surfaceCells (cellsOf s) (a .flags)
-
--- names every definition of this file: whoever unfolds this computes with all of them
-unfoldable pub open-sweep : Unit {0}
-unfolding listFrom
-open-sweep = tt

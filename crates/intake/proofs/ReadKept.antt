@@ -8,13 +8,12 @@ use native.Mathlib.Nat.{le-refl}
 use lib.Dec.{leb}
 use lib.ListN.{length}
 use Rattle.grid.specs.declared.Sides.{Sides}
-use Rattle.grid.specs.declared.Answer.{Answer}
 use Rattle.grid.specs.declared.Answer.the-variants.{Done}
 use Rattle.grid.specs.Grid.{cellsOf, sidesGood}
 use Rattle.grid.specs.State.{Lent}
 use Rattle.grid.specs.Outcome.{accepted, orRefuse}
 use Rattle.grid.proofs.Accepted.{accepted-done, done-accepted, passed}
-use Rattle.pumps.specs.Three.{threeLengths, threeAnswer}
+use Rattle.pumps.specs.Three.{threeLengths}
 use Rattle.pumps.proofs.Checked.{then-checked}
 use Rattle.record.specs.declared.Head.{Head}
 use Rattle.record.specs.Layout.{siteGood, recordLength}

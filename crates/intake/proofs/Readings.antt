@@ -9,7 +9,7 @@ use lib.Dec.{eqb}
 use lib.IntN.{ℤ}
 use lib.ListN.{length, take, drop}
 use borrow.Author.Tests.{not-true, not-false}
-use Rattle.whole.specs.Bools.{cond-yes, cond-no}
+use Rattle.whole.specs.laws.Bools.{cond-yes, cond-no}
 use Rattle.grid.specs.declared.Sides.{Sides}
 use Rattle.grid.specs.declared.Answer.{Answer}
 use Rattle.grid.specs.declared.Answer.the-variants.{Done, Refused}
@@ -20,13 +20,12 @@ use Rattle.record.specs.declared.Head.{Head}
 use Rattle.record.specs.Reading.{sidesIn, flagsAt, cellsIn, flagsIn, slicesFit, whole, refusedHead}
 use Rattle.record.specs.Reading as base
 use Rattle.record.specs.Promise as promise
-use Rattle.record.specs.Passes.{Sound}
 use Rattle.record.proofs.Answers.{Chain, chain-or, chain-then, chain-both, or-true}
 use Rattle.record.proofs.FlagPart.{length-flags}
 use Rattle.record.proofs.Shaped.{opens, chain-opens, opened, sound, shape-accepted}
 use Rattle.record.proofs.Spanned.{span-read}
 use Rattle.index.specs.Index.{Index, wordsOf, indexOf, indexSized}
-use Rattle.index.specs.Laid.{Room}
+use Rattle.index.specs.inner.Laid.{Room}
 use Rattle.index.proofs.Flagged.{room-of}
 use Rattle.index.proofs.Answers.{few-cells}
 use Rattle.index.specs.Held.{Held, held}

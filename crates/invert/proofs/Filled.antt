@@ -1,17 +1,16 @@
 -- The lent slices after the reader: as they were beside a refusal, the invert's walls and zeros beside an accepted text. Assumes nothing.
-use mathlib.Core.Path.{_≡_, refl, sym, ap, ap₂, _∙_}
-use mathlib.Core.Bool.{Bool, true, false, cond}
+use mathlib.Core.Path.{_≡_, sym, ap, ap₂, _∙_}
+use mathlib.Core.Bool.{Bool, true, false}
 use mathlib.Core.List.{List}
 use Prim.Native.Nat.{ℕ, _*_}
 use lib.IntN.{ℤ, pos}
 use lib.ListN.{length, drop, replicate}
 use Rattle.lattice.specs.declared.Settings.{Settings}
-use Rattle.grid.specs.declared.Answer.{Answer}
 use Rattle.grid.specs.Grid.{cellsOf}
 use Rattle.grid.specs.State.{Lent, lent}
 use Rattle.grid.specs.Outcome.{accepted}
 use Rattle.record.specs.declared.Head.{Head}
-use Rattle.index.specs.Index.{Index, index, wordsOf}
+use Rattle.index.specs.Index.{Index, index}
 use Rattle.heights.specs.Text.{fromLine}
 use Rattle.invert.specs.Invert.{invertFlags}
 use Rattle.invert.specs.Outcome.{countOf, readHead, lengthsOf, dry, dryIndex, setBy, indexBy, Inverted}

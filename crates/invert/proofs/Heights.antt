@@ -4,25 +4,23 @@ use mathlib.Core.Bool.{Bool, true, false, not, _||_, true≢false}
 use mathlib.Core.List.{List, [], _∷_, _++_, append-assoc}
 use Prim.Native.Nat.{ℕ, zero, suc, _+_, _-_, _*_, _≤_, _<_}
 use native.Mathlib.Nat.{mul-le-mul, le-refl}
-use native.Mathlib.Numerals.{add-one}
 use native.Mathlib.Omega.{arith}
 use borrow.Author.Count.{below-more}
-use lib.IntN.{ℤ, pos, negsuc, natAbs, _*ℤ_}
+use lib.IntN.{ℤ, pos, _*ℤ_}
 use lib.ListN.{length, take, drop, getD, set, length-append, take-append-drop, drop-of-length-le}
 use lib.Seq.{sets, length-sets, getD-drop, drop-drop, take-all, take-take, take-at, drop-at}
-use lib.Signed.{quotZ, ltZ, natAbs-le, mag}
+use lib.Signed.{quotZ, ltZ, natAbs-le}
 use mir.Syntax.{w64}
-use mir.Val.{SFits, toZ, ofZ}
-use mir.Facts.{toZ-ofZ, toZ-pos}
-use Rattle.whole.specs.Bounds.{abs-mul, abs-quot, fits-abs}
-use Rattle.whole.specs.Fold.{first, firstFrom}
-use Rattle.whole.specs.Search.{first-is, first-all}
+use mir.Val.{SFits}
+use Rattle.whole.specs.laws.Bounds.{abs-mul, abs-quot, fits-abs}
+use Rattle.whole.specs.Fold.{firstFrom}
+use Rattle.whole.specs.laws.Search.{first-is, first-all}
 use Rattle.heights.specs.declared.text.Span.{Span}
 use Rattle.heights.specs.Text.{word, afterWord, nextLine, Next}
 use Rattle.heights.specs.Number.{numberOf}
 use Rattle.heights.specs.Header.{isNoData}
 use Rattle.invert.specs.Invert.{orZero, solidAt}
-use Rattle.invert.specs.Walls.{heightOf, rowHeights, layerOf}
+use Rattle.invert.specs.inner.Walls.{heightOf, rowHeights, layerOf}
 use Rattle.record.proofs.Numbers.{sets-then}
 use Rattle.record.proofs.Gathered.{copy-turn}
 use Rattle.heights.proofs.Words.{Found}

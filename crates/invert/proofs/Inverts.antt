@@ -1,34 +1,33 @@
 -- The flags that the second pass leaves are those of the invert: the layer holds each column's walls, and a cell is among them exactly if its centre lies
 -- below the height. Assumes nothing.
 use mathlib.Core.Path.{_≡_, refl, sym, ap, ap₂, _∙_, subst}
-use mathlib.Core.Logic.{_⊎_, inl, inr, ⊎-elim}
+use mathlib.Core.Logic.{_⊎_, ⊎-elim}
 use mathlib.Core.Bool.{Bool, true, false, not, _||_, cond, true≢false, false≢true}
 use mathlib.Core.List.{List, [], _∷_, _++_}
 use Prim.Native.Nat.{ℕ, zero, suc, _+_, _-_, _*_, _/_, _%_, _≤_, _<_}
-use native.Mathlib.Nat.{mul-le-mul, mul-comm, mul-assoc, le-refl, mod-lt, eq-or-lt-of-le, div-lt-iff-lt-mul, zero-add, mul-add, mod-add-div, add-mul-mod-self-left, mod-eq-of-lt, add-assoc}
+use native.Mathlib.Nat.{mul-le-mul, mul-comm, mul-assoc, le-refl, mod-lt, eq-or-lt-of-le, div-lt-iff-lt-mul, zero-add, mul-add, mod-add-div, add-mul-mod-self-left, mod-eq-of-lt}
 use native.Mathlib.Omega.{arith}
-use borrow.Author.Tests.{ltb-true, ltb-false, le-ltb, lt-ltb, not-true, not-false}
+use borrow.Author.Tests.{ltb-false, le-ltb, lt-ltb, not-true, not-false}
 use lib.Dec.{ltb}
 use lib.IntN.{ℤ, pos, negsuc, _*ℤ_}
-use lib.ListN.{length, take, drop, getD, List·getD-append}
+use lib.ListN.{length, drop, getD, List·getD-append}
 use lib.Seq.{sets, sets-eq, getD-append-add}
 use lib.Signed.{quotZ, ltZ}
-use Rattle.whole.specs.Bools.{or-false, or-cases}
-use Rattle.whole.specs.Order.{≤-or}
+use Rattle.whole.specs.laws.Bools.{or-false}
+use Rattle.whole.specs.laws.Order.{≤-or}
 use Rattle.whole.specs.Fold.{first, firstFrom, tab}
-use Rattle.whole.specs.Search.{first-passes}
-use Rattle.whole.specs.Tab.{tab-cong}
+use Rattle.whole.specs.laws.Search.{first-passes}
+use Rattle.whole.specs.laws.Tab.{tab-cong}
 use Rattle.grid.specs.declared.Sides.{Sides}
-use Rattle.grid.specs.Grid.{Grid, sidesGood, cellsOf, gridOf}
+use Rattle.grid.specs.Grid.{sidesGood, cellsOf, gridOf}
 use Rattle.grid.proofs.GoodSides.{good-sides}
-use Rattle.heights.specs.Text.{word, afterWord, nextLine, fromLine}
+use Rattle.heights.specs.Text.{afterWord, nextLine, fromLine}
 use Rattle.heights.specs.Number.{numberOf}
 use Rattle.heights.specs.Header.{isNoData}
-use Rattle.invert.specs.Invert.{orZero, nthWord, valueAt, solidAt}
-use Rattle.invert.specs.Walls.{heightOf, rowHeights, layerOf, wallOf, wallBy}
-use Rattle.invert.specs.Invert.{invertFlag, invertFlags}
-use Rattle.invert.proofs.Heights.{length-row, length-layer}
-use Rattle.invert.proofs.Spread.{Plane, plane}
+use Rattle.invert.specs.Invert.{orZero, nthWord, valueAt, solidAt, invertFlag, invertFlags}
+use Rattle.invert.specs.inner.Walls.{heightOf, rowHeights, layerOf, wallOf, wallBy}
+use Rattle.invert.proofs.Heights.{length-layer}
+use Rattle.invert.proofs.Spread.{plane}
 
 -- ---- a column's walls are its cells below the height
 below-first : (n i : ℕ) (f : ℕ → Bool) (a : ℕ) → i + a < firstFrom n i f → f (i + a) ≡ false

@@ -1,42 +1,40 @@
 -- What the reader accepts, loading accepts: every flag is 0 or 3, outer cells are 3, and all else is 0. Assumes nothing.
-use mathlib.Core.Path.{_≡_, refl, sym, ap, ap₂, _∙_, subst}
+use mathlib.Core.Path.{_≡_, refl, sym, ap, _∙_, subst}
 use mathlib.Core.Logic.{_⊎_, inl, inr, ⊎-elim}
 use mathlib.Core.Bool.{Bool, true, false, _&&_, _||_, not, cond, true≢false, false≢true}
 use mathlib.Core.List.{List, [], _∷_}
 use Prim.Native.Nat.{ℕ, zero, suc, _+_, _*_, _/_, _%_, _^_, _≤_, _<_}
 use native.Mathlib.Nat.{le-of-eq}
 use native.Mathlib.Omega.{arith}
-use borrow.Author.Tests.{eq-eqb, eqb-true, eqb-false}
+use borrow.Author.Tests.{eq-eqb}
 use lib.Dec.{eqb, ltb}
 use lib.IntN.{ℤ, pos}
 use lib.ListN.{length, getD, replicate, length-replicate, List·getD-eq-default}
-use Rattle.whole.specs.Bools.{and-true}
-use Rattle.whole.specs.Order.{≤-or}
-use Rattle.whole.specs.Fold.{total, all, count, first, tab}
-use Rattle.whole.specs.Search.{first-all}
-use Rattle.whole.specs.Tab.{length-tab, getD-tab}
+use Rattle.whole.specs.laws.Bools.{and-true}
+use Rattle.whole.specs.laws.Order.{≤-or}
+use Rattle.whole.specs.Fold.{total, all, count, tab}
+use Rattle.whole.specs.laws.Search.{first-all}
+use Rattle.whole.specs.laws.Tab.{length-tab, getD-tab}
 use Rattle.lattice.specs.Lattice.{Lattice, density, d3q19}
 use Rattle.lattice.specs.Cell.{carryGood}
 use Rattle.lattice.specs.Body.{eqZ}
-use Rattle.lattice.specs.declared.Settings.{Settings}
 use Rattle.grid.specs.declared.Sides.{Sides}
 use Rattle.grid.specs.declared.Answer.{Answer}
 use Rattle.grid.specs.declared.Answer.the-variants.{Done}
-use Rattle.grid.specs.Grid.{Grid, cellsOf, sidesGood, gridOf, box}
-use Rattle.grid.specs.State.{State, Lent, lent, stateOf, liquid, byFlag}
+use Rattle.grid.specs.Grid.{cellsOf, sidesGood, gridOf, box}
+use Rattle.grid.specs.State.{State, Lent, stateOf, liquid, byFlag}
 use Rattle.grid.specs.Step.{fillFor}
 use Rattle.grid.specs.Good.{dryGood, interfaceGood, fluidGood, fillGood, cellGood, badRule}
-use Rattle.grid.specs.Outcome.{accepted, orRefuse, goodAnswer}
+use Rattle.grid.specs.Outcome.{orRefuse, goodAnswer}
 use Rattle.grid.proofs.Accepted.{pass-good}
 use Rattle.pumps.specs.Three.{numberIn, totalsGood, threeLengths, threeGood, threeAnswer}
-use Rattle.record.specs.declared.Head.{Head}
-use Rattle.index.specs.Index.{Index, index, wordsOf, interface, wordOf, surfaceCells, indexSized, indexTrue}
+use Rattle.index.specs.Index.{Index, wordsOf, interface, wordOf, surfaceCells, indexSized, indexTrue}
 use Rattle.index.specs.Outcome.{trueAnswer, loadAnswer}
 use Rattle.heights.specs.Text.{fromLine}
 use Rattle.invert.specs.Invert.{valueAt, solidAt, invertFlag, invertFlags}
-use Rattle.invert.specs.Outcome.{countOf, setFits, readHead, lengthsOf, dry, dryIndex, setBy, indexBy}
+use Rattle.invert.specs.Outcome.{countOf, readHead, lengthsOf, dry, dryIndex, setBy}
 use Rattle.invert.specs.Demands.{Loads, Loadable}
-use Rattle.invert.proofs.Tested.{Taken, head-taken}
+use Rattle.invert.proofs.Tested.{head-taken}
 use Rattle.invert.proofs.Filled.{set-made, index-made}
 
 -- ---- zeros
@@ -172,11 +170,6 @@ module _ (s : Sides) (g : sidesGood s ≡ true) (edge : ℕ) (t : List ℕ) wher
         loads = simp (g, and-true (threeLengths (cellsOf s) A) (indexSized (cellsOf s) (dryIndex (cellsOf s))) lengths sized) (three (orRefuse (indexTrue (cellsOf s) (invertFlags s edge t) (dryIndex (cellsOf s))) 14 0 Done) ∙ simp true-index);
         without-water = λ c. by-still (λ f. liquid f ≡ false) (still s edge t c) refl refl;
       }
-
--- test 2 of the reader is that of the check and of the index
-pub same-lengths : (n : ℕ) (a : Lent) (x : Index) → setFits n (lengthsOf a x) ≡ (threeLengths n a && indexSized n x)
-unfolding setFits threeLengths indexSized
-same-lengths n a x = refl
 
 -- ---- the demand
 pub loadable : Loadable

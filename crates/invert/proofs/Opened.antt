@@ -1,17 +1,17 @@
 -- A header that can be read has its six lines: each has its keyword, so that more than seven bytes stand before the rows, and a line's number never passes
 -- its place in the text. Assumes nothing.
-use mathlib.Core.Path.{_≡_, refl, sym, ap, _∙_, subst}
+use mathlib.Core.Path.{_≡_, refl, sym, ap, _∙_}
 use mathlib.Core.Bool.{Bool, true, false, _&&_, _||_, not, cond, true≢false, false≢true}
 use mathlib.Core.List.{List, [], _∷_}
-use Prim.Native.Nat.{ℕ, zero, suc, _+_, _≤_, _<_}
+use Prim.Native.Nat.{ℕ, suc, _+_, _≤_, _<_}
 use native.Mathlib.Nat.{zero-add}
 use native.Mathlib.Omega.{arith}
 use borrow.Author.Tests.{eqb-true}
 use lib.Dec.{eqb}
 use lib.IntN.{ℤ}
-use lib.ListN.{length, take, drop, length-drop}
+use lib.ListN.{length, drop, length-drop}
 use lib.Seq.{length-take-le}
-use Rattle.whole.specs.Bools.{and-right}
+use Rattle.whole.specs.laws.Bools.{and-right}
 use Rattle.heights.specs.declared.text.Kind.the-variants.{Blank, Word, Line}
 use Rattle.heights.specs.declared.number.Number.{Number}
 use Rattle.heights.specs.declared.number.Number.the-variants.{Thousandths, Unreadable}

@@ -1,23 +1,22 @@
 -- From the layer to all cells: the flags from the last cell down, and that they are the invert's. Assumes nothing.
-use mathlib.Core.Path.{_≡_, refl, sym, ap, ap₂, _∙_, subst}
-use mathlib.Core.Logic.{_⊎_, inl, inr, ⊎-elim}
-use mathlib.Core.Bool.{Bool, true, false, not, _||_, cond, true≢false, false≢true}
+use mathlib.Core.Path.{_≡_, refl, sym, ap, _∙_, subst}
+use mathlib.Core.Logic.{_⊎_, ⊎-elim}
+use mathlib.Core.Bool.{Bool, true, false, _||_, cond, true≢false, false≢true}
 use mathlib.Core.List.{List, [], _∷_, _++_}
 use Prim.Native.Nat.{ℕ, zero, suc, _+_, _-_, _*_, _/_, _%_, _≤_, _<_}
-use native.Mathlib.Nat.{mul-le-mul, mod-le, mod-lt, div-le-self, eq-or-lt-of-le}
+use native.Mathlib.Nat.{mul-le-mul, mod-le, eq-or-lt-of-le}
 use native.Mathlib.Numerals.{add-one}
-use native.Mathlib.Decide.{ℕ-discrete}
 use native.Mathlib.Omega.{arith}
-use borrow.Author.Tests.{eq-eqb, ne-eqb, le-ltb, lt-ltb, ltb-true, ltb-false}
+use borrow.Author.Tests.{ne-eqb}
 use lib.Dec.{ltb, eqb}
 use lib.ListN.{length, getD, set, length-set}
 use lib.Seq.{ext-getD, getD-set-same, getD-set-other}
 use Rattle.whole.specs.Fold.{tab}
-use Rattle.whole.specs.Tab.{length-tab, getD-tab}
+use Rattle.whole.specs.laws.Tab.{length-tab, getD-tab}
 use Rattle.grid.specs.declared.Sides.{Sides}
-use Rattle.grid.specs.Grid.{Grid, atEnd, sidesGood, cellsOf, gridOf, box}
+use Rattle.grid.specs.Grid.{atEnd, sidesGood, cellsOf, gridOf, box}
 use Rattle.grid.proofs.GoodSides.{good-sides}
-use Rattle.invert.specs.Walls.{wallOf, wallBy}
+use Rattle.invert.specs.inner.Walls.{wallOf, wallBy}
 
 -- ---- one cell
 pub end-is : (n x : ℕ) → (x ≡ 0 → ⊥) → eqb (x + 1) n ≡ atEnd n x

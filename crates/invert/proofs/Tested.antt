@@ -1,15 +1,14 @@
 -- The tests in a row: what each that passed has shown, and what the reader's head then is. Assumes nothing.
 use mathlib.Core.Path.{_≡_, refl, sym, ap, _∙_, subst}
-use mathlib.Core.Bool.{Bool, true, false, _&&_, not, cond, true≢false, false≢true}
+use mathlib.Core.Bool.{Bool, true, false, _&&_, cond, true≢false, false≢true}
 use mathlib.Core.List.{List}
 use Prim.Native.Nat.{ℕ, _+_, _*_, _≤_, _<_}
 use native.Mathlib.Omega.{arith}
 use borrow.Author.Tests.{eqb-true, leb-true, le-ltb}
-use lib.Dec.{eqb, leb}
+use lib.Dec.{eqb}
 use lib.IntN.{ℤ, pos, negsuc, natAbs}
-use lib.ListN.{length}
 use lib.Signed.{leZ, ltZ}
-use Rattle.whole.specs.Bools.{and-left, and-right}
+use Rattle.whole.specs.laws.Bools.{and-left, and-right}
 use Rattle.lattice.specs.Cell.{edgeGood, coordinateGood}
 use Rattle.lattice.specs.declared.Settings.{Settings}
 use Rattle.grid.specs.declared.Sides.{Sides}
@@ -17,7 +16,7 @@ use Rattle.grid.specs.declared.Answer.{Answer}
 use Rattle.grid.specs.declared.Answer.the-variants.{Done, Refused}
 use Rattle.grid.specs.Grid.{cellsOf, sidesGood}
 use Rattle.grid.specs.Outcome.{accepted, orRefuse, settingsGood}
-use Rattle.grid.proofs.Accepted.{passed, accepted-done}
+use Rattle.grid.proofs.Accepted.{passed}
 use Rattle.record.specs.declared.Site.{Site}
 use Rattle.record.specs.declared.Head.{Head}
 use Rattle.record.specs.Layout.{siteGood}

@@ -11,7 +11,6 @@ use Rattle.grid.specs.declared.Answer.the-variants.{Done}
 use Rattle.grid.specs.State.{Lent, liquid}
 use Rattle.grid.specs.Outcome.{accepted}
 use Rattle.pumps.specs.Three.{threeAnswer}
-use Rattle.record.specs.declared.Head.{Head}
 use Rattle.index.specs.Index.{Index}
 use Rattle.index.specs.Outcome.{loadAnswer}
 use Rattle.invert.specs.Outcome.{readHead, lengthsOf, setBy, indexBy}

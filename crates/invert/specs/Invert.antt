@@ -6,7 +6,7 @@ use lib.IntN.{ℤ, pos, _*ℤ_}
 use lib.Signed.{quotZ, ltZ}
 use Rattle.whole.specs.Fold.{tab}
 use Rattle.grid.specs.declared.Sides.{Sides}
-use Rattle.grid.specs.Grid.{Grid, cellsOf, gridOf}
+use Rattle.grid.specs.Grid.{cellsOf, gridOf}
 use Rattle.heights.specs.declared.number.Number.{Number}
 use Rattle.heights.specs.declared.number.Number.the-variants.{Thousandths, Unreadable}
 use Rattle.heights.specs.Text.{word, afterWord, fromLine}

@@ -1,4 +1,4 @@
 pub mod Invert
-pub mod Walls
 pub mod Outcome
 pub mod Demands
+pub mod inner

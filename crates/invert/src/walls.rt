@@ -14,9 +14,8 @@ ghost use lib.Signed.{quotZ};
 ghost use lib.ListN.{length, take, drop};
 ghost use lib.Seq.{sets};
 ghost use Rattle.heights.specs.Number.{numberOf};
-ghost use Rattle.invert.specs.Invert.{orZero, solidAt};
-ghost use Rattle.invert.specs.Walls.{heightOf, rowHeights, layerOf, wallOf, wallBy};
-ghost use Rattle.invert.specs.Invert.{invertFlags};
+ghost use Rattle.invert.specs.Invert.{orZero, solidAt, invertFlags};
+ghost use Rattle.invert.specs.inner.Walls.{heightOf, rowHeights, layerOf, wallOf, wallBy};
 ghost use Rattle.whole.specs.Fold.{tab};
 ghost use Rattle.grid.specs.Grid.{atEnd, sidesGood, cellsOf};
 

@@ -9,9 +9,9 @@ use native.Mathlib.Omega.{arith}
 use lib.Dec.{eqb}
 use lib.ListN.{length, getD}
 use borrow.Author.Tests.{eqb-true, eq-eqb, eqb-false, le-leb}
-use Rattle.whole.specs.Bools.{and-true}
+use Rattle.whole.specs.laws.Bools.{and-true}
 use Rattle.whole.specs.Fold.{tab}
-use Rattle.whole.specs.Tab.{length-tab, getD-tab, tab-cong, tab-self}
+use Rattle.whole.specs.laws.Tab.{length-tab, getD-tab, tab-cong, tab-self}
 use Rattle.lattice.specs.Lattice.{d3q19}
 use Rattle.grid.specs.declared.Sides.{Sides}
 use Rattle.grid.specs.declared.Answer.the-variants.{Done}

@@ -60,8 +60,3 @@ done s map a (step g second marks) = ifDone (stepTold s map a g second marks) (p
 done s map a (run steps g second marks) = ifDone (tested s map a true) (parted s (totalled (runFirst steps s g (baseOf s map a) second marks) (joined s map a))) a
 done s map a (pump pour c amount) = ifDone (pumpTold s map a pour c amount) (parted s (actSet pour c amount (joined s map a))) a
 done s map a (look f) = a
-
--- names every definition of this file: whoever unfolds this computes with all of them
-unfoldable pub open-deeds : Unit {0}
-unfolding stepTold runTold pumpTold reply done
-open-deeds = tt

@@ -102,8 +102,3 @@ replayMap s [] map a = map
 replayMap s (did d ∷ h) map a = replayMap s h map (done s map a d)
 replayMap s (asked add c ok ∷ h) map a = replayMap s h (mapIf ok map add c) a
 replayMap s (changed add c ∷ h) map a = replayMap s h (set map c (wanted add)) a
-
--- names every definition of this file: whoever unfolds this computes with all of them
-unfoldable pub open-history : Unit {0}
-unfolding reached told seen replayTold replayOwn replayMap
-open-history = tt

@@ -1,10 +1,10 @@
 -- The equilibrium adds up to the density: over all directions and rest, w·Q adds up to 72ρ². One ring identity for each lattice. Assumes nothing.
 use mathlib.Core.Path.{_≡_}
-use mathlib.Core.List.{List, [], _∷_}
-use Prim.Native.Nat.{ℕ, suc}
+use mathlib.Core.List.{[], _∷_}
+use Prim.Native.Nat.{suc}
 use lib.IntN.{ℤ, pos, _*ℤ_}
 use Rattle.whole.specs.Fold.{sum, open-fold}
-use Rattle.whole.specs.Ring.{ring-by, quotes}
+use Rattle.whole.specs.laws.Ring.{ring-by, quotes}
 use Rattle.lattice.specs.Lattice.{V3, dot, Lattice, d3q19, d2q9, open-lattice}
 use Rattle.lattice.specs.Cell.{quad, open-cell}
 

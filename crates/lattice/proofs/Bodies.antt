@@ -10,12 +10,13 @@ use lib.IntN.{ℤ, pos, natAbs}
 use lib.Signed.{_<ℤ_, _≤ℤ_, <ℤ-≤ℤ-trans}
 use borrow.Author.Tests.{leb-true}
 use Rattle.whole.specs.Fold.{all}
-use Rattle.whole.specs.Search.{all-at}
-use Rattle.whole.specs.Machine.{Within}
+use Rattle.whole.specs.laws.Search.{all-at}
+use Rattle.whole.specs.laws.Machine.{Within}
 use Rattle.lattice.specs.declared.Flow.{Flow}
 use Rattle.lattice.specs.Lattice.{V3, dot, density, momentum, d3q19}
 use Rattle.lattice.specs.Cell.{partGood, dense, slow}
-use Rattle.lattice.specs.Body.{partsOf, Bounded, vec, steadyFlow, bodyGood, goodFluid, goodInterface}
+use Rattle.lattice.specs.inner.Held.{partsOf, Bounded, vec, steadyFlow, goodFluid, goodInterface}
+use Rattle.lattice.specs.Body.{bodyGood}
 use Rattle.lattice.proofs.Momentum.{x-in, y-in, z-in, density-in}
 
 -- parts that pass the test are bounded

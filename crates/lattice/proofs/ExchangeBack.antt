@@ -4,7 +4,7 @@ use Prim.Native.Nat.{ℕ, _+_}
 use native.Mathlib.Nat.{add-comm}
 use lib.IntN.{ℤ, pos, negℤ, _*ℤ_}
 use lib.Signed.{quotZ}
-use Rattle.whole.specs.Quot.{quot-exchange}
+use Rattle.whole.specs.laws.Quot.{quot-exchange}
 use Rattle.lattice.specs.Cell.{exchange}
 
 pub exchange-back : (a b : ℕ) (d : ℤ) → exchange (b + a) (negℤ d) ≡ negℤ (exchange (a + b) d)

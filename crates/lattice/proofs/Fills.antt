@@ -5,7 +5,7 @@ use native.Mathlib.Nat.{zero-div, le-div-iff-mul-le, div-le-of-le-mul}
 use native.Mathlib.Omega.{arith}
 use lib.IntN.{ℤ, pos, negsuc, _*ℤ_}
 use lib.Signed.{_≤ℤ_, _<ℤ_, quotZ}
-use Rattle.whole.specs.Parts.{≤-parts, <-parts}
+use Rattle.whole.specs.laws.Parts.{≤-parts, <-parts}
 use Rattle.lattice.specs.Cell.{fillOf}
 
 pub no-mass : (m ρ : ℤ) → m ≤ℤ pos 0 → fillOf m ρ ≡ 0

@@ -6,12 +6,12 @@ use native.Mathlib.Omega.{arith}
 use lib.Dec.{lit<}
 use lib.IntN.{ℤ, natAbs, _+ℤ_, _-ℤ_}
 use Rattle.whole.specs.Fold.{sum, open-fold}
-use Rattle.whole.specs.Bounds.{abs-add, abs-sub}
-use Rattle.whole.specs.Ring.{var, nth, Code, q+, q*, qneg, qpos, qnegsuc, ring-by}
-use Rattle.whole.specs.Sums.{sum-first, sum-abs}
-use Rattle.whole.specs.Machine.{Within, within-by}
+use Rattle.whole.specs.laws.Bounds.{abs-add, abs-sub}
+use Rattle.whole.specs.laws.Ring.{var, nth, Code, q+, q*, qneg, qpos, qnegsuc, ring-by}
+use Rattle.whole.specs.laws.Sums.{sum-first, sum-abs}
+use Rattle.whole.specs.laws.Machine.{Within, within-by}
 use Rattle.lattice.specs.Lattice.{V3, density, momentum, d3q19, open-lattice}
-use Rattle.lattice.specs.Body.{partsOf, Bounded}
+use Rattle.lattice.specs.inner.Held.{partsOf, Bounded}
 use Rattle.lattice.proofs.Reading.{reading}
 
 -- ---- quoting with any number of variables

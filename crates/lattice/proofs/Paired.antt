@@ -6,11 +6,11 @@ use native.Mathlib.Nat.{lt-irrefl, suc-pred-eq-of-pos, suc-inj}
 use lib.IntN.{ℤ, pos, negsuc, negℤ, natAbs}
 use lib.Dec.{leb, ltb, eqb}
 use borrow.Author.Tests.{leb-true, ltb-true, eqb-true}
-use Rattle.whole.specs.Bools.{and-left, and-right}
-use Rattle.whole.specs.Fold.{all, dirs, open-fold}
-use Rattle.whole.specs.Search.{Dir, as-dir, all-at}
-use Rattle.whole.specs.Sums.{sum-cong, sum-paired}
-use Rattle.lattice.specs.Lattice.{V3, Lattice, d3q19, d2q9, open-lattice}
+use Rattle.whole.specs.laws.Bools.{and-left, and-right}
+use Rattle.whole.specs.Fold.{all, dirs, open-fold, Dir}
+use Rattle.whole.specs.laws.Search.{as-dir, all-at}
+use Rattle.whole.specs.laws.Sums.{sum-cong, sum-paired}
+use Rattle.lattice.specs.Lattice.{Lattice, d3q19, d2q9, open-lattice}
 
 -- b is the opposite of the unit step a
 pub record Turned (a b : ℤ) : Type 0 where

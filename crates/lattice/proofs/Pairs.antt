@@ -12,7 +12,7 @@ use lib.ListN.{length, getD, set, length-set}
 use lib.Seq.{getD-set-same, getD-set-other}
 use lib.IntN.{ℤ, pos, _+ℤ_, +ℤ-assoc, +ℤ-idl}
 use Rattle.whole.specs.Fold.{sum, dirs, all}
-use Rattle.whole.specs.Sums.{sum-first}
+use Rattle.whole.specs.laws.Sums.{sum-first}
 
 two : (i : ℕ) → i + 2 ≡ suc (suc i)
 two i = omega arith

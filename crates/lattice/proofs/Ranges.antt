@@ -12,11 +12,11 @@ use mir.Syntax.{w64}
 use mir.Val.{SFits, toZ, ofZ}
 use mir.Facts.{toZ-ofZ}
 use borrow.Author.Tests.{leb-true, leb-false, lt-leb, not-true, not-false}
-use Rattle.whole.specs.Bools.{and-left, and-right}
-use Rattle.whole.specs.Bounds.{abs-below}
-use Rattle.whole.specs.Order.{leZ-true, ≤-or}
-use Rattle.whole.specs.Machine.{Within}
-use Rattle.whole.specs.Ring.{square-pos}
+use Rattle.whole.specs.laws.Bools.{and-left, and-right}
+use Rattle.whole.specs.laws.Bounds.{abs-below}
+use Rattle.whole.specs.laws.Order.{leZ-true, ≤-or}
+use Rattle.whole.specs.laws.Machine.{Within}
+use Rattle.whole.specs.laws.Ring.{square-pos}
 use Rattle.lattice.specs.Cell.{relaxationGood, gravityGood}
 
 and-one : (t : Bool) → (t && true) ≡ t

@@ -11,9 +11,9 @@ use lib.Signed.{quotZ}
 use mir.Syntax.{Width, w32}
 use mir.Val.{SFits, toZ, ofZ, hbits}
 use mir.Facts.{toZ-ofZ}
-use Rattle.whole.specs.Bools.{T-left, T-right}
-use Rattle.whole.specs.Bounds.{fits, abs-quot}
-use Rattle.whole.specs.Machine.{Val, Within, v+, v*, vneg, v64, v32, vpos, vnegsuc, any}
+use Rattle.whole.specs.laws.Bools.{T-left, T-right}
+use Rattle.whole.specs.laws.Bounds.{fits, abs-quot}
+use Rattle.whole.specs.laws.Machine.{Val, Within, v+, v*, vneg, v64, v32, vpos, vnegsuc, any}
 
 -- a number from its bound alone: that it fits is then computed
 abbrev pub inside : {a : ℤ} {k : ℕ} → Within a k → Val a

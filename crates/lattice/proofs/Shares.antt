@@ -1,18 +1,18 @@
 -- Shares: the shares of an excess add up to it, and a direction of weight 0 gets nothing. Assumes nothing.
 use mathlib.Core.Path.{_≡_, refl, sym, ap, ap₂, _∙_, subst}
 use mathlib.Core.Logic.{_⊎_, inl, inr}
-use mathlib.Core.Bool.{Bool, true, false, cond, _||_, false≢true}
+use mathlib.Core.Bool.{Bool, true, cond, _||_, false≢true}
 use Prim.Native.Nat.{ℕ, zero, suc, _+_, _<_}
 use native.Mathlib.Nat.{zero-add}
-use lib.IntN.{ℤ, pos, negsuc, negℤ, _+ℤ_, _-ℤ_, _*ℤ_, *ℤ-zero, +ℤ-comm, +ℤ-idl, +ℤ-idr, -ℤ-+ℤ-cancel}
+use lib.IntN.{ℤ, pos, negsuc, _+ℤ_, _-ℤ_, _*ℤ_, *ℤ-zero, +ℤ-comm, +ℤ-idl, +ℤ-idr, -ℤ-+ℤ-cancel}
 use lib.Signed.{quotZ}
 use lib.Dec.{eqb, eqb·suc-suc}
 use borrow.Author.Tests.{ne-eqb}
-use Rattle.whole.specs.Bools.{or-right}
+use Rattle.whole.specs.laws.Bools.{or-right}
 use Rattle.whole.specs.Fold.{sum, any, first, dirs, anyDir}
-use Rattle.whole.specs.Quot.{zero-quot}
-use Rattle.whole.specs.Search.{first-found, first-passes}
-use Rattle.whole.specs.Sums.{sum-add, sum-cong, sum-only, only}
+use Rattle.whole.specs.laws.Quot.{zero-quot}
+use Rattle.whole.specs.laws.Search.{first-found, first-passes}
+use Rattle.whole.specs.laws.Sums.{sum-add, sum-cong, sum-only, only}
 use Rattle.lattice.specs.Cell.{isPositive, cutShare, remainder, lowestDir, share}
 
 pub shares-total : (q : ℕ) (x : ℤ) (w : ℕ → ℤ) → anyDir q (λ k. isPositive (w k)) ≡ true → dirs q (share q x w) ≡ x

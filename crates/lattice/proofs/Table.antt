@@ -9,13 +9,13 @@ use lib.Dec.{leb, ltb, eqb}
 use lib.ListN.{getD}
 use borrow.Author.Tests.{leb-true, eqb-true, eqb-false, ne-eqb, lt-ltb, le-ltb}
 use lib.IntN.{ℤ, pos, negℤ, natAbs}
-use Rattle.whole.specs.Bools.{and-left, and-right, or-cases, true-T}
+use Rattle.whole.specs.laws.Bools.{and-left, and-right, or-cases, true-T}
 use Rattle.whole.specs.Fold.{all, tab, open-fold}
-use Rattle.whole.specs.Ring.{E, var, con, _⊕_, _⊖_, _⊗_, neg, eval, vanishes, ring}
-use Rattle.whole.specs.Order.{≤-or}
-use Rattle.whole.specs.Machine.{Within, within-by}
-use Rattle.whole.specs.Search.{all-at}
-use Rattle.whole.specs.Tab.{upto-all}
+use Rattle.whole.specs.laws.Ring.{E, var, con, _⊕_, _⊖_, _⊗_, neg, eval, vanishes, ring}
+use Rattle.whole.specs.laws.Order.{≤-or}
+use Rattle.whole.specs.laws.Machine.{Within, within-by}
+use Rattle.whole.specs.laws.Search.{all-at}
+use Rattle.whole.specs.laws.Tab.{upto-all}
 use Rattle.lattice.specs.Lattice.{V3, dot, d3q19, open-lattice}
 use Rattle.lattice.proofs.Reading.{reading}
 

@@ -6,15 +6,15 @@ use Prim.Native.Nat.{ℕ, _*_, _≤_}
 use native.Mathlib.Omega.{arith}
 use lib.IntN.{ℤ, pos, _+ℤ_, _*ℤ_}
 use lib.Signed.{_≤ℤ_, leZ}
-use Rattle.whole.specs.Bools.{and-left, and-right}
-use Rattle.whole.specs.Bounds.{abs-below}
-use Rattle.whole.specs.Ring.{ring-by, quotes}
-use Rattle.whole.specs.Order.{leZ-true, slow-x}
-use Rattle.whole.specs.Machine.{Within, within-by}
+use Rattle.whole.specs.laws.Bools.{and-left, and-right}
+use Rattle.whole.specs.laws.Bounds.{abs-below}
+use Rattle.whole.specs.laws.Ring.{ring-by, quotes}
+use Rattle.whole.specs.laws.Order.{leZ-true, slow-x}
+use Rattle.whole.specs.laws.Machine.{Within, within-by}
 use Rattle.lattice.specs.declared.Flow.{Flow}
 use Rattle.lattice.specs.Lattice.{dot}
 use Rattle.lattice.specs.Cell.{dense, slow, pull}
-use Rattle.lattice.specs.Body.{vec, Tame, steadyFlow}
+use Rattle.lattice.specs.inner.Held.{vec, Tame, steadyFlow}
 use Rattle.lattice.proofs.Reading.{reading}
 
 pub dense-low : (ρ : ℤ) → dense ρ ≡ true → pos 294912 ≤ℤ ρ

@@ -54,8 +54,8 @@ coordinateGood x = leZ (negsuc 9999999999) x && leZ x (pos 10000000000)
 -- ---- the stages
 
 -- stage 1, where a part is rebuilt: cut(w·16,384·(2ρ² + 9(e·j)² − 3j²)/ρ²), what both opposite parts add up to
-unfoldable pub gas : ℕ → ℤ → ℤ → ℤ → ℤ
-gas w ρ ej jj = cut (pos (w * 16384) *ℤ (pos 2 *ℤ (ρ *ℤ ρ) +ℤ pos 9 *ℤ (ej *ℤ ej) -ℤ pos 3 *ℤ jj)) (ρ *ℤ ρ)
+unfoldable pub gasPair : ℕ → ℤ → ℤ → ℤ → ℤ
+gasPair w ρ ej jj = cut (pos (w * 16384) *ℤ (pos 2 *ℤ (ρ *ℤ ρ) +ℤ pos 9 *ℤ (ej *ℤ ej) -ℤ pos 3 *ℤ jj)) (ρ *ℤ ρ)
 
 -- stage 2, between two interface cells with fills that add up to φ: cut(φ·d/131,072)
 unfoldable pub exchange : ℕ → ℤ → ℤ
@@ -81,8 +81,8 @@ unfoldable pub under : ℤ → ℤ → Bool
 under m ρ = ltZ (pos 1000 *ℤ m) (negℤ ρ)
 
 -- stage 5: a part of a new interface cell, cut(w·Q/(72ρ))
-unfoldable pub still : ℕ → ℤ → ℤ → ℤ
-still w Q ρ = cut (pos w *ℤ Q) (pos 72 *ℤ ρ)
+unfoldable pub cutEquilibrium : ℕ → ℤ → ℤ → ℤ
+cutEquilibrium w Q ρ = cut (pos w *ℤ Q) (pos 72 *ℤ ρ)
 
 -- stage 6: a number where it is positive, else 0
 abbrev pub positive : ℤ → ℤ
@@ -118,5 +118,5 @@ fillOf (negsuc m) ρ = 0
 
 -- names every definition of this file: whoever unfolds this computes with all of them
 unfoldable pub open-cell : Unit {0}
-unfolding dense slow gravityGood gas exchange pull quad relaxed over under still cutShare remainder lowestDir share
+unfolding dense slow gravityGood gasPair exchange pull quad relaxed over under cutEquilibrium cutShare remainder lowestDir share
 open-cell = tt

@@ -1,3 +1,4 @@
 pub mod Lattice
 pub mod Cell
 pub mod Body
+pub mod inner

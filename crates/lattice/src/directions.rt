@@ -4,9 +4,9 @@ ghost use mathlib.Core.Path.{_≡_};
 ghost use Prim.Native.Nat.{ℕ, _<_};
 ghost use lib.IntN.{pos};
 ghost use Rattle.whole.specs.Fold.{tab};
-ghost use Rattle.whole.specs.Machine.{Within};
+ghost use Rattle.whole.specs.laws.Machine.{Within};
 ghost use Rattle.lattice.specs.Lattice.{dot, d3q19};
-ghost use Rattle.lattice.specs.Body.{vec};
+ghost use Rattle.lattice.specs.inner.Held.{vec};
 
 // The weight of direction i of 1..18, in 36ths.
 pub fn weight_of(i: usize) -> i64

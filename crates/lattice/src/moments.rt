@@ -4,9 +4,9 @@ use whole::wide;
 ghost use mathlib.Core.Path.{_≡_};
 ghost use Prim.Native.Nat.{_+_, _*_, _<_};
 ghost use lib.IntN.{_-ℤ_, _*ℤ_};
-ghost use Rattle.whole.specs.Machine.{Within};
+ghost use Rattle.whole.specs.laws.Machine.{Within};
 ghost use Rattle.lattice.specs.Lattice.{dot, d3q19, density, momentum};
-ghost use Rattle.lattice.specs.Body.{partsOf, Bounded, vec, steadyFlow};
+ghost use Rattle.lattice.specs.inner.Held.{partsOf, Bounded, vec, steadyFlow};
 
 // A product in twice the width: any two factors fit.
 pub fn times(a: i32, b: i32) -> i64

@@ -11,7 +11,8 @@ ghost use lib.Dec.{eqb};
 ghost use Rattle.whole.specs.Fold.{all};
 ghost use Rattle.lattice.specs.Lattice.{d3q19};
 ghost use Rattle.lattice.specs.Cell.{partGood};
-ghost use Rattle.lattice.specs.Body.{partsOf, Bounded, eqZ, bodyGood, goodFluid, goodInterface};
+ghost use Rattle.lattice.specs.inner.Held.{partsOf, Bounded, goodFluid, goodInterface};
+ghost use Rattle.lattice.specs.Body.{eqZ, bodyGood};
 
 fn inside(v: i32) -> bool
     ensures { λ r. ⌜ r ≡ partGood v ⌝ }

@@ -4,8 +4,8 @@ use mathlib.Core.Path.{_≡_, sym, ap, ap₂, _∙_}
 use mathlib.Core.Bool.{Bool, true, false}
 use Prim.Native.Nat.{ℕ, _≤_, _<_}
 use lib.IntN.{ℤ, pos, _-ℤ_, +ℤ-invr}
-use Rattle.whole.specs.Ring.{neg-sub}
-use Rattle.whole.specs.Search.{Dir}
+use Rattle.whole.specs.laws.Ring.{neg-sub}
+use Rattle.whole.specs.Fold.{Dir}
 use Rattle.lattice.specs.Lattice.{V3, dot, Lattice}
 use Rattle.grid.specs.Grid.{Grid}
 use Rattle.grid.specs.State.{State, Scene, byFlag}

@@ -1,6 +1,6 @@
 -- P13 over the step's own outcome, on any ground with a reflection: where a step is accepted and converts no cell, the step of the reflected set with the
 -- reflected settings is accepted, converts none, and its second set is the reflected second set. For document 01's grid and any of its axes. Assumes nothing.
-use mathlib.Core.Path.{_≡_, refl, sym, ap, _∙_}
+use mathlib.Core.Path.{_≡_, sym, ap, _∙_}
 use mathlib.Core.Bool.{Bool, true, false, _&&_}
 use mathlib.Core.List.{List}
 use Prim.Native.Nat.{ℕ, _<_}
@@ -9,7 +9,7 @@ use lib.Signed.{leZ}
 use lib.Dec.{eqb}
 use lib.ListN.{length}
 use borrow.Author.Tests.{eq-eqb, eqb-true}
-use Rattle.whole.specs.Bools.{and-left, and-right}
+use Rattle.whole.specs.laws.Bools.{and-left, and-right}
 use Rattle.lattice.specs.Lattice.{Lattice, d3q19}
 use Rattle.lattice.specs.Cell.{relaxationGood, gravityGood}
 use Rattle.lattice.specs.declared.Settings.{Settings}

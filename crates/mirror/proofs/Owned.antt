@@ -5,16 +5,13 @@ use mathlib.Core.Bool.{Bool, true, false}
 use Prim.Native.Nat.{ℕ, zero, suc, _*_, _≤_, _<_}
 use native.Mathlib.Omega.{arith}
 use lib.IntN.{ℤ, pos, natAbs, _-ℤ_, _*ℤ_}
-use Rattle.whole.specs.Bounds.{abs-neg}
-use Rattle.whole.specs.Fold.{dirs}
-use Rattle.whole.specs.Search.{Dir, as-dir}
-use Rattle.whole.specs.Sums.{sum-cong}
+use Rattle.whole.specs.laws.Bounds.{abs-neg}
+use Rattle.whole.specs.Fold.{Dir}
+use Rattle.whole.specs.laws.Sums.{sum-cong}
 use Rattle.lattice.specs.Lattice.{V3, Lattice}
-use Rattle.lattice.specs.Body.{stillDir}
 use Rattle.lattice.proofs.Paired.{Paired}
 use Rattle.grid.specs.Grid.{Grid}
-use Rattle.grid.specs.State.{State, Scene}
-use Rattle.grid.specs.Step.{streamed, newDensity, newMomentum}
+use Rattle.grid.specs.State.{State}
 use Rattle.grid.specs.Mode.{ownAt, relaxIn, before}
 use Rattle.grid.specs.Demands.{scene}
 use Rattle.grid.proofs.Laid.{Laid}
@@ -22,7 +19,7 @@ use Rattle.turbulence.specs.Turbulence.{component, beyond, stress, square, tens
 use Rattle.turbulence.proofs.Tensor.{tension-entries}
 use Rattle.mirror.specs.Mirror.{Axes, turn, reflect, Turns, Mirror, Reflection, Reflects}
 use Rattle.mirror.proofs.Turned.{turn-out, turn-front, turn-sum}
-use Rattle.mirror.proofs.Permuted.{dirs-alike, still-alike}
+use Rattle.mirror.proofs.Permuted.{dirs-alike, equilibrium-alike}
 use Rattle.mirror.proofs.Stages.{streamed-alike, density-new, momentum-new}
 
 -- whether component a changes its sign
@@ -95,7 +92,7 @@ module _ (L : Lattice) (t : Axes) (π : ℕ → ℕ) (m : Turns L t π) where
   unfolding ownRelaxation beyond
   own-alike ρ ρ′ j j′ p f f′ r e same =
       ap (λ (u : ℕ). pos (own (natAbs p) u))
-      (tension-alike (beyond L ρ j f) (beyond L ρ′ j′ f′) (λ i d. ap₂ (λ (x y : ℤ). x -ℤ y) (same i (d .most)) (still-alike L t π m ρ ρ′ j j′ r e i d)))
+      (tension-alike (beyond L ρ j f) (beyond L ρ′ j′ f′) (λ i d. ap₂ (λ (x y : ℤ). x -ℤ y) (same i (d .most)) (equilibrium-alike L t π m ρ ρ′ j j′ r e i d)))
 
 -- in a step of the reflected state it is that of the reflected cell
 module _ (L : Lattice) (G : Grid) (M : Mirror) (paired : Paired L) (laid : Laid L G) (m : Reflection L G M)

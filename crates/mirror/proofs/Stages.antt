@@ -6,13 +6,15 @@ use Prim.Native.Nat.{ℕ, zero, suc, _+_, _≤_, _<_}
 use native.Mathlib.Nat.{lt-irrefl}
 use lib.IntN.{ℤ, pos, _+ℤ_, _-ℤ_}
 use lib.Dec.{eqb}
-use Rattle.whole.specs.Search.{Dir, as-dir}
+use Rattle.lattice.specs.Body.{collidedPart, relaxedDir}
+use Rattle.whole.specs.Fold.{Dir}
+use Rattle.whole.specs.laws.Search.{as-dir}
 use Rattle.lattice.specs.Lattice.{V3, dot, Lattice, momentum}
-use Rattle.lattice.specs.Cell.{isPositive, dense, slow, gas, exchange, pull, quad, relaxed}
+use Rattle.lattice.specs.Cell.{isPositive, dense, slow, gasPair, exchange, pull, quad, relaxed}
 use Rattle.lattice.proofs.Paired.{Paired}
 use Rattle.grid.specs.Grid.{Grid}
 use Rattle.grid.specs.State.{State, Scene, byFlag, liquid}
-use Rattle.grid.specs.Step.{oldDensity, oldMomentum, leansTo, rebuilt, rebuild, arrives, streamed, difference, traded, tradedMass, newDensity, newMomentum, tooFast, collidedDir, collided}
+use Rattle.grid.specs.Step.{oldDensity, oldMomentum, leansTo, rebuilds, rebuiltPart, arrives, streamed, difference, traded, tradedMass, streamedDensity, streamedMomentum, unsteady, collidedDir, collided}
 use Rattle.grid.specs.Demands.{scene}
 use Rattle.grid.proofs.Laid.{Laid}
 use Rattle.mirror.specs.Mirror.{turn, reflect, Mirror, Reflection, Reflects}
@@ -28,7 +30,7 @@ streamed-dir S c zero d = absurd (lt-irrefl zero (d .some))
 streamed-dir S c (suc a) d = refl
 
 pub collided-as : (S : Scene) (c i : ℕ) → Dir (S .lat .q) i → collided S c i ≡ collidedDir S c i
-unfolding collided
+unfolding collided collidedPart
 collided-as S c zero d = absurd (lt-irrefl zero (d .some))
 collided-as S c (suc a) d = refl
 
@@ -65,16 +67,16 @@ module _ (L : Lattice) (G : Grid) (M : Mirror) (paired : Paired L) (laid : Laid 
   -- ---- of a cell whose neighbours are cells
   module _ (c : ℕ) (h : c < G .cells) (o : G .outer c ≡ false) where
     -- where a part is rebuilt: n·e is the same
-    pub rebuilt-alike : (i : ℕ) → Dir q i → rebuilt R c i ≡ rebuilt S (μ c) (π i)
-    unfolding rebuilt leansTo
-    rebuilt-alike i d =
+    pub rebuilds-alike : (i : ℕ) → Dir q i → rebuilds R c i ≡ rebuilds S (μ c) (π i)
+    unfolding rebuilds leansTo
+    rebuilds-alike i d =
         ap₃ (λ (f k : ℕ) (x : ℤ). byFlag k true (eqb f 1 && isPositive x) (eqb f 1 && isPositive x) false) (same .flags c h)
         (near-flag L G M laid m s t same c h o i d) (normal-along L G M laid m s t same c h o g (reflect (M .axes) g) p p′ i d)
 
-    pub rebuild-alike : (i : ℕ) → Dir q i → rebuild R c i ≡ rebuild S (μ c) (π i)
-    unfolding rebuild
-    rebuild-alike i d =
-        ap₅ (λ (w : ℕ) (r x y f : ℤ). gas w r x y -ℤ f) (sym (m .turns .weight i d)) (old-density c h)
+    pub rebuilt-alike : (i : ℕ) → Dir q i → rebuiltPart R c i ≡ rebuiltPart S (μ c) (π i)
+    unfolding rebuiltPart
+    rebuilt-alike i d =
+        ap₅ (λ (w : ℕ) (r x y f : ℤ). gasPair w r x y -ℤ f) (sym (m .turns .weight i d)) (old-density c h)
         (along L (M .axes) (M .dir) (m .turns) i d (oldMomentum R c) (oldMomentum S (μ c)) (old-momentum c h))
         (speed L (M .axes) (M .dir) (m .turns) (oldMomentum R c) (oldMomentum S (μ c)) (old-momentum c h))
         (same .parts c i h (d .most))
@@ -83,7 +85,7 @@ module _ (L : Lattice) (G : Grid) (M : Mirror) (paired : Paired L) (laid : Laid 
     unfolding arrives
     arrives-alike i k d l =
         ap₅ (λ (b : Bool) (r : ℤ) (f : ℕ) (x y : ℤ). cond b r (byFlag f (pos 0) x x y))
-        (rebuilt-alike i d) (rebuild-alike i d) (near-flag L G M laid m s t same c h o i d) (near-part L G M laid m s t same c h o i k d l) (same .parts c i h (d .most))
+        (rebuilds-alike i d) (rebuilt-alike i d) (near-flag L G M laid m s t same c h o i d) (near-part L G M laid m s t same c h o i k d l) (same .parts c i h (d .most))
 
     pub streamed-alike : (k : ℕ) → k ≤ q → streamed R c k ≡ streamed S (μ c) (π k)
     unfolding streamed
@@ -112,8 +114,8 @@ module _ (L : Lattice) (G : Grid) (M : Mirror) (paired : Paired L) (laid : Laid 
         ap₂ (λ (x y : ℤ). x +ℤ y) (same .masses c h) (dirs-alike L (M .axes) (M .dir) (m .turns) (traded R c) (traded S (μ c)) traded-alike)
 
     -- ---- 3
-    pub density-new : newDensity R c ≡ newDensity S (μ c)
-    unfolding newDensity
+    pub density-new : streamedDensity R c ≡ streamedDensity S (μ c)
+    unfolding streamedDensity
     density-new = density-alike L (M .axes) (M .dir) (m .turns) (streamed R c) (streamed S (μ c)) streamed-alike
 
     moved : momentum L (streamed R c) ≡ reflect (M .axes) (momentum L (streamed S (μ c)))
@@ -122,32 +124,32 @@ module _ (L : Lattice) (G : Grid) (M : Mirror) (paired : Paired L) (laid : Laid 
     pulled : (b : Bool) (a j ρ ρ′ g : ℤ) → a ≡ turn b j → ρ ≡ ρ′ → a +ℤ pull ρ (turn b g) ≡ turn b (j +ℤ pull ρ′ g)
     pulled b a j ρ ρ′ g e r = ap₂ (λ (x y : ℤ). x +ℤ y) e (ap (λ (x : ℤ). pull x (turn b g)) r ∙ turn-pull b ρ′ g) ∙ turn-add b j (pull ρ′ g)
 
-    pub momentum-new : newMomentum R c ≡ reflect (M .axes) (newMomentum S (μ c))
-    unfolding newMomentum reflect
+    pub momentum-new : streamedMomentum R c ≡ reflect (M .axes) (streamedMomentum S (μ c))
+    unfolding streamedMomentum reflect
     momentum-new j = record {
       x = pulled (M .axes .x) _ (momentum L (streamed S (μ c)) .x) _ _ (g .x) (ap (λ (v : V3). v .x) moved) density-new j;
       y = pulled (M .axes .y) _ (momentum L (streamed S (μ c)) .y) _ _ (g .y) (ap (λ (v : V3). v .y) moved) density-new j;
       z = pulled (M .axes .z) _ (momentum L (streamed S (μ c)) .z) _ _ (g .z) (ap (λ (v : V3). v .z) moved) density-new j;
     }
 
-    pub speed-new : dot (newMomentum R c) (newMomentum R c) ≡ dot (newMomentum S (μ c)) (newMomentum S (μ c))
-    speed-new = speed L (M .axes) (M .dir) (m .turns) (newMomentum R c) (newMomentum S (μ c)) momentum-new
+    pub speed-new : dot (streamedMomentum R c) (streamedMomentum R c) ≡ dot (streamedMomentum S (μ c)) (streamedMomentum S (μ c))
+    speed-new = speed L (M .axes) (M .dir) (m .turns) (streamedMomentum R c) (streamedMomentum S (μ c)) momentum-new
 
-    pub fast-alike : tooFast R c ≡ tooFast S (μ c)
-    unfolding tooFast
+    pub fast-alike : unsteady R c ≡ unsteady S (μ c)
+    unfolding unsteady
     fast-alike =
         ap₃ (λ (f : ℕ) (ρ jj : ℤ). liquid f && not (dense ρ && slow ρ jj)) (same .flags c h) density-new speed-new
 
     -- ---- 4, where the cell's own relaxation is that of the reflected cell (P10: shown from the lemmas above)
     module _ (own : p′ c ≡ p (μ c)) where
       pub collided-dir : (i : ℕ) → Dir q i → collidedDir R c i ≡ collidedDir S (μ c) (π i)
-      unfolding collidedDir
+      unfolding relaxedDir
       collided-dir i d =
           ap₆ (λ (r : ℤ) (w : ℕ) (d x y f : ℤ). relaxed r w (quad d x y) d f) own (sym (m .turns .weight i d)) density-new
-          (along L (M .axes) (M .dir) (m .turns) i d (newMomentum R c) (newMomentum S (μ c)) momentum-new) speed-new (streamed-alike i (d .most))
+          (along L (M .axes) (M .dir) (m .turns) i d (streamedMomentum R c) (streamedMomentum S (μ c)) momentum-new) speed-new (streamed-alike i (d .most))
 
       pub collided-alike : (k : ℕ) → k ≤ q → collided R c k ≡ collided S (μ c) (π k)
-      unfolding collided
+      unfolding collided collidedPart
       collided-alike zero l =
           ap₂ (λ (x y : ℤ). x -ℤ y) density-new (dirs-alike L (M .axes) (M .dir) (m .turns) (collidedDir R c) (collidedDir S (μ c)) collided-dir)
           ∙ ap (collided S (μ c)) (sym (m .turns .rest))

@@ -1,5 +1,5 @@
 -- The chain of tests as the code goes through it, what it leaves of an accepted mirror, and the second set by either answer. Assumes nothing.
-use mathlib.Core.Path.{_≡_, refl, sym, ap, ap₂, _∙_, subst}
+use mathlib.Core.Path.{_≡_, refl, sym, ap, ap₂, _∙_}
 use mathlib.Core.Bool.{Bool, true, false, _&&_}
 use mathlib.Core.List.{List, []}
 use Prim.Native.Nat.{ℕ, _*_, _≤_}
@@ -8,7 +8,7 @@ use borrow.Author.Tests.{leb-true}
 use lib.Dec.{eqb, leb}
 use lib.IntN.{ℤ}
 use lib.ListN.{length}
-use Rattle.whole.specs.Bools.{and-left, and-right}
+use Rattle.whole.specs.laws.Bools.{and-left, and-right}
 use Rattle.whole.specs.Fold.{tab}
 use Rattle.lattice.specs.Lattice.{d3q19}
 use Rattle.grid.specs.declared.Sides.{Sides}
@@ -16,14 +16,12 @@ use Rattle.grid.specs.declared.Answer.{Answer}
 use Rattle.grid.specs.declared.Answer.the-variants.{Done, Refused}
 use Rattle.grid.specs.Grid.{cellsOf, sidesGood}
 use Rattle.grid.specs.State.{Lent, lent, stateOf, lentOf}
-use Rattle.grid.specs.Between.{Sized}
-use Rattle.grid.specs.Outcome.{orRefuse}
 use Rattle.grid.proofs.Accepted.{passed}
-use Rattle.pumps.specs.Three.{headOf, threeLengths, threeGood, threeAnswer}
+use Rattle.pumps.specs.Three.{threeLengths, threeGood, threeAnswer}
 use Rattle.pumps.proofs.Checked.{four, carry-three, head-sized, then-checked}
 use Rattle.index.specs.Index.{Index, wordsOf, indexOf, indexSized}
 use Rattle.index.specs.Held.{Held, held, indexed}
-use Rattle.index.specs.Laid.{Room}
+use Rattle.index.specs.inner.Laid.{Room}
 use Rattle.index.proofs.Flagged.{room-of}
 use Rattle.index.proofs.Answers.{few-cells}
 use Rattle.mirror.specs.Mirror.{mirrorOf, mirrored, mirroredSet}
@@ -31,7 +29,7 @@ use Rattle.mirror.proofs.Lattices.{turns19}
 use Rattle.mirroring.specs.Turned.{turnedSet, axesOf, turned}
 use Rattle.mirroring.specs.Outcome.{mirrorAnswer, ifDone, mirrorSecond}
 use Rattle.mirroring.specs.Promise.{Mirrored}
-use Rattle.mirroring.specs.Between.{dirIn, tableMirror, Celled, Directed, Turnable}
+use Rattle.mirroring.specs.inner.Between.{dirIn, tableMirror, Celled, Directed, Turnable}
 use Rattle.mirroring.proofs.Reflected.{directed, by-table}
 
 -- a set without its totals

@@ -3,13 +3,13 @@
 use mathlib.Core.Path.{_≡_, refl, sym, ap, ap₂, _∙_, subst}
 use mathlib.Core.Bool.{Bool, true, _&&_}
 use mathlib.Core.List.{List, [], _∷_}
-use Prim.Native.Nat.{ℕ, suc, _*_}
+use Prim.Native.Nat.{ℕ, _*_}
 use native.Mathlib.Omega.{arith}
 use borrow.Author.Tests.{eq-eqb}
 use lib.Dec.{eqb}
 use lib.IntN.{ℤ, pos}
 use lib.ListN.{length, getD, take}
-use Rattle.whole.specs.Bools.{and-true}
+use Rattle.whole.specs.laws.Bools.{and-true}
 use Rattle.lattice.specs.Lattice.{d3q19}
 use Rattle.lattice.specs.declared.Settings.{Settings}
 use Rattle.grid.specs.declared.Sides.{Sides}
@@ -17,7 +17,6 @@ use Rattle.grid.specs.declared.Answer.{Answer}
 use Rattle.grid.specs.declared.Answer.the-variants.{Done}
 use Rattle.grid.specs.Grid.{cellsOf, sidesGood, gridOf, box}
 use Rattle.grid.specs.State.{Lent, lent, State, stateOf, lentOf}
-use Rattle.grid.specs.Between.{Sized}
 use Rattle.grid.specs.Outcome.{orRefuse, goodAnswer, lengthsGood, sceneOf, stepAnswer, stepSecond, open-outcome}
 use Rattle.grid.specs.Ground.{boxGround}
 use Rattle.grid.proofs.Box.{grid-laid}

@@ -10,8 +10,7 @@ use lib.Arith.{lt-of-le-ne}
 use lib.IntN.{ℤ, pos}
 use lib.ListN.{length, getD, set, length-set}
 use lib.Seq.{getD-set-same, getD-set-other}
-use Rattle.whole.specs.Fold.{tab}
-use Rattle.whole.specs.Tab.{Upto, upto-zero, upto-more, upto-all}
+use Rattle.whole.specs.laws.Tab.{Upto, upto-zero, upto-more, upto-all}
 use Rattle.grid.specs.declared.Sides.{Sides}
 use Rattle.grid.specs.Grid.{cellsOf}
 use Rattle.grid.specs.State.{Lent, lent, stateOf, lentOf}
@@ -19,7 +18,7 @@ use Rattle.grid.proofs.Listed.{same-lent}
 use Rattle.grid.proofs.Lists.{getD-there}
 use Rattle.mirror.specs.Mirror.{mirrored, mirroredSet}
 use Rattle.mirroring.specs.Turned.{turnedSet}
-use Rattle.mirroring.specs.Between.{cellIn, tableMirror, Celled, Fetched}
+use Rattle.mirroring.specs.inner.Between.{cellIn, tableMirror, Celled, Fetched}
 use Rattle.mirroring.proofs.Reflected.{cell-low}
 
 -- ---- places among the parts of so many cells of w parts

@@ -8,7 +8,7 @@ use native.Mathlib.Omega.{arith}
 use lib.Dec.{eqb}
 use lib.ListN.{getD}
 use Rattle.whole.specs.Fold.{tab, open-fold}
-use Rattle.whole.specs.Tab.{getD-tab}
+use Rattle.whole.specs.laws.Tab.{getD-tab}
 use Rattle.lattice.specs.Lattice.{Lattice, d3q19, open-lattice}
 use Rattle.grid.specs.declared.Sides.{Sides}
 use Rattle.grid.specs.Grid.{cellAt, cellsOf, gridOf, box}
@@ -19,7 +19,7 @@ use Rattle.mirror.proofs.Cells.{low-x, low-y, low-z, grid-mirror}
 use Rattle.mirror.proofs.Permuted.{low}
 use Rattle.mirror.proofs.Sets.{one-set}
 use Rattle.mirroring.specs.Turned.{turnedSet, axesOf}
-use Rattle.mirroring.specs.Between.{cellIn, dirIn, tableMirror, Directed}
+use Rattle.mirroring.specs.inner.Between.{cellIn, dirIn, tableMirror, Directed}
 
 -- ---- one coordinate
 pub flip-yes : (b : Bool) (n x : ℕ) → b ≡ true → x < n → n - 1 - x ≡ flip b n x

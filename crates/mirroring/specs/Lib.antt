@@ -2,4 +2,4 @@ pub mod Turned
 pub mod Outcome
 pub mod Promise
 pub mod Demands
-pub mod Between
+pub mod inner

@@ -19,8 +19,3 @@ axesOf axis = record { x = eqb axis 0; y = eqb axis 1; z = eqb axis 2 }
 -- document 01's: a set with its three totals reflected in an axis
 unfoldable pub turned : Sides → ℕ → Lent → Lent
 turned s axis a = turnedSet (mirrorOf s (axesOf axis)) 18 (cellsOf s) a
-
--- names every definition of this file: whoever unfolds this computes with all of them
-unfoldable pub open-turned : Unit {0}
-unfolding turnedSet axesOf turned
-open-turned = tt

@@ -8,7 +8,7 @@ ghost use Rattle.whole.specs.Fold.{tab};
 ghost use Rattle.lattice.specs.Lattice.{d3q19};
 ghost use Rattle.grid.specs.Grid.{cellsOf};
 ghost use Rattle.mirror.specs.Mirror.{flip};
-ghost use Rattle.mirroring.specs.Between.{cellIn, dirIn, Directed, Fetched};
+ghost use Rattle.mirroring.specs.inner.Between.{cellIn, dirIn, Directed, Fetched};
 
 // x of n places, or n - 1 - x.
 fn flipped(turn: bool, n: usize, x: usize) -> usize

@@ -7,14 +7,13 @@ use grid::copying;
 use index::keeping;
 ghost use mathlib.Core.Path.{_≡_};
 ghost use mathlib.Core.List.{[]};
-ghost use lib.ListN.{length};
 ghost use Rattle.grid.specs.State.{Lent, lent};
 ghost use Rattle.index.specs.Index.{index};
 ghost use Rattle.index.specs.Held.{held};
 ghost use Rattle.grid.specs.Grid.{cellsOf};
 ghost use Rattle.mirroring.specs.Turned.{turnedSet};
 ghost use Rattle.mirroring.specs.Promise.{Mirrored};
-ghost use Rattle.mirroring.specs.Between.{Turnable, tableMirror};
+ghost use Rattle.mirroring.specs.inner.Between.{Turnable, tableMirror};
 
 // Every cell of the second set from the cell of the first that is reflected to it; totals aside. Of the box and of the flume: a cell has q + 1 parts, and
 // the table has where each direction is reflected.

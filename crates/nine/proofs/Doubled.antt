@@ -1,27 +1,27 @@
 -- An axis has weight 4 in the flume and 2 in the box: twice the box's end is its end, lacks less than 2^20 and is no larger than a part leaves room for.
 -- Assumes nothing.
-use mathlib.Core.Path.{_≡_, sym, ap, ap₂, _∙_, subst}
+use mathlib.Core.Path.{_≡_, sym, ap₂, _∙_, subst}
 use mathlib.Core.List.{[], _∷_}
 use Prim.Native.Nat.{ℕ, _+_, _*_, _<_, _≤_}
 use native.Mathlib.Nat.{mul-le-mul, mul-le-mul-left, le-of-mul-le-mul-left}
 use native.Mathlib.Omega.{arith}
-use lib.IntN.{ℤ, pos, negsuc, negℤ, natAbs, _+ℤ_, _-ℤ_, _*ℤ_}
+use lib.IntN.{ℤ, pos, negsuc, natAbs, _+ℤ_, _-ℤ_, _*ℤ_}
 use lib.Signed.{_≤ℤ_, _<ℤ_, leZ}
-use Rattle.whole.specs.Bools.{and-left}
-use Rattle.whole.specs.Bounds.{abs-above, abs-mul, abs-neg}
-use Rattle.whole.specs.Machine.{Within}
-use Rattle.whole.specs.Order.{leZ-true, to≤, to<}
-use Rattle.whole.specs.Parts.{≤-parts, <-parts, parts-≤}
-use Rattle.whole.specs.Ring.{ring-by, quotes, square-pos}
+use Rattle.whole.specs.laws.Bools.{and-left}
+use Rattle.whole.specs.laws.Bounds.{abs-mul}
+use Rattle.whole.specs.laws.Machine.{Within}
+use Rattle.whole.specs.laws.Order.{leZ-true, to≤, to<}
+use Rattle.whole.specs.laws.Parts.{≤-parts, <-parts, parts-≤}
+use Rattle.whole.specs.laws.Ring.{ring-by, quotes, square-pos}
 use Rattle.lattice.specs.declared.Flow.{Flow}
 use Rattle.lattice.specs.Lattice.{dot}
 use Rattle.lattice.specs.Cell.{quad}
-use Rattle.lattice.specs.Body.{vec}
-use Rattle.collision.specs.Estimate.{EndIs, weighed, Near}
+use Rattle.lattice.specs.inner.Held.{vec}
+use Rattle.collision.specs.inner.Estimate.{EndIs, weighed, Near}
 use Rattle.collision.proofs.Bracket.{abs-most, deep, third}
 use Rattle.collision.proofs.Ends.{Brackets, share}
 use Rattle.collision.proofs.Rates.{Fair, calm-of, p-in}
-use Rattle.flume.specs.Spread.{spreadLattice}
+use Rattle.flume.specs.inner.Spread.{spreadLattice}
 
 -- ---- twice an end
 moved : {a b c d : ℤ} → a ≡ c → b ≡ d → c <ℤ d → a <ℤ b

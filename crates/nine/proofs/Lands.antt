@@ -8,12 +8,13 @@ use lib.IntN.{ℤ, pos, _-ℤ_}
 use lib.Signed.{_≤ℤ_}
 use lib.ListN.{getD}
 use Rattle.lattice.specs.declared.Flow.{Flow}
-use Rattle.lattice.specs.Body.{partsOf, vec, relaxedDir}
-use Rattle.collision.specs.Estimate.{landed}
+use Rattle.lattice.specs.inner.Held.{partsOf, vec}
+use Rattle.lattice.specs.Body.{relaxedDir}
+use Rattle.collision.specs.inner.Estimate.{landed}
 use Rattle.collision.proofs.Landed.{landed-part}
-use Rattle.flume.specs.Spread.{idle, Idle, spreadLattice}
-use Rattle.nine.specs.Cells.{Quiet}
-use Rattle.nine.specs.Ends.{EndsNine}
+use Rattle.flume.specs.inner.Spread.{idle, Idle, spreadLattice}
+use Rattle.nine.specs.inner.Cells.{Quiet}
+use Rattle.nine.specs.inner.Ends.{EndsNine}
 use Rattle.nine.proofs.Places.{landed-none, idle-stays}
 
 module _ (v : Flow) (p : ℤ) (f : List ℤ) (e : List ℕ) (quiet : Quiet f) (deep : pos 294912 ≤ℤ v .rho) (ends : EndsNine v p e) where

@@ -8,12 +8,12 @@ use native.Mathlib.Omega.{arith}
 use lib.IntN.{ℤ, pos}
 use lib.ListN.{length, getD, take, drop, length-append, length-drop, List·getD-append}
 use lib.Seq.{length-take-le, getD-append-add, getD-take, getD-drop, ext-getD}
-use Rattle.whole.specs.Search.{as-dir}
-use Rattle.whole.specs.Tab.{length-tab, getD-tab}
-use Rattle.lattice.specs.Body.{partsOf}
-use Rattle.flume.specs.Spread.{wide, spread}
+use Rattle.whole.specs.laws.Search.{as-dir}
+use Rattle.whole.specs.laws.Tab.{length-tab, getD-tab}
+use Rattle.lattice.specs.inner.Held.{partsOf}
+use Rattle.flume.specs.inner.Spread.{wide, spread}
 use Rattle.flume.proofs.Places.{at-places, spread-at, spread-none}
-use Rattle.nine.specs.Cells.{nineOf, partOf9, pasted9, Quiet}
+use Rattle.nine.specs.inner.Cells.{nineOf, partOf9, pasted9, Quiet}
 
 -- what is the same at the nine directions is the same at the nineteen places
 pub spread-same : (f g : ℕ → ℤ) → ((k : ℕ) → k < 9 → f k ≡ g k) → (i : ℕ) → i < 19 → spread (pos 0) f i ≡ spread (pos 0) g i

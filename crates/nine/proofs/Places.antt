@@ -1,6 +1,6 @@
 -- Nine parts at their places: where each stands, an array that a loop fills with them, and what an idle part becomes. Assumes nothing.
 use mathlib.Core.Path.{_≡_, refl, sym, ap, ap₂, _∙_}
-use mathlib.Core.Bool.{Bool, true, false, false≢true, cond}
+use mathlib.Core.Bool.{false, false≢true, cond}
 use mathlib.Core.List.{List}
 use Prim.Native.Nat.{ℕ, zero, suc, _+_, _/_, _≤_, _<_}
 use native.Mathlib.Decide.{ℕ-discrete}
@@ -12,16 +12,17 @@ use lib.Signed.{ltZ, shrZ}
 use lib.ListN.{length, getD, set, replicate, length-set}
 use lib.Seq.{getD-set-same, getD-set-other}
 use Rattle.whole.specs.Fold.{tab}
-use Rattle.whole.specs.Search.{Dir, as-dir}
-use Rattle.whole.specs.Tab.{upto-all, getD-tab}
+use Rattle.whole.specs.laws.Search.{as-dir}
+use Rattle.whole.specs.laws.Tab.{upto-all, getD-tab}
 use Rattle.lattice.specs.Lattice.{V3, dot, d2q9}
 use Rattle.lattice.specs.Cell.{quad, relaxed}
-use Rattle.lattice.specs.Body.{partsOf, relaxedDir, collidedPart}
-use Rattle.collision.specs.Estimate.{landed}
-use Rattle.flume.specs.Spread.{wide, narrow, idle, spread, Idle, spreadLattice}
-use Rattle.flume.proofs.Places.{by-eight, by-nine, by-idle, spread-at, spread-none, is-spread, wide-dir}
+use Rattle.lattice.specs.inner.Held.{partsOf}
+use Rattle.lattice.specs.Body.{relaxedDir, collidedPart}
+use Rattle.collision.specs.inner.Estimate.{landed}
+use Rattle.flume.specs.inner.Spread.{wide, narrow, idle, spread, Idle, spreadLattice}
+use Rattle.flume.proofs.Places.{by-eight, by-nine, by-idle, spread-at, spread-none, is-spread}
 use Rattle.flume.proofs.Flowing.{relaxed-none}
-use Rattle.nine.specs.Cells.{Quiet}
+use Rattle.nine.specs.inner.Cells.{Quiet}
 
 -- ---- the place of direction k
 pub place-low : (k : ℕ) → k < 3 → k ≡ wide k

@@ -8,12 +8,12 @@ use native.Mathlib.Omega.{arith}
 use lib.Dec.{leb, ltb, eqb}
 use lib.IntN.{pos}
 use borrow.Author.Tests.{leb-true, eqb-true, eqb-false, ne-eqb, lt-ltb, le-ltb}
-use Rattle.whole.specs.Bools.{or-cases}
+use Rattle.whole.specs.laws.Bools.{or-cases}
 use Rattle.whole.specs.Fold.{all, open-fold}
-use Rattle.whole.specs.Machine.{Within}
-use Rattle.whole.specs.Search.{all-at}
+use Rattle.whole.specs.laws.Machine.{Within}
+use Rattle.whole.specs.laws.Search.{all-at}
 use Rattle.lattice.specs.Lattice.{open-lattice}
-use Rattle.flume.specs.Spread.{narrow, idle, spread, spreadLattice}
+use Rattle.flume.specs.inner.Spread.{narrow, idle, spread, spreadLattice}
 
 -- by the four tests
 abbrev pick : Bool → Bool → Bool → Bool → ℕ

@@ -4,8 +4,8 @@ ghost use Prim.Native.Nat.{ℕ, _+_, _*_, _<_, _≤_};
 ghost use lib.IntN.{pos};
 ghost use lib.ListN.{length, getD};
 ghost use Rattle.whole.specs.Fold.{tab};
-ghost use Rattle.flume.specs.Spread.{wide, spread};
-ghost use Rattle.nine.specs.Cells.{pasted9, Quiet};
+ghost use Rattle.flume.specs.inner.Spread.{wide, spread};
+ghost use Rattle.nine.specs.inner.Cells.{pasted9, Quiet};
 
 // The place of direction k.
 pub fn place(k: usize) -> usize

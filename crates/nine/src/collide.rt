@@ -12,9 +12,10 @@ ghost use mathlib.Core.Bool.{true};
 ghost use lib.ListN.{length};
 ghost use Rattle.whole.specs.Fold.{tab};
 ghost use Rattle.lattice.specs.Cell.{relaxationGood};
-ghost use Rattle.lattice.specs.Body.{partsOf, Bounded, vec, Tame, steadyFlow, collidedPart};
-ghost use Rattle.flume.specs.Spread.{spreadLattice};
-ghost use Rattle.nine.specs.Cells.{Quiet};
+ghost use Rattle.lattice.specs.inner.Held.{partsOf, Bounded, vec, Tame, steadyFlow};
+ghost use Rattle.lattice.specs.Body.{collidedPart};
+ghost use Rattle.flume.specs.inner.Spread.{spreadLattice};
+ghost use Rattle.nine.specs.inner.Cells.{Quiet};
 
 // The nineteen parts after collision in place of those before, each by the divider.
 pub fn by_divider9(f: &mut [i32; 19], v: Flow, p: i64)

@@ -6,8 +6,8 @@ use lattice::Flow;
 ghost use mathlib.Core.Path.{_≡_};
 ghost use mathlib.Core.Bool.{true};
 ghost use Rattle.lattice.specs.Cell.{relaxationGood};
-ghost use Rattle.lattice.specs.Body.{steadyFlow};
-ghost use Rattle.nine.specs.Ends.{EndsNine};
+ghost use Rattle.lattice.specs.inner.Held.{steadyFlow};
+ghost use Rattle.nine.specs.inner.Ends.{EndsNine};
 
 pub fn ends9(v: Flow, p: i64) -> [u64; 18]
     requires { ⌜ (steadyFlow v ≡ true) × (relaxationGood p ≡ true) ⌝ }

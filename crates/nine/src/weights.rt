@@ -2,7 +2,7 @@
 ghost use mathlib.Core.Path.{_≡_};
 ghost use Prim.Native.Nat.{_<_};
 ghost use lib.IntN.{pos};
-ghost use Rattle.flume.specs.Spread.{spreadLattice};
+ghost use Rattle.flume.specs.inner.Spread.{spreadLattice};
 
 // The weight of place i of 1..18, in 36ths; 0 for an idle one.
 pub fn weight9(i: usize) -> i64

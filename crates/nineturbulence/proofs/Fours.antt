@@ -5,44 +5,45 @@ use mathlib.Core.List.{List, [], _∷_}
 use Prim.Native.Nat.{ℕ, _+_, _*_}
 use lib.Dec.{lit<}
 use lib.IntN.{ℤ, pos, _+ℤ_, _-ℤ_}
-use Rattle.whole.specs.Ring.{ring-by, quotes}
+use Rattle.whole.specs.laws.Ring.{ring-by, quotes}
 use Rattle.lattice.specs.declared.Flow.{Flow}
 use Rattle.lattice.specs.Lattice.{V3, dot, d2q9, open-lattice}
-use Rattle.lattice.specs.Cell.{still, quad}
-use Rattle.lattice.specs.Body.{partsOf, vec, steadyFlow, stillDir}
-use Rattle.flume.specs.Spread.{narrow, idle, spread, Idle, spreadLattice}
+use Rattle.lattice.specs.Cell.{cutEquilibrium, quad}
+use Rattle.lattice.specs.inner.Held.{partsOf, vec, steadyFlow}
+use Rattle.lattice.specs.Body.{equilibriumDir}
+use Rattle.flume.specs.inner.Spread.{narrow, idle, spread, Idle, spreadLattice}
 use Rattle.flume.proofs.Places.{is-idle, spread-none}
-use Rattle.flume.proofs.Turning.{still-none}
-use Rattle.nine.specs.Cells.{Quiet}
+use Rattle.flume.proofs.Turning.{equilibrium-none}
+use Rattle.nine.specs.inner.Cells.{Quiet}
 use Rattle.turbulence.specs.declared.stress.Shared.{Shared}
 use Rattle.turbulence.specs.Turbulence.{beyond}
-use Rattle.turbulence.specs.Post.{SharedIs, pairOf, both}
+use Rattle.turbulence.specs.inner.Post.{SharedIs, pairOf, both}
 use Rattle.turbulence.proofs.Steady.{pair-is}
 use Rattle.turbulence.proofs.Nines.{x-few, z-few, xz-few, zx-few}
 
 module _ (v : Flow) (steady : steadyFlow v ≡ true) (k : Shared) (is : SharedIs v k) where
-  pub x-pair : pairOf (v .x) k 3 ≡ stillDir spreadLattice (v .rho) (vec v) 1 +ℤ stillDir spreadLattice (v .rho) (vec v) 2
+  pub x-pair : pairOf (v .x) k 3 ≡ equilibriumDir spreadLattice (v .rho) (vec v) 1 +ℤ equilibriumDir spreadLattice (v .rho) (vec v) 2
   unfolding open-lattice spread idle narrow
   x-pair =
       pair-is v steady k is (v .x) (x-few v steady k is) spreadLattice 1 2 4 3 (lit< tt) refl refl refl
       (ring-by (v .x ∷ v .y ∷ v .z ∷ []) (search quotes depth 20) (search quotes depth 20) tt)
       (ring-by (v .x ∷ v .y ∷ v .z ∷ []) (search quotes depth 20) (search quotes depth 20) tt)
 
-  pub z-pair : pairOf (v .z) k 3 ≡ stillDir spreadLattice (v .rho) (vec v) 5 +ℤ stillDir spreadLattice (v .rho) (vec v) 6
+  pub z-pair : pairOf (v .z) k 3 ≡ equilibriumDir spreadLattice (v .rho) (vec v) 5 +ℤ equilibriumDir spreadLattice (v .rho) (vec v) 6
   unfolding open-lattice spread idle narrow
   z-pair =
       pair-is v steady k is (v .z) (z-few v steady k is) spreadLattice 5 6 4 3 (lit< tt) refl refl refl
       (ring-by (v .x ∷ v .y ∷ v .z ∷ []) (search quotes depth 20) (search quotes depth 20) tt)
       (ring-by (v .x ∷ v .y ∷ v .z ∷ []) (search quotes depth 20) (search quotes depth 20) tt)
 
-  pub xz-pair : pairOf (v .x +ℤ v .z) k 12 ≡ stillDir spreadLattice (v .rho) (vec v) 15 +ℤ stillDir spreadLattice (v .rho) (vec v) 16
+  pub xz-pair : pairOf (v .x +ℤ v .z) k 12 ≡ equilibriumDir spreadLattice (v .rho) (vec v) 15 +ℤ equilibriumDir spreadLattice (v .rho) (vec v) 16
   unfolding open-lattice spread idle narrow
   xz-pair =
       pair-is v steady k is (v .x +ℤ v .z) (xz-few v steady k is) spreadLattice 15 16 1 12 (lit< tt) refl refl refl
       (ring-by (v .x ∷ v .y ∷ v .z ∷ []) (search quotes depth 20) (search quotes depth 20) tt)
       (ring-by (v .x ∷ v .y ∷ v .z ∷ []) (search quotes depth 20) (search quotes depth 20) tt)
 
-  pub zx-pair : pairOf (v .x -ℤ v .z) k 12 ≡ stillDir spreadLattice (v .rho) (vec v) 17 +ℤ stillDir spreadLattice (v .rho) (vec v) 18
+  pub zx-pair : pairOf (v .x -ℤ v .z) k 12 ≡ equilibriumDir spreadLattice (v .rho) (vec v) 17 +ℤ equilibriumDir spreadLattice (v .rho) (vec v) 18
   unfolding open-lattice spread idle narrow
   zx-pair =
       pair-is v steady k is (v .x -ℤ v .z) (zx-few v steady k is) spreadLattice 17 18 1 12 (lit< tt) refl refl refl
@@ -52,10 +53,10 @@ module _ (v : Flow) (steady : steadyFlow v ≡ true) (k : Shared) (is : SharedIs
 -- ---- what stands at an idle place
 module _ (ρ : ℤ) (j : V3) where
   pub beyond-none : (f : ℕ → ℤ) (i : ℕ) → Idle i → f i ≡ pos 0 → beyond spreadLattice ρ j f i ≡ pos 0
-  unfolding beyond stillDir
+  unfolding beyond equilibriumDir
   beyond-none f i n e =
-      ap₂ (λ (x : ℤ) (w : ℕ). x -ℤ still w (quad ρ (dot (spreadLattice .e i) j) (dot j j)) ρ) e (spread-none 0 (d2q9 .weight) i n)
-      ∙ ap (λ (y : ℤ). pos 0 -ℤ y) (still-none (quad ρ (dot (spreadLattice .e i) j) (dot j j)) ρ)
+      ap₂ (λ (x : ℤ) (w : ℕ). x -ℤ cutEquilibrium w (quad ρ (dot (spreadLattice .e i) j) (dot j j)) ρ) e (spread-none 0 (d2q9 .weight) i n)
+      ∙ ap (λ (y : ℤ). pos 0 -ℤ y) (equilibrium-none (quad ρ (dot (spreadLattice .e i) j) (dot j j)) ρ)
 
   idle-pair : (f : List ℤ) (h : ℕ) → Quiet f → Idle (2 * h + 1) → Idle (2 * h + 2) → both (beyond spreadLattice ρ j (partsOf f)) h ≡ pos 0
   idle-pair f h q a b =

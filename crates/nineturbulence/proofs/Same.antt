@@ -1,18 +1,17 @@
 -- The flume's own lattice and the nineteen places give the same own p; and the tensor does not know the weights. Assumes nothing.
-use mathlib.Core.Path.{_≡_, refl, sym, ap, ap₂, _∙_}
-use Prim.Native.Nat.{ℕ, zero, suc, _+_, _*_, _≤_}
+use mathlib.Core.Path.{_≡_, refl, ap, ap₂, _∙_}
+use Prim.Native.Nat.{ℕ, _+_, _*_, _≤_}
 use native.Mathlib.Omega.{arith}
 use lib.IntN.{ℤ, pos, natAbs, _+ℤ_, _-ℤ_, _*ℤ_, *ℤ-zero}
-use Rattle.whole.specs.Fold.{dirs}
-use Rattle.whole.specs.Search.{Dir}
-use Rattle.lattice.specs.Lattice.{V3, dot, Lattice, d3q19, d2q9}
-use Rattle.lattice.specs.Cell.{still, quad}
-use Rattle.lattice.specs.Body.{stillDir}
+use Rattle.whole.specs.Fold.{Dir}
+use Rattle.lattice.specs.Lattice.{V3, dot, d3q19, d2q9}
+use Rattle.lattice.specs.Cell.{cutEquilibrium, quad}
+use Rattle.lattice.specs.Body.{equilibriumDir}
 use Rattle.grid.specs.State.{Scene}
-use Rattle.grid.specs.Step.{streamed, newDensity, newMomentum}
-use Rattle.flume.specs.Spread.{wide, Idle, Spreads, spreadLattice, plainScene, spreadScene}
+use Rattle.grid.specs.Step.{streamed, streamedDensity, streamedMomentum}
+use Rattle.flume.specs.inner.Spread.{wide, Spreads, spreadLattice, plainScene, spreadScene}
 use Rattle.flume.proofs.Places.{spread-at, dirs-same}
-use Rattle.flume.proofs.Flowing.{e-at, streamed-spreads, new-density-same, new-momentum-same}
+use Rattle.flume.proofs.Flowing.{e-at, streamed-spreads, streamed-density-same, streamed-momentum-same}
 use Rattle.turbulence.specs.Turbulence.{component, beyond, stress, square, tension, own, ownRelaxation}
 use Rattle.turbulence.proofs.Tensor.{tension-entries}
 use Rattle.nineturbulence.proofs.Fours.{beyond-none}
@@ -27,8 +26,8 @@ module _ (ρ : ℤ) (j : V3) (f h : ℕ → ℤ) (z : Spreads f h) where
   weight-at k d = spread-at 0 (d2q9 .weight) k (d .most)
 
   beyond-at : (k : ℕ) → Dir 8 k → beyond spreadLattice ρ j f (wide k) ≡ beyond d2q9 ρ j h k
-  unfolding beyond stillDir
-  beyond-at k d i = z .at k (d .most) i -ℤ still (weight-at k d i) (quad ρ (dot (e-at k d i) j) (dot j j)) ρ
+  unfolding beyond equilibriumDir
+  beyond-at k d i = z .at k (d .most) i -ℤ cutEquilibrium (weight-at k d i) (quad ρ (dot (e-at k d i) j) (dot j j)) ρ
 
   entry-same : (a b : ℕ) → stress spreadLattice (beyond spreadLattice ρ j f) a b ≡ stress d2q9 (beyond d2q9 ρ j h) a b
   unfolding stress d3q19 d2q9
@@ -59,8 +58,8 @@ module _ (ρ : ℤ) (j : V3) (f h : ℕ → ℤ) (z : Spreads f h) where
 
 -- ---- own p of cell c in a step
 pub own-in-step : (S : Scene) (p : ℤ) (c : ℕ)
-    → ownRelaxation spreadLattice (newDensity (spreadScene S) c) (newMomentum (spreadScene S) c) p (streamed (spreadScene S) c)
-    ≡ ownRelaxation d2q9 (newDensity (plainScene S) c) (newMomentum (plainScene S) c) p (streamed (plainScene S) c)
+    → ownRelaxation spreadLattice (streamedDensity (spreadScene S) c) (streamedMomentum (spreadScene S) c) p (streamed (spreadScene S) c)
+    ≡ ownRelaxation d2q9 (streamedDensity (plainScene S) c) (streamedMomentum (plainScene S) c) p (streamed (plainScene S) c)
 own-in-step S p c =
-    own-same (newDensity (spreadScene S) c) (newMomentum (spreadScene S) c) (streamed (spreadScene S) c) (streamed (plainScene S) c) (streamed-spreads S c) p
-    ∙ ap₂ (λ (ρ : ℤ) (j : V3). ownRelaxation d2q9 ρ j p (streamed (plainScene S) c)) (new-density-same S c) (new-momentum-same S c)
+    own-same (streamedDensity (spreadScene S) c) (streamedMomentum (spreadScene S) c) (streamed (spreadScene S) c) (streamed (plainScene S) c) (streamed-spreads S c) p
+    ∙ ap₂ (λ (ρ : ℤ) (j : V3). ownRelaxation d2q9 ρ j p (streamed (plainScene S) c)) (streamed-density-same S c) (streamed-momentum-same S c)

@@ -7,11 +7,11 @@ ghost use mathlib.Core.Path.{_≡_};
 ghost use mathlib.Core.Bool.{true};
 ghost use lib.IntN.{natAbs};
 ghost use Rattle.lattice.specs.Cell.{relaxationGood};
-ghost use Rattle.lattice.specs.Body.{partsOf, Bounded, vec, steadyFlow};
-ghost use Rattle.flume.specs.Spread.{spreadLattice};
-ghost use Rattle.nine.specs.Cells.{Quiet};
+ghost use Rattle.lattice.specs.inner.Held.{partsOf, Bounded, vec, steadyFlow};
+ghost use Rattle.flume.specs.inner.Spread.{spreadLattice};
+ghost use Rattle.nine.specs.inner.Cells.{Quiet};
 ghost use Rattle.turbulence.specs.Turbulence.{ownRelaxation};
-ghost use Rattle.turbulence.specs.Post.{Keeps};
+ghost use Rattle.turbulence.specs.inner.Post.{Keeps};
 
 // Own p of a cell that has passed stage 3's test; keep is `kept` of p.
 pub fn own_relaxation9(f: [i32; 19], v: Flow, p: i64, keep: u64) -> i64

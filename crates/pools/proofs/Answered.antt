@@ -8,18 +8,18 @@ use native.Mathlib.Omega.{arith}
 use lib.IntN.{ℤ, pos, _+ℤ_}
 use lib.ListN.{getD, drop, List·getD-append}
 use Rattle.whole.specs.Fold.{count, sum, tab}
-use Rattle.whole.specs.Order.{≤-or}
-use Rattle.whole.specs.Sums.{sum-cong}
-use Rattle.whole.specs.Tab.{length-tab, getD-tab}
+use Rattle.whole.specs.laws.Order.{≤-or}
+use Rattle.whole.specs.laws.Sums.{sum-cong}
+use Rattle.whole.specs.laws.Tab.{length-tab, getD-tab}
 use Rattle.lattice.specs.Lattice.{d3q19}
 use Rattle.lattice.proofs.Paired.{paired19}
 use Rattle.grid.specs.declared.Sides.{Sides}
 use Rattle.grid.specs.declared.Answer.{Answer}
 use Rattle.grid.specs.declared.Answer.the-variants as answer
 use Rattle.grid.specs.Grid.{cellsOf, gridOf}
-use Rattle.grid.specs.State.{Lent, stateOf}
+use Rattle.grid.specs.State.{Lent, stateOf, flagOf}
 use Rattle.grid.specs.Demands.{water, waterOf}
-use Rattle.grid.specs.Passes.{Flagged, flagOf}
+use Rattle.grid.specs.inner.Passes.{Flagged}
 use Rattle.grid.proofs.Box.{grid-laid}
 use Rattle.pools.specs.declared.Told.{Told}
 use Rattle.pools.specs.declared.Told.the-variants.{Pools, Refused}

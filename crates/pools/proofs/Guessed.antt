@@ -11,20 +11,19 @@ use lib.Dec.{eqb, leb, ltb}
 use lib.IntN.{ℤ, pos}
 use lib.ListN.{length, drop, replicate}
 use borrow.Author.Tests.{eqb-true, leb-true, ltb-true, not-true}
-use Rattle.whole.specs.Bools.{and-left, and-right, and-true, or-cases, where-then, cond-no}
+use Rattle.whole.specs.laws.Bools.{and-left, and-right, and-true, or-cases, where-then, cond-no}
 use Rattle.whole.specs.Fold.{all, anyDir, count, sum, tab}
-use Rattle.whole.specs.Search.{Dir, any-dir, any-where, all-at}
-use Rattle.whole.specs.Sums.{sum-cong}
-use Rattle.whole.specs.Tab.{tab-cong}
+use Rattle.whole.specs.laws.Search.{any-dir, any-where, all-at}
+use Rattle.whole.specs.laws.Sums.{sum-cong}
+use Rattle.whole.specs.laws.Tab.{tab-cong}
 use Rattle.lattice.specs.Lattice.{Lattice, d3q19}
 use Rattle.lattice.proofs.Paired.{Paired, paired19}
 use Rattle.grid.specs.declared.Sides.{Sides}
 use Rattle.grid.specs.declared.Answer.{Answer}
 use Rattle.grid.specs.declared.Answer.the-variants as answer
 use Rattle.grid.specs.Grid.{Grid, cellsOf, gridOf}
-use Rattle.grid.specs.State.{Lent, liquid, stateOf}
+use Rattle.grid.specs.State.{Lent, liquid, stateOf, flagOf}
 use Rattle.grid.specs.Demands.{Walled}
-use Rattle.grid.specs.Passes.{flagOf}
 use Rattle.grid.proofs.Laid.{Laid}
 use Rattle.grid.proofs.Box.{grid-laid}
 use Rattle.pools.specs.declared.Told.{Told}

@@ -10,11 +10,11 @@ use lib.IntN.{ℤ, pos, natAbs}
 use lib.Signed.{leZ}
 use lib.ListN.{length, getD, replicate, drop}
 use borrow.Author.Tests.{eqb-true, le-leb, lt-leb}
-use Rattle.whole.specs.Bools.{and-left, and-right}
-use Rattle.whole.specs.Bounds.{abs-below}
+use Rattle.whole.specs.laws.Bools.{and-left, and-right}
+use Rattle.whole.specs.laws.Bounds.{abs-below}
 use Rattle.whole.specs.Fold.{count, sum, tab}
-use Rattle.whole.specs.Order.{leZ-true}
-use Rattle.whole.specs.Tab.{length-tab, getD-tab}
+use Rattle.whole.specs.laws.Order.{leZ-true}
+use Rattle.whole.specs.laws.Tab.{length-tab, getD-tab}
 use Rattle.lattice.specs.Lattice.{d3q19, density}
 use Rattle.lattice.specs.Cell.{dense}
 use Rattle.lattice.proofs.Paired.{paired19}
@@ -22,9 +22,9 @@ use Rattle.grid.specs.declared.Sides.{Sides}
 use Rattle.grid.specs.declared.Answer.{Answer}
 use Rattle.grid.specs.declared.Answer.the-variants as answer
 use Rattle.grid.specs.Grid.{cellsOf, sidesGood, gridOf, box}
-use Rattle.grid.specs.State.{Lent, byFlag, liquid, stateOf}
+use Rattle.grid.specs.State.{Lent, byFlag, liquid, stateOf, flagOf}
 use Rattle.grid.specs.Outcome.{goodAnswer}
-use Rattle.grid.specs.Passes.{Flagged, flagOf}
+use Rattle.grid.specs.inner.Passes.{Flagged}
 use Rattle.grid.proofs.Accepted.{passed, none-found}
 use Rattle.grid.proofs.Box.{grid-laid}
 use Rattle.grid.proofs.GoodSides.{good-sides}
@@ -35,13 +35,13 @@ use Rattle.pumps.proofs.Checked as checked
 use Rattle.pools.specs.declared.Told.the-variants.{Pools, Refused}
 use Rattle.pools.specs.Pools.{mark, poolCells, poolWater}
 use Rattle.pools.specs.Outcome.{Room, room, countOf, markOf, cellsIn, waterIn, tested, fits, byTests, poolsAnswer, poolsRoom, Asked}
-use Rattle.pools.specs.Flood.{Finished}
-use Rattle.pools.specs.Listing.{Listing, Listed}
+use Rattle.pools.specs.inner.Flood.{Finished}
+use Rattle.pools.specs.inner.Listing.{Listing, Listed}
 use Rattle.pools.proofs.Counts.{count-cong}
 use Rattle.pools.proofs.Marks.{mark-to}
 use Rattle.pools.proofs.Flooding.{walled, cells-are}
 use Rattle.pools.proofs.Listings.{headed}
-use Rattle.whole.specs.Sums.{sum-cong}
+use Rattle.whole.specs.laws.Sums.{sum-cong}
 
 -- what cell j adds to the water of pool k + 1, by its mark
 abbrev mass-by : ℕ → List ℤ → ℕ → ℕ → ℤ

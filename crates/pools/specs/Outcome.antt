@@ -11,9 +11,8 @@ use Rattle.grid.specs.declared.Sides.{Sides}
 use Rattle.grid.specs.declared.Answer.{Answer}
 use Rattle.grid.specs.declared.Answer.the-variants as answer
 use Rattle.grid.specs.Grid.{cellsOf, sidesGood, gridOf}
-use Rattle.grid.specs.State.{Lent, stateOf}
+use Rattle.grid.specs.State.{Lent, stateOf, flagOf}
 use Rattle.grid.specs.Outcome.{orRefuse}
-use Rattle.grid.specs.Passes.{flagOf}
 use Rattle.pumps.specs.Three.{threeLengths, threeGood}
 use Rattle.pools.specs.declared.Told.{Told}
 use Rattle.pools.specs.declared.Told.the-variants.{Pools, Refused}

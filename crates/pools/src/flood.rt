@@ -7,8 +7,8 @@ ghost use mathlib.Core.Path.{_≡_};
 ghost use Prim.Native.Nat.{_+_, _≤_, _<_};
 ghost use lib.ListN.{length, replicate};
 ghost use Rattle.grid.specs.Grid.{cellsOf};
-ghost use Rattle.grid.specs.Passes.{Flagged};
-ghost use Rattle.pools.specs.Flood.{Marked, Touching, Touched, Laying, Sound, Spread, Behind, Drained, Flooded, Finished};
+ghost use Rattle.grid.specs.inner.Passes.{Flagged};
+ghost use Rattle.pools.specs.inner.Flood.{Marked, Touching, Touched, Laying, Sound, Spread, Behind, Drained, Flooded, Finished};
 
 // How far the scan has come: the queue's length, and the pools found.
 struct Found {

@@ -12,8 +12,8 @@ use lib.Dec.{eqb}
 use lib.IntN.{ℤ}
 use lib.ListN.{length}
 use Rattle.whole.specs.Fold.{first}
-use Rattle.whole.specs.Search.{first-passes, first-none}
-use Rattle.whole.specs.Order.{leZ-false}
+use Rattle.whole.specs.laws.Search.{first-passes, first-none}
+use Rattle.whole.specs.laws.Order.{leZ-false}
 use Rattle.grid.specs.declared.Sides.{Sides}
 use Rattle.grid.specs.declared.Answer.the-variants as answer
 use Rattle.grid.specs.Grid.{sidesGood}

@@ -8,14 +8,14 @@ use borrow.Author.Tests.{eqb-true, leb-true}
 use lib.Dec.{eqb, leb}
 use lib.IntN.{ℤ}
 use lib.ListN.{length}
-use Rattle.whole.specs.Bools.{and-left, and-right}
+use Rattle.whole.specs.laws.Bools.{and-left, and-right}
 use Rattle.whole.specs.Fold.{first}
 use Rattle.grid.specs.declared.Sides.{Sides}
 use Rattle.grid.specs.declared.Answer.{Answer}
 use Rattle.grid.specs.declared.Answer.the-variants.{Done, Refused}
 use Rattle.grid.specs.Grid.{sidesGood}
 use Rattle.tunnel.specs.Refusal.{orElse}
-use Rattle.tunnel.specs.Place.{placeOf, refusalNumber}
+use Rattle.tunnel.specs.Place.{placingOf, refusalNumber}
 use Rattle.tunnel.specs.Depth.{depthOf}
 use Rattle.profile.specs.declared.Frame.{Frame}
 use Rattle.profile.specs.Profile.{Survey, seen, notAbove, far, broken}
@@ -53,7 +53,7 @@ unfolding openAnswer listWhole
 opened f flags fills m points kinds depths e =
     let n = depthOf (f .sides) flags fills 0 0 .number in
     let whole = eqb points (3 * m) && eqb kinds m && eqb depths m in
-    let r = refusalNumber (placeOf (f .sides) (f .edge) (f .origin) (f .origin)) in
+    let r = refusalNumber (placingOf (f .sides) (f .edge) (f .origin) (f .origin)) in
     let last = orElse (not (eqb r 3)) (Refused 3 0) Done in
     let long = orElse (leb m 2000) (Refused 22 0) last in
     let some = orElse (not (eqb m 0)) (Refused 22 0) long in

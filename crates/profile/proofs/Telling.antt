@@ -17,7 +17,7 @@ use Rattle.profile.specs.declared.Profiled.{Profiled}
 use Rattle.profile.specs.declared.Profiled.the-variants as profiled
 use Rattle.profile.specs.Profile.{Survey, survey, depthAt, deepest}
 use Rattle.profile.specs.Outcome.{testsAnswer, deepestAnswer, profiledBy, profileAnswer, kindsBy, DepthsOf, DepthsBy, Told}
-use Rattle.profile.specs.Lines.{Written}
+use Rattle.profile.specs.inner.Lines.{Written}
 
 pub told-refused : (v : Survey) (chainages : List ℤ) (kinds : List ℕ) (depths : List Float) (n p : ℕ) → Refused n p ≡ testsAnswer v chainages (length kinds) (length depths)
     → Told v chainages kinds depths (profiled.Refused n p) kinds depths

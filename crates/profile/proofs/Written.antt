@@ -9,7 +9,7 @@ use lib.Ieee.{Float}
 use lib.ListN.{length, getD, set, length-set}
 use lib.Seq.{getD-set-same, getD-set-other}
 use Rattle.whole.specs.Fold.{tab}
-use Rattle.whole.specs.Tab.{upto-more, upto-all}
+use Rattle.whole.specs.laws.Tab.{upto-more, upto-all}
 use Rattle.grid.specs.declared.Sides.{Sides}
 use Rattle.tunnel.specs.declared.Placed.{Placed}
 use Rattle.tunnel.specs.declared.Placed.the-variants.{Refused, Cell}
@@ -21,7 +21,7 @@ use Rattle.tunnel.proofs.Few.{few-depth}
 use Rattle.profile.specs.Kinds.{lineFor, lineKind, depthLine}
 use Rattle.profile.specs.Profile.{Survey, placedAt, columnOf, shownBy, seen, depthAt}
 use Rattle.profile.specs.Outcome.{DepthsOf}
-use Rattle.profile.specs.Lines.{LinesTo}
+use Rattle.profile.specs.inner.Lines.{LinesTo}
 
 -- a depth is below 2^24 65,536ths
 few-shown : (s : Sides) (flags fills : List ℕ) (p : Placed) → shownBy s flags fills p .sum < 16777216

@@ -12,7 +12,7 @@ use Rattle.grid.specs.declared.Answer.{Answer}
 use Rattle.grid.specs.declared.Answer.the-variants.{Done, Refused}
 use Rattle.tunnel.specs.Refusal.{orElse}
 use Rattle.tunnel.specs.Exact.{Exactly}
-use Rattle.tunnel.specs.Place.{placeOf, refusalNumber}
+use Rattle.tunnel.specs.Place.{placingOf, refusalNumber}
 use Rattle.tunnel.specs.Depth.{zeroFloat, depthOf}
 use Rattle.profile.specs.declared.Frame.{Frame}
 use Rattle.profile.specs.declared.Profiled.{Profiled}
@@ -35,7 +35,7 @@ openAnswer f flags fills m points kinds depths =
     (orElse (listWhole m points kinds depths) (Refused 2 0)
     (orElse (not (eqb m 0)) (Refused 22 0)
     (orElse (leb m 2000) (Refused 22 0)
-    (orElse (not (eqb (refusalNumber (placeOf (f .sides) (f .edge) (f .origin) (f .origin))) 3)) (Refused 3 0)
+    (orElse (not (eqb (refusalNumber (placingOf (f .sides) (f .edge) (f .origin) (f .origin))) 3)) (Refused 3 0)
     Done)))))
 
 -- 4 and 6 as for depth, by list order

@@ -12,7 +12,7 @@ use Rattle.grid.specs.declared.Sides.{Sides}
 use Rattle.tunnel.specs.declared.Point.{Point}
 use Rattle.tunnel.specs.declared.Placed.{Placed}
 use Rattle.tunnel.specs.declared.Placed.the-variants.{Refused, Cell}
-use Rattle.tunnel.specs.Place.{placeOf, refusalNumber}
+use Rattle.tunnel.specs.Place.{placingOf, refusalNumber}
 use Rattle.tunnel.specs.Depth.{Reading, refused, depthOf}
 use Rattle.profile.specs.declared.Frame.{Frame}
 
@@ -34,7 +34,7 @@ pointAt points i = record { x = getD points (3 * i) (pos 0); y = getD points (3 
 
 -- what placing answers for it
 unfoldable pub placedAt : Frame → List ℤ → ℕ → Placed
-placedAt f points i = placeOf (f .sides) (f .edge) (f .origin) (pointAt points i)
+placedAt f points i = placingOf (f .sides) (f .edge) (f .origin) (pointAt points i)
 
 -- what depth answers for the column of cell c
 unfoldable pub columnOf : Sides → List ℕ → List ℕ → ℕ → Reading

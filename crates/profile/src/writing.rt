@@ -5,7 +5,7 @@ use crate::points;
 use tunnel::answers;
 use tunnel::exact;
 ghost use mathlib.Core.Path.{_≡_};
-ghost use Rattle.profile.specs.Lines.{bestOf, Ready, Written};
+ghost use Rattle.profile.specs.inner.Lines.{bestOf, Ready, Written};
 
 // The deepest point so far, and its depth in 65,536ths; depth 0 while no point is wet.
 pub(crate) struct Best {

@@ -8,28 +8,29 @@ use borrow.Author.Tests.{lt-ltb, le-ltb, eq-eqb, ne-eqb}
 use lib.Dec.{eqb, ltb}
 use lib.IntN.{ℤ, pos}
 use lib.Signed.{leZ, _<ℤ_}
-use lib.ListN.{length, getD, set}
-use Rattle.whole.specs.Bools.{and-left, and-right, cond-yes, cond-no}
-use Rattle.whole.specs.Bounds.{abs-below}
-use Rattle.whole.specs.Parts.{≤-parts, parts-<}
-use Rattle.whole.specs.Order.{leZ-true}
-use Rattle.whole.specs.Machine.{Within}
+use lib.ListN.{length, getD}
+use Rattle.whole.specs.laws.Bools.{and-left, and-right, cond-yes, cond-no}
+use Rattle.whole.specs.laws.Bounds.{abs-below}
+use Rattle.whole.specs.laws.Parts.{≤-parts, parts-<}
+use Rattle.whole.specs.laws.Order.{leZ-true}
+use Rattle.whole.specs.laws.Machine.{Within}
 use Rattle.lattice.specs.Lattice.{d3q19, density}
 use Rattle.lattice.specs.Cell.{dense}
 use Rattle.grid.specs.declared.Sides.{Sides}
 use Rattle.grid.specs.declared.Answer.{Answer}
 use Rattle.grid.specs.declared.Answer.the-variants.{Done, Refused}
 use Rattle.grid.specs.Grid.{cellsOf}
-use Rattle.grid.specs.State.{Lent, lent, liquid, stateOf}
-use Rattle.grid.specs.Sight.{Body}
+use Rattle.grid.specs.State.{Lent, lent, liquid, stateOf, partOf}
+use Rattle.grid.specs.inner.Sight.{Body}
 use Rattle.grid.specs.Outcome.{orRefuse}
 use Rattle.grid.proofs.Lists.{getD-there}
 use Rattle.grid.proofs.Prepared.{cell-body, cell-mass}
-use Rattle.grid.specs.Fill.{partOf, Weighty}
+use Rattle.grid.specs.inner.Fill.{Weighty}
 use Rattle.pumps.specs.declared.Acted.{Acted}
 use Rattle.pumps.specs.declared.Acted.the-variants as acted
 use Rattle.pumps.specs.Three.{numberIn, totalGood, threeAnswer}
-use Rattle.pumps.specs.Acts.{movedOf, countedIn, actGood, andThen, actAnswer, actSet, actedBy, setBy, ActTold, Working, moveOr, Worked}
+use Rattle.pumps.specs.Acts.{movedOf, countedIn, actGood, andThen, actAnswer, actSet, actedBy, setBy, ActTold}
+use Rattle.pumps.specs.inner.Working.{Working, moveOr, Worked}
 use Rattle.pumps.proofs.Checked.{Passed}
 
 -- ---- what the work asks of a set that passed

@@ -9,10 +9,11 @@ use lib.Signed.{leZ, ltZ, _≤ℤ_, mag}
 use mir.Syntax.{Width}
 use mir.Val.{toZ, ofZ, hbits}
 use mir.Facts.{toZ-ofZ}
-use Rattle.whole.specs.Bools.{and-left, and-right, and-true}
-use Rattle.whole.specs.Parts.{up, down, Is, is-self, is-add, add-pn, neg-pn, parts-≤, abs-max, one-zero}
-use Rattle.whole.specs.Order.{≤-leZ, test-le, test-nle, test-nlt}
-use Rattle.whole.specs.Machine.{Within}
+use Rattle.whole.specs.laws.Bools.{and-left, and-right, and-true}
+use Rattle.whole.specs.Fold.{up, down}
+use Rattle.whole.specs.laws.Parts.{Is, is-self, is-add, add-pn, neg-pn, parts-≤, abs-max, one-zero}
+use Rattle.whole.specs.laws.Order.{≤-leZ, test-le, test-nle, test-nlt}
+use Rattle.whole.specs.laws.Machine.{Within}
 use Rattle.lattice.specs.Cell.{massGood}
 use Rattle.pumps.specs.Three.{totalGood}
 use Rattle.pumps.specs.Acts.{amountGood, movedOf, massOf, actGood}

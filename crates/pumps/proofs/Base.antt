@@ -5,7 +5,7 @@ use mathlib.Core.Bool.{true}
 use Prim.Native.Nat.{_*_}
 use lib.ListN.{length}
 use borrow.Author.Tests.{eq-eqb}
-use Rattle.whole.specs.Bools.{and-true}
+use Rattle.whole.specs.laws.Bools.{and-true}
 use Rattle.lattice.specs.Lattice.{d3q19}
 use Rattle.grid.specs.declared.Sides.{Sides}
 use Rattle.grid.specs.declared.Answer.the-variants.{Done}

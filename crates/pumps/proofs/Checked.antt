@@ -8,18 +8,16 @@ use borrow.Author.Tests.{eqb-true, eq-eqb}
 use lib.Dec.{eqb, leb}
 use lib.IntN.{ℤ, pos}
 use lib.ListN.{length, getD, take}
-use Rattle.whole.specs.Bools.{and-left, and-right, and-true}
+use Rattle.whole.specs.laws.Bools.{and-left, and-right, and-true}
 use Rattle.lattice.specs.Lattice.{Lattice, d3q19}
 use Rattle.grid.specs.declared.Sides.{Sides}
 use Rattle.grid.specs.declared.Answer.{Answer}
 use Rattle.grid.specs.declared.Answer.the-variants.{Done, Refused}
-use Rattle.grid.specs.Grid.{Grid, cellsOf, sidesGood, gridOf}
+use Rattle.grid.specs.Grid.{Grid, cellsOf, sidesGood, gridOf, box}
 use Rattle.grid.specs.State.{Lent, State, stateOf}
-use Rattle.grid.specs.Good.{badFlag, badFluid, badRule}
-use Rattle.grid.specs.Between.{Sized}
+use Rattle.grid.specs.Good.{badFlag, badFluid, badRule, cellGood}
+use Rattle.grid.specs.inner.Between.{Sized}
 use Rattle.grid.specs.Outcome.{orRefuse, goodAnswer}
-use Rattle.grid.specs.Good.{cellGood}
-use Rattle.grid.specs.Grid.{box}
 use Rattle.grid.proofs.Accepted.{passed, none-found, Sound, sound, cell-good}
 use Rattle.pumps.specs.Three.{numberIn, headOf, totalGood, totalsGood, threeLengths, threeGood, threeAnswer}
 

@@ -10,9 +10,9 @@ use lib.Dec.{eqb, ltb}
 use lib.IntN.{ℤ, pos, negℤ, _+ℤ_, _-ℤ_}
 use lib.ListN.{length, getD, length-set}
 use lib.Seq.{getD-set-same, getD-set-other}
-use Rattle.whole.specs.Bools.{and-left, and-true, cond-yes, cond-no}
+use Rattle.whole.specs.laws.Bools.{and-left, and-true, cond-yes, cond-no}
 use Rattle.whole.specs.Fold.{all}
-use Rattle.whole.specs.Search.{first-all, first-none}
+use Rattle.whole.specs.laws.Search.{first-all, first-none}
 use Rattle.lattice.specs.Lattice.{d3q19, density}
 use Rattle.lattice.specs.Cell.{massGood, carryGood, fillOf}
 use Rattle.lattice.specs.Body.{eqZ, bodyGood}
@@ -20,7 +20,7 @@ use Rattle.grid.specs.declared.Sides.{Sides}
 use Rattle.grid.specs.declared.Answer.{Answer}
 use Rattle.grid.specs.declared.Answer.the-variants.{Done, Refused}
 use Rattle.grid.specs.Grid.{cellsOf, gridOf, box}
-use Rattle.grid.specs.State.{Lent, State, byFlag, stateOf}
+use Rattle.grid.specs.State.{Lent, State, byFlag, stateOf, partOf}
 use Rattle.grid.specs.Step.{fillFor}
 use Rattle.grid.specs.Good.{dryGood, interfaceGood, fluidGood, fillGood, cellGood, badRule}
 use Rattle.grid.specs.Outcome.{orRefuse, goodAnswer}
@@ -28,7 +28,6 @@ use Rattle.grid.specs.Demands.{fluidWater, interfaceWater, water, waterOf}
 use Rattle.grid.proofs.Accepted.{passed, pass-good}
 use Rattle.grid.proofs.Lists.{getD-there}
 use Rattle.grid.proofs.Prepared.{cell-mass}
-use Rattle.grid.specs.Fill.{partOf}
 use Rattle.pumps.specs.Three.{numberIn, totalGood, threeAnswer}
 use Rattle.pumps.specs.Acts.{movedOf, massOf, countedIn, actGood, andThen, actAnswer, actSet}
 use Rattle.pumps.specs.Demands.{balance, Kept}

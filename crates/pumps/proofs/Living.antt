@@ -5,7 +5,7 @@ use mathlib.Core.Bool.{true}
 use lib.Dec.{eqb}
 use lib.IntN.{ℤ, pos, _+ℤ_, _-ℤ_, +ℤ-assoc, +ℤ-idl, +ℤ-idr}
 use lib.ListN.{length}
-use Rattle.whole.specs.Bools.{and-left}
+use Rattle.whole.specs.laws.Bools.{and-left}
 use Rattle.lattice.specs.Lattice.{d3q19}
 use Rattle.grid.specs.declared.Sides.{Sides}
 use Rattle.grid.specs.declared.Answer.the-variants.{Done}

@@ -9,7 +9,8 @@ use whole::wide;
 ghost use mathlib.Core.Path.{_≡_};
 ghost use mathlib.Core.Bool.{true, false};
 ghost use Rattle.grid.specs.State.{lent};
-ghost use Rattle.pumps.specs.Acts.{Working, Worked, countedIn, ActTold};
+ghost use Rattle.pumps.specs.inner.Working.{Working, Worked};
+ghost use Rattle.pumps.specs.Acts.{countedIn, ActTold};
 
 // The act on an interface cell of a set that passed its tests: mass, fill and total number k.
 fn worked(

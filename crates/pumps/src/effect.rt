@@ -1,8 +1,9 @@
 // What an act does to a cell's mass and to its total, in numbers.
 use whole::wide;
 ghost use mathlib.Core.Path.{_≡_};
-ghost use Rattle.whole.specs.Machine.{Within};
-ghost use Rattle.pumps.specs.Acts.{amountGood, movedOf, massOf, EffectIs};
+ghost use Rattle.whole.specs.laws.Machine.{Within};
+ghost use Rattle.pumps.specs.Acts.{amountGood, movedOf, massOf};
+ghost use Rattle.pumps.specs.inner.Working.{EffectIs};
 
 // Whether the act may be, what it moves, and the mass and the total after it.
 pub(crate) struct Change {

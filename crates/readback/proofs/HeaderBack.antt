@@ -7,8 +7,8 @@ use native.Mathlib.Omega.{arith}
 use borrow.Author.Tests.{eq-eqb}
 use lib.IntN.{ℤ, pos, negsuc, natAbs, _*ℤ_}
 use lib.ListN.{length}
-use Rattle.whole.specs.Bounds.{abs-mul}
-use Rattle.whole.specs.Quot.{quot-exact}
+use Rattle.whole.specs.laws.Bounds.{abs-mul}
+use Rattle.whole.specs.laws.Quot.{quot-exact}
 use Rattle.grid.specs.declared.Sides.{Sides}
 use Rattle.heights.specs.declared.text.Kind.the-variants.{Word}
 use Rattle.heights.specs.declared.number.Number.the-variants.{Thousandths}
@@ -19,7 +19,7 @@ use Rattle.heights.specs.Text.{ofKind, nextLine, fromLine, open-text}
 use Rattle.heights.specs.Number.{numberOf, open-number}
 use Rattle.heights.specs.Header.{keyOf, isWhole, checked, lineValue, entryOf, headerOf}
 use Rattle.heights.proofs.Headers.{header-so}
-use Rattle.spelling.specs.Spelling.{spellOf, signOf, wholeOf, metresOf}
+use Rattle.spelling.specs.Spelling.{spellOf, wholeOf, metresOf}
 use Rattle.spelling.proofs.Widths.{plain-sign}
 use Rattle.depths.specs.declared.Corner.{Corner}
 use Rattle.depths.specs.Map.{ncols, nrows, lineText, headerText}

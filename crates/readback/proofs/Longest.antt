@@ -11,26 +11,23 @@ use lib.Dec.{leb}
 use lib.IntN.{ℤ, pos, negsuc, natAbs}
 use lib.ListN.{length, length-append}
 use lib.Signed.{leZ}
-use Rattle.whole.specs.Bools.{and-left, and-right}
+use Rattle.whole.specs.laws.Bools.{and-left, and-right}
 use Rattle.whole.specs.Fold.{all, total}
-use Rattle.whole.specs.Sums.{total-le}
+use Rattle.whole.specs.laws.Sums.{total-le}
 use Rattle.lattice.specs.Cell.{edgeGood, coordinateGood}
 use Rattle.grid.specs.declared.Sides.{Sides}
-use Rattle.grid.specs.declared.Answer.the-variants.{Done}
-use Rattle.grid.specs.State.{Lent}
 use Rattle.grid.proofs.GoodSides.{good-sides}
 use Rattle.tunnel.specs.Depth.{isWall, openFill}
 use Rattle.tunnel.proofs.Columns.{open-le}
 use Rattle.spelling.specs.Spelling.{spellOf, wholeOf, metresOf, open-spelling}
 use Rattle.spelling.proofs.Widths.{width-fits, plain-sign}
 use Rattle.spelling.proofs.Putting.{whole-long, metres-long, spell-long, sign-most}
-use Rattle.depths.specs.declared.Corner.{Corner}
-use Rattle.depths.specs.Asks.{Measured}
+use Rattle.depths.specs.inner.Asks.{Measured}
 use Rattle.depths.specs.Map.{depthAt, behind, rowText, rowsText}
-use Rattle.depths.specs.Outcome.{mapOf, cornerGood, mapAnswer, mapWritten}
+use Rattle.depths.specs.Outcome.{mapOf, cornerGood, mapWritten}
 use Rattle.depths.proofs.Measuring.{none-bad}
 use Rattle.depths.proofs.Texts.{header-long, map-long, row-most}
-use Rattle.depths.proofs.WrittenBy.{Fit, fit-measured, write-fit}
+use Rattle.depths.proofs.WrittenBy.{fit-measured, write-fit}
 use Rattle.readback.specs.Demands.{Longest}
 use Rattle.readback.proofs.Returned.{within}
 

@@ -1,5 +1,5 @@
 -- The demands hold: what is spelled is read, and the reader accepts every text that the writer writes. Assumes nothing.
-use mathlib.Core.Path.{_≡_, refl, sym, ap, ap₂, _∙_}
+use mathlib.Core.Path.{_≡_, refl, ap, _∙_}
 use mathlib.Core.Bool.{Bool, true, false, cond, _&&_}
 use mathlib.Core.List.{List, _++_}
 use Prim.Native.Nat.{ℕ, zero, suc, _+_, _*_, _/_, _≤_, _<_}
@@ -10,20 +10,16 @@ use lib.IntN.{ℤ, pos, negsuc, natAbs}
 use lib.ListN.{length, drop}
 use lib.Seq.{take-at}
 use lib.Signed.{leZ}
-use Rattle.whole.specs.Bools.{and-left, and-right}
+use Rattle.whole.specs.laws.Bools.{and-left, and-right}
 use Rattle.whole.specs.Fold.{all, total}
-use Rattle.whole.specs.Sums.{total-le}
+use Rattle.whole.specs.laws.Sums.{total-le}
 use Rattle.lattice.specs.Cell.{edgeGood, coordinateGood}
 use Rattle.lattice.specs.declared.Settings.{Settings}
 use Rattle.grid.specs.declared.Sides.{Sides}
 use Rattle.grid.specs.declared.Answer.{Answer}
 use Rattle.grid.specs.declared.Answer.the-variants.{Done}
-use Rattle.grid.specs.Grid.{sidesGood, cellsOf}
 use Rattle.grid.specs.State.{Lent}
-use Rattle.grid.specs.Outcome.{accepted, orRefuse}
 use Rattle.grid.proofs.GoodSides.{good-sides}
-use Rattle.record.specs.declared.Head.{Head}
-use Rattle.record.specs.Layout.{siteGood}
 use Rattle.tunnel.specs.Depth.{isWall, openFill}
 use Rattle.tunnel.proofs.Columns.{open-le}
 use Rattle.heights.specs.declared.header.Header.{Header}
@@ -33,9 +29,9 @@ use Rattle.heights.specs.Text.{fromLine}
 use Rattle.heights.specs.Header.{headerOf}
 use Rattle.heights.specs.Rows.{rowsOf}
 use Rattle.invert.specs.declared.testing.Lengths.{Lengths}
-use Rattle.invert.specs.Outcome.{setFits, givenAnswer, rowsAnswer, gridAnswer, toldHead, headBy, readHead}
+use Rattle.invert.specs.Outcome.{givenAnswer, rowsAnswer, gridAnswer, toldHead, headBy, readHead}
 use Rattle.depths.specs.declared.Corner.{Corner}
-use Rattle.depths.specs.Asks.{Measured}
+use Rattle.depths.specs.inner.Asks.{Measured}
 use Rattle.depths.specs.Map.{headerText, depthAt, rowsText, mapText}
 use Rattle.depths.specs.Outcome.{mapOf, cornerGood, mapAnswer, mapWritten, mapRoom}
 use Rattle.depths.proofs.Measuring.{none-bad}

@@ -1,6 +1,6 @@
 -- The reader takes the rows that the writer writes: each a line of so many whole numbers, and nothing behind them. Assumes nothing.
-use mathlib.Core.Path.{_≡_, refl, sym, ap, _∙_}
-use mathlib.Core.Bool.{Bool, true, false}
+use mathlib.Core.Path.{_≡_, refl, ap, _∙_}
+use mathlib.Core.Bool.{true, false}
 use mathlib.Core.List.{List, [], _∷_, _++_, append-assoc}
 use Prim.Native.Nat.{ℕ, zero, suc, _+_, _≤_, _<_}
 use native.Mathlib.Omega.{arith}
@@ -9,7 +9,6 @@ use lib.IntN.{ℤ, natAbs}
 use lib.ListN.{length, drop}
 use lib.Seq.{drop-append-add}
 use Rattle.heights.specs.declared.text.Kind.the-variants.{Word, Line}
-use Rattle.heights.specs.declared.rows.Rows.{Rows}
 use Rattle.heights.specs.declared.rows.Rows.the-variants.{Fine}
 use Rattle.heights.specs.Text.{ofKind, run, behind, word, afterWord, nextLine, open-text}
 use Rattle.heights.specs.Number.{numberOf}

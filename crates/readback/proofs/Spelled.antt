@@ -1,22 +1,20 @@
 -- What the spelling of a number spells is that number. Assumes nothing.
-use mathlib.Core.Path.{_≡_, refl, sym, ap, ap₂, _∙_, subst}
-use mathlib.Core.Bool.{Bool, true, false, _&&_, _||_, cond, true≢false, false≢true}
+use mathlib.Core.Path.{_≡_, refl, sym, ap, ap₂, _∙_}
+use mathlib.Core.Bool.{Bool, true, _&&_, _||_, true≢false, false≢true}
 use mathlib.Core.List.{List, [], _∷_, _++_, append-assoc, append-nil}
 use Prim.Native.Nat.{ℕ, zero, suc, _+_, _-_, _*_, _/_, _%_, _^_, _≤_, _<_}
-use native.Mathlib.Nat.{pow-succ', div-add-mod, mod-lt, div-lt-iff-lt-mul}
+use native.Mathlib.Nat.{pow-succ', div-add-mod, mod-lt}
 use native.Mathlib.Omega.{arith}
-use borrow.Author.Tests.{eq-eqb, ne-eqb, ltb-true, ltb-false, le-leb, lt-leb, le-ltb, lt-ltb}
-use lib.Dec.{leb, ltb, eqb}
+use borrow.Author.Tests.{eq-eqb, ne-eqb, le-leb}
 use lib.IntN.{ℤ, pos, negsuc, negℤ, natAbs, _*ℤ_}
-use lib.ListN.{length, take, drop, getD, length-append, length-drop}
-use lib.Seq.{getD-at, getD-append-add, drop-append-add, drop-at}
-use Rattle.heights.specs.declared.text.Kind.the-variants.{Blank, Word, Line, Digit, Nought}
+use lib.ListN.{length, drop, getD, length-append}
+use lib.Seq.{getD-at, getD-append-add, drop-append-add}
+use Rattle.heights.specs.declared.text.Kind.the-variants.{Digit, Nought}
 use Rattle.heights.specs.declared.number.Magnitude.the-variants.{Amount}
-use Rattle.heights.specs.declared.number.Number.{Number}
 use Rattle.heights.specs.declared.number.Number.the-variants.{Thousandths}
 use Rattle.heights.specs.Text.{ofKind, run, every}
 use Rattle.heights.specs.Number.{digitAt, valueTo, thousandthsAt, endsWell, plainOf, kept, negated, numberOf}
-use Rattle.spelling.specs.Spelling.{digitsOf, width, spellOf, signOf, wholeOf, metresOf}
+use Rattle.spelling.specs.Spelling.{digitsOf, width, spellOf, wholeOf, metresOf}
 use Rattle.spelling.proofs.Widths.{length-digits, width-some, width-holds, width-fits, plain-sign, minus-sign}
 use Rattle.heights.proofs.Runs.{run-yes, run-no}
 use Rattle.heights.proofs.Digits.{plain-so, ends-so, ends-here}

@@ -1,33 +1,26 @@
 -- What the writer spells are words of the reader, and its header lines are lines that the reader takes. Assumes nothing.
-use mathlib.Core.Path.{_≡_, refl, sym, ap, ap₂, _∙_, subst}
+use mathlib.Core.Path.{_≡_, refl, sym, ap, _∙_, subst}
 use mathlib.Core.Bool.{Bool, true, false, _&&_, _||_, not, cond, true≢false, false≢true}
-use mathlib.Core.List.{List, [], _∷_, _++_, append-assoc, append-nil}
-use Prim.Native.Nat.{ℕ, zero, suc, _+_, _-_, _*_, _/_, _%_, _≤_, _<_}
-use native.Mathlib.Nat.{mod-lt}
+use mathlib.Core.List.{List, [], _∷_, _++_, append-assoc}
+use Prim.Native.Nat.{ℕ, _+_, _-_, _*_, _/_, _%_, _≤_, _<_}
 use native.Mathlib.Omega.{arith}
-use borrow.Author.Tests.{eq-eqb, ne-eqb, leb-true}
+use borrow.Author.Tests.{ne-eqb, leb-true}
 use lib.Dec.{leb, eqb}
 use lib.IntN.{ℤ, pos, negsuc, natAbs, _*ℤ_}
-use lib.ListN.{length, take, drop, length-append}
-use lib.Seq.{take-append-seam, drop-append-seam, take-at, drop-at}
-use lib.Signed.{quotZ}
-use Rattle.whole.specs.Bounds.{abs-mul}
-use Rattle.whole.specs.Quot.{quot-exact}
-use Rattle.whole.specs.Bools.{and-left, and-right}
+use lib.ListN.{length, drop, length-append}
+use lib.Seq.{take-at, drop-at}
+use Rattle.whole.specs.laws.Bools.{and-left, and-right}
 use Rattle.heights.specs.declared.text.Kind.the-variants.{Blank, Word, Line, Digit}
-use Rattle.heights.specs.declared.number.Number.{Number}
-use Rattle.heights.specs.declared.number.Number.the-variants.{Thousandths, Unreadable}
+use Rattle.heights.specs.declared.number.Number.the-variants.{Unreadable}
 use Rattle.heights.specs.declared.header.Key.{Key}
 use Rattle.heights.specs.declared.header.Key.the-variants.{Columns, Rows, West, South, Edge, Missing}
-use Rattle.heights.specs.declared.header.Frame.{Frame}
-use Rattle.heights.specs.declared.header.Header.the-variants.{Read, Bad}
-use Rattle.heights.specs.Text.{ofKind, blank, run, ahead, behind, word, afterWord, nextLine, fromLine, alike, open-text}
-use Rattle.heights.specs.Number.{numberOf, open-number}
-use Rattle.heights.specs.Header.{keyOf, lineOf, isWhole, fitting, checked, lastOf, lineValue, entryOf, headerOf}
+use Rattle.heights.specs.Text.{ofKind, blank, run, ahead, behind, word, afterWord, nextLine, alike, open-text}
+use Rattle.heights.specs.Number.{numberOf}
+use Rattle.heights.specs.Header.{keyOf, checked, lastOf, lineValue}
 use Rattle.spelling.specs.Spelling.{spellOf, signOf, digitsOf, wholeOf, metresOf}
 use Rattle.depths.specs.Map.{lineText}
 use Rattle.heights.proofs.Runs.{run-yes, run-no}
-use Rattle.heights.proofs.Headers.{last-so, header-so}
+use Rattle.heights.proofs.Headers.{last-so}
 use Rattle.spelling.proofs.Widths.{width-some, plain-sign}
 use Rattle.readback.proofs.Spelled.{Each, each-append, each-more, run-each, digits-each, spell-each, length-spell}
 

@@ -8,28 +8,28 @@ use Prim.Native.Nat.{ℕ, zero, suc, _+_, _*_, _≤_, _<_}
 use native.Mathlib.Nat.{add-suc, suc-add, zero-add, lt-irrefl, eq-or-lt-of-le, le-of-suc-le-suc}
 use native.Mathlib.Omega.{arith}
 use lib.Dec.{eqb}
-use lib.IntN.{ℤ, pos, negsuc}
+use lib.IntN.{ℤ, pos}
 use lib.ListN.{length, getD}
 use borrow.Author.Tests.{eq-eqb, ne-eqb}
-use Rattle.whole.specs.Bools.{and-yes}
+use Rattle.whole.specs.laws.Bools.{and-yes}
 use Rattle.whole.specs.Fold.{tab, all, first, firstFrom}
-use Rattle.whole.specs.Search.{first-cong, first-none, first-all, first-is}
-use Rattle.whole.specs.Tab.{getD-tab}
+use Rattle.whole.specs.laws.Search.{first-cong, first-none, first-all, first-is}
+use Rattle.whole.specs.laws.Tab.{getD-tab}
 use Rattle.lattice.specs.Lattice.{Lattice, d3q19, density}
 use Rattle.lattice.specs.Cell.{massGood, carryGood, fillOf}
-use Rattle.lattice.specs.Body.{partsOf, bodyGood, eqZ}
+use Rattle.lattice.specs.inner.Held.{partsOf}
+use Rattle.lattice.specs.Body.{bodyGood, eqZ}
 use Rattle.lattice.proofs.Equal.{eqZ-same}
-use Rattle.grid.specs.State.{State, byFlag, liquid}
+use Rattle.grid.specs.State.{State, byFlag, liquid, flagOf}
 use Rattle.grid.specs.Step.{fillFor}
 use Rattle.grid.specs.Good.{dryGood, interfaceGood, fluidGood, fillGood, cellGood, badRule}
-use Rattle.grid.specs.Passes.{flagOf}
 use Rattle.grid.proofs.Lists.{getD-there}
 use Rattle.grid.proofs.Same.{body-same}
 use Rattle.record.specs.Bytes.{i32At}
 use Rattle.record.specs.Places.{counts, massesFrom, partsFrom}
 use Rattle.record.specs.Layout.{interfaces, liquids}
 use Rattle.record.specs.Reading.{totalsIn, cellsIn, flagsIn, flagIn, interfacesIn, massAt, partAt, massIn, partIn, stateIn}
-use Rattle.record.specs.Passes.{heldMass, partHeld, fairOf, fairHeld, fairBy, fairAt}
+use Rattle.record.specs.inner.Passes.{heldMass, partHeld, fairOf, fairHeld, fairBy, fairAt}
 
 -- ---- one cell
 -- parts read into an array

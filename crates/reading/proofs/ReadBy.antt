@@ -1,13 +1,12 @@
 -- The reader's promise, from what its tests and passes give: a refused record leaves everything as it was, an accepted one is taken. Assumes nothing.
 use mathlib.Core.Path.{_≡_, refl, sym, ap, _∙_}
-use mathlib.Core.Bool.{Bool, true, false, cond, _&&_}
+use mathlib.Core.Bool.{true, false, _&&_}
 use mathlib.Core.List.{List}
 use Prim.Native.Nat.{ℕ, _*_}
 use lib.Dec.{eqb}
 use lib.IntN.{ℤ}
-use lib.ListN.{length}
 use borrow.Author.Tests.{eqb-true}
-use Rattle.whole.specs.Bools.{and-left, and-right}
+use Rattle.whole.specs.laws.Bools.{and-left, and-right}
 use Rattle.lattice.specs.declared.Settings.{Settings}
 use Rattle.grid.specs.declared.Sides.{Sides}
 use Rattle.grid.specs.declared.Answer.{Answer}
@@ -17,7 +16,7 @@ use Rattle.grid.specs.State.{Lent}
 use Rattle.record.specs.declared.Site.{Site}
 use Rattle.record.specs.declared.Head.{Head}
 use Rattle.record.specs.Reading.{sidesIn, settingsIn, siteIn, slicesFit, refusedHead, readAnswer, readHead, readSet}
-use Rattle.record.specs.Passes.{Taken}
+use Rattle.record.specs.inner.Passes.{Taken}
 use Rattle.record.specs.Promise.{Read}
 
 pub read-refused : (r : List ℕ) (a : Lent) (x : Answer) (head : Head) → x ≡ readAnswer r a → accepted x ≡ false → head ≡ refusedHead x

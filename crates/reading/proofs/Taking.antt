@@ -1,36 +1,34 @@
 -- What the reader's passes leave is the state of the record: parts, masses and fills of every cell. The passes see the flags as a part of the record
 -- and the parts as the list that the first pass left; both are the record's own. Assumes nothing.
-use mathlib.Core.Path.{_≡_, refl, sym, ap, ap₂, _∙_, subst}
-use mathlib.Core.Bool.{Bool, true, not}
+use mathlib.Core.Path.{_≡_, sym, ap, ap₂, _∙_, subst}
+use mathlib.Core.Bool.{true}
 use mathlib.Core.List.{List, [], _∷_}
 use Prim.Native.Nat.{ℕ, suc, _+_, _*_, _-_, _/_, _%_, _≤_, _<_}
 use native.Mathlib.Omega.{arith}
 use lib.IntN.{ℤ, pos}
-use lib.ListN.{length, getD, take, drop}
+use lib.ListN.{length, getD}
 use lib.Signed.{_≤ℤ_}
 use Rattle.whole.specs.Fold.{tab}
-use Rattle.whole.specs.Machine.{Within}
-use Rattle.whole.specs.Tab.{tab-cong}
+use Rattle.whole.specs.laws.Machine.{Within}
+use Rattle.whole.specs.laws.Tab.{tab-cong}
 use Rattle.lattice.specs.Lattice.{d3q19, density}
 use Rattle.lattice.proofs.Tame.{dense-low}
 use Rattle.grid.specs.declared.Answer.the-variants.{Done}
 use Rattle.grid.specs.Grid.{gridOf, box, cellsOf}
-use Rattle.grid.specs.State.{byFlag, liquid, stateOf, lentOf}
+use Rattle.grid.specs.State.{byFlag, liquid, lentOf, flagOf}
 use Rattle.grid.specs.Step.{fillFor}
 use Rattle.grid.specs.Good.{badFluid, badRule, cellGood}
 use Rattle.grid.specs.Outcome.{orRefuse, ifNone}
 use Rattle.pumps.specs.Three.{totalsGood}
-use Rattle.grid.specs.Passes.{flagOf}
-use Rattle.grid.specs.Sight.{Body}
+use Rattle.grid.specs.inner.Sight.{Body}
 use Rattle.grid.proofs.Accepted.{passed, none-found, cell-good}
 use Rattle.grid.proofs.Prepared.{cell-body}
 use Rattle.grid.proofs.Listed.{part-at}
 use Rattle.grid.proofs.Same.{density-same}
-use Rattle.record.specs.Bytes.{i32At}
 use Rattle.record.specs.Places.{counts, massesFrom, partsFrom}
-use Rattle.record.specs.Layout.{siteGood, interfaces, liquids}
+use Rattle.record.specs.Layout.{siteGood}
 use Rattle.record.specs.Reading.{settingsIn, siteIn, sidesIn, totalsIn, pouredIn, takenIn, cellsIn, flagsIn, flagIn, interfacesIn, massAt, partAt, partIn, massIn, stateIn, contentAnswer}
-use Rattle.record.specs.Passes.{heldMass, heldPart, Weighed, massLoaded, fillLoaded, loadedMass, loadedFill}
+use Rattle.record.specs.inner.Passes.{heldMass, heldPart, Weighed, massLoaded, fillLoaded, loadedMass, loadedFill}
 
 module _ (r : List ℕ) where
   abbrev N : ℕ

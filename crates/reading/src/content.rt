@@ -22,7 +22,7 @@ ghost use Rattle.grid.specs.Good.{badFluid, badRule};
 ghost use Rattle.grid.specs.Outcome.{orRefuse, ifNone};
 ghost use Rattle.pumps.specs.Three.{totalsGood};
 ghost use Rattle.record.specs.Reading.{sidesIn, pouredIn, takenIn, cellsIn, flagIn, stateIn, contentAnswer};
-ghost use Rattle.record.specs.Passes.{Sound};
+ghost use Rattle.record.specs.inner.Passes.{Sound};
 
 // Tests 5 and 6.
 fn cell_tests(rec: &[u8], s: Sides) -> Answer

@@ -14,12 +14,12 @@ ghost use lib.Dec.{eqb};
 ghost use lib.ListN.{length};
 ghost use Rattle.whole.specs.Fold.{first};
 ghost use Rattle.lattice.specs.Lattice.{d3q19};
-ghost use Rattle.lattice.specs.Body.{partsOf, bodyGood};
-ghost use Rattle.grid.specs.State.{liquid};
-ghost use Rattle.grid.specs.Passes.{flagOf};
+ghost use Rattle.lattice.specs.inner.Held.{partsOf};
+ghost use Rattle.lattice.specs.Body.{bodyGood};
+ghost use Rattle.grid.specs.State.{liquid, flagOf};
 ghost use Rattle.record.specs.Bytes.{i32At};
 ghost use Rattle.record.specs.Layout.{interfaces, liquids};
-ghost use Rattle.record.specs.Passes.{fairBy, fairAt};
+ghost use Rattle.record.specs.inner.Passes.{fairBy, fairAt};
 
 // Parts, density and speed in their ranges, of any parts.
 pub fn good_body(f: [i32; 19]) -> bool

@@ -14,7 +14,6 @@ use record::given::site_in;
 use record::section::passed;
 ghost use mathlib.Core.Path.{_≡_};
 ghost use mathlib.Core.List.{[]};
-ghost use lib.IntN.{pos};
 ghost use Rattle.grid.specs.State.{lent};
 ghost use Rattle.record.specs.Promise.{Read};
 ghost use Rattle.record.specs.Reading.{refusedHead};

@@ -10,7 +10,7 @@ ghost use Prim.Native.Nat.{_*_};
 ghost use lib.ListN.{length};
 ghost use Rattle.grid.specs.declared.Answer.the-variants.{Done};
 ghost use Rattle.record.specs.Reading.{cellsIn, contentAnswer};
-ghost use Rattle.record.specs.Passes.{Sound, Taken};
+ghost use Rattle.record.specs.inner.Passes.{Sound, Taken};
 
 pub fn take(
     rec: &[u8],

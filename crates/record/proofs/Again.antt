@@ -1,7 +1,7 @@
 -- A number written again is the part of the record that it was read from, and parts that follow each other join; so sections 5 to 7 of a record over any
 -- counts are written again as its bytes from section 5 on. Assumes nothing.
 use mathlib.Core.Path.{_≡_, refl, sym, ap, ap₂, _∙_, subst}
-use mathlib.Core.Bool.{Bool, true, false, cond}
+use mathlib.Core.Bool.{Bool, true, cond}
 use mathlib.Core.List.{List, [], _∷_, _++_}
 use mathlib.Core.Logic.{⊎-elim}
 use Prim.Native.Nat.{ℕ, zero, suc, _+_, _*_, _≤_, _<_}
@@ -14,15 +14,13 @@ use lib.Seq.{take-add, take-all, drop-drop, length-take-le, getD-take, getD-drop
 use borrow.Author.Tests.{ne-eqb}
 use mir.Syntax.{w32, w64}
 use Rattle.whole.specs.Fold.{count}
-use Rattle.whole.specs.Order.{≤-or}
-use Rattle.grid.specs.State.{byFlag, liquid}
-use Rattle.grid.specs.Passes.{flagOf}
+use Rattle.whole.specs.laws.Order.{≤-or}
+use Rattle.grid.specs.State.{byFlag, liquid, flagOf}
 use Rattle.record.specs.declared.Counts.{Counts}
-use Rattle.record.specs.Bytes.{bytesOf, value, part, u32At, i32At, i64At, u32Of, i32Of, i64Of, join, gathered}
+use Rattle.record.specs.Bytes.{bytesOf, value, part, u32At, i32At, i64At, u32Of, i32Of, i64Of, join, gathered, Held}
 use Rattle.record.specs.Places.{cellsFrom, massesFrom, partsFrom, lengthOf}
 use Rattle.record.specs.Layout.{interfaces, liquids, massBytes, cellNumbers, partNumbers, cellSections}
 use Rattle.record.specs.Reading.{massRead, partRead}
-use Rattle.record.specs.Passes.{Held}
 use Rattle.record.proofs.Numbers.{Bytes, bytesOf-value, again}
 use Rattle.record.proofs.Gathered.{count-le}
 

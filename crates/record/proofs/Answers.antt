@@ -11,9 +11,8 @@ use borrow.Author.Tests.{leb-true, eqb-true, le-leb, lt-leb, eq-eqb, ne-eqb, not
 use Rattle.grid.specs.declared.Answer.{Answer}
 use Rattle.grid.specs.declared.Answer.the-variants.{Done, Refused}
 use Rattle.grid.specs.Outcome.{accepted, orRefuse}
-use Rattle.record.specs.Bytes.{u32At}
+use Rattle.record.specs.Bytes.{u32At, Held}
 use Rattle.record.specs.Reading.{whole}
-use Rattle.record.specs.Passes.{Held}
 
 -- a single test
 pub or-pass : {t : Bool} (number place : ℕ) (rest : Answer) → t ≡ true → orRefuse t number place rest ≡ rest

@@ -1,8 +1,8 @@
 -- The length of a record is 108 + N + 4I + 76L, and sections written one after the other are the record; of sections 5 to 7 this is said over any
 -- counts. Assumes nothing.
-use mathlib.Core.Path.{_≡_, refl, sym, ap, ap₂, _∙_, subst}
+use mathlib.Core.Path.{_≡_, refl, sym, ap, ap₂, _∙_}
 use mathlib.Core.List.{List, [], _∷_, _++_, append-assoc, append-nil}
-use Prim.Native.Nat.{ℕ, zero, suc, _+_, _*_, _≤_, _<_}
+use Prim.Native.Nat.{ℕ, _+_, _*_, _≤_, _<_}
 use native.Mathlib.Omega.{arith}
 use lib.IntN.{ℤ}
 use lib.ListN.{length, drop, length-append}
@@ -10,8 +10,7 @@ use lib.Seq.{sets, sets-eq}
 use Rattle.lattice.specs.declared.Settings.{Settings}
 use Rattle.grid.specs.declared.Sides.{Sides}
 use Rattle.grid.specs.Grid.{cellsOf}
-use Rattle.grid.specs.State.{Lent, stateOf}
-use Rattle.grid.specs.Passes.{flagOf}
+use Rattle.grid.specs.State.{Lent, stateOf, flagOf}
 use Rattle.pumps.specs.Three.{numberIn}
 use Rattle.record.specs.declared.Site.{Site}
 use Rattle.record.specs.declared.Counts.{Counts}

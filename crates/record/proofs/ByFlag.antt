@@ -1,16 +1,16 @@
 -- What goes by a flag, where the flag is known to be of a kind: dry, liquid, interface, fluid. Assumes nothing.
-use mathlib.Core.Path.{_≡_, refl, sym, ap, _∙_}
-use mathlib.Core.Bool.{Bool, true, false, cond, false≢true}
+use mathlib.Core.Path.{_≡_, refl, ap, _∙_}
+use mathlib.Core.Bool.{true, cond, false≢true}
 use mathlib.Core.List.{List}
 use Prim.Native.Nat.{ℕ, zero, suc, _+_, _*_, _<_}
 use native.Mathlib.Omega.{arith}
 use lib.IntN.{ℤ, pos, natAbs}
 use lib.ListN.{getD}
 use Rattle.whole.specs.Fold.{tab}
-use Rattle.whole.specs.Machine.{Within}
-use Rattle.whole.specs.Tab.{getD-tab}
+use Rattle.whole.specs.laws.Machine.{Within}
+use Rattle.whole.specs.laws.Tab.{getD-tab}
 use Rattle.lattice.specs.Lattice.{d3q19, density}
-use Rattle.lattice.specs.Body.{partsOf, Bounded}
+use Rattle.lattice.specs.inner.Held.{partsOf, Bounded}
 use Rattle.grid.specs.State.{byFlag, liquid}
 use Rattle.grid.specs.Step.{fillFor}
 use Rattle.grid.proofs.Same.{density-same}

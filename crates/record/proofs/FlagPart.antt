@@ -1,5 +1,5 @@
 -- The flag section as the code meets it: the part of the record from the first flag on, N bytes; its length, and the counts I and L of it. Assumes nothing.
-use mathlib.Core.Path.{_≡_, refl, sym, ap, ap₂, _∙_}
+use mathlib.Core.Path.{_≡_, refl, ap, ap₂, _∙_}
 use mathlib.Core.Bool.{Bool, true, false, _&&_, cond}
 use mathlib.Core.List.{List}
 use mathlib.Core.Logic.{_⊎_, inl, inr}
@@ -11,7 +11,7 @@ use lib.Seq.{length-take-le}
 use Rattle.grid.specs.declared.Sides.{Sides}
 use Rattle.grid.specs.Grid.{gridOf}
 use Rattle.grid.specs.Good.{badFlag, badFluid}
-use Rattle.grid.specs.Passes.{flagOf}
+use Rattle.grid.specs.State.{flagOf}
 use Rattle.record.specs.Bytes.{part, u32At}
 use Rattle.record.specs.Places.{counts, totalsFrom}
 use Rattle.record.specs.Layout.{interfaces, liquids}

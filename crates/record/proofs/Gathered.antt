@@ -1,12 +1,12 @@
 -- The sections by cell number, and their lengths: 4I bytes of masses, 4wL of w parts a cell. The one idea: what is gathered up to a cell is as long as the
 -- count of cells before it says, so that a cell's numbers stand where the count says.
 -- Use: `length-masses n flag mass` is `length (massBytes n flag mass) ≡ 4 * interfaces n flag`. Assumes nothing.
-use mathlib.Core.Path.{_≡_, refl, sym, ap, ap₂, _∙_, subst}
+use mathlib.Core.Path.{_≡_, refl, sym, ap, ap₂, _∙_}
 use mathlib.Core.Bool.{Bool, true, false, cond}
 use mathlib.Core.List.{List, [], _∷_, _++_, append-nil}
 use mathlib.Core.Logic.{_⊎_, inl, inr}
 use Prim.Native.Nat.{ℕ, zero, suc, _+_, _*_, _≤_, _<_}
-use native.Mathlib.Nat.{le-step, lt-suc-self, le-refl, eq-or-lt-of-le, le-of-suc-le-suc, le-of-eq, le-of-lt}
+use native.Mathlib.Nat.{le-step, lt-suc-self, eq-or-lt-of-le, le-of-suc-le-suc, le-of-eq, le-of-lt}
 use native.Mathlib.Numerals.{add-one}
 use native.Mathlib.Omega.{arith}
 use lib.IntN.{ℤ}
@@ -17,10 +17,9 @@ use lib.Seq.{sets, take-suc, length-take-le}
 use mir.Syntax.{w32}
 use mir.Val.{ofZ}
 use Rattle.whole.specs.Fold.{count}
-use Rattle.grid.specs.State.{byFlag, liquid}
-use Rattle.grid.specs.Passes.{flagOf}
+use Rattle.grid.specs.State.{byFlag, liquid, flagOf}
 use Rattle.grid.proofs.Lists.{getD-there}
-use Rattle.record.specs.Bytes.{gathered, join, bytesOf, u32Of, i32Of}
+use Rattle.record.specs.Bytes.{gathered, join, u32Of, i32Of}
 use Rattle.record.specs.Layout.{section, interfaces, liquids, massBytes, cellNumbers, partNumbers}
 use Rattle.record.proofs.Numbers.{length-bytesOf, sets-then, then-put}
 

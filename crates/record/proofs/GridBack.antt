@@ -1,29 +1,27 @@
 -- A set of cells that keep test 6's rules is read back from the record that it was written to, over any lattice and any counts: its flags, parts, masses
 -- and fills. The one idea: each number is read where it was put, and a good state's numbers fit their bytes. Assumes nothing.
 use mathlib.Core.Path.{_≡_, refl, sym, ap, ap₂, _∙_, subst}
-use mathlib.Core.Bool.{Bool, true, false}
+use mathlib.Core.Bool.{true}
 use mathlib.Core.List.{List, [], _∷_, _++_}
 use Prim.Native.Nat.{ℕ, suc, _+_, _*_, _/_, _%_, _≤_, _<_}
-use native.Mathlib.Nat.{div-add-mod, mod-lt, div-lt-iff-lt-mul, mul-comm, mul-le-mul, le-of-eq, le-of-suc-le-suc}
+use native.Mathlib.Nat.{div-add-mod, mod-lt, div-lt-iff-lt-mul, mul-comm, mul-le-mul}
 use native.Mathlib.Omega.{arith}
 use lib.IntN.{ℤ, pos}
 use lib.ListN.{length, getD, length-append}
 use Rattle.whole.specs.Fold.{tab}
-use Rattle.whole.specs.Tab.{upto-all}
+use Rattle.whole.specs.laws.Tab.{upto-all}
 use Rattle.lattice.specs.Lattice.{Lattice, density}
-use Rattle.grid.specs.State.{Lent, State, stateOf, lentOf, byFlag, liquid}
+use Rattle.grid.specs.State.{Lent, State, stateOf, lentOf, byFlag, flagOf}
 use Rattle.grid.specs.Step.{fillFor}
 use Rattle.grid.specs.Good.{cellGood}
 use Rattle.grid.specs.Demands.{Same}
-use Rattle.grid.specs.Passes.{flagOf}
 use Rattle.grid.proofs.Listed.{same-lent}
 use Rattle.grid.proofs.Same.{density-same}
 use Rattle.record.specs.declared.Counts.{Counts}
-use Rattle.record.specs.Bytes.{part}
+use Rattle.record.specs.Bytes.{part, Held}
 use Rattle.record.specs.Places.{cellsFrom, massesFrom, partsFrom, lengthOf}
 use Rattle.record.specs.Layout.{interfaces, liquids, cellSections}
 use Rattle.record.specs.Reading.{massRead, partRead, partsRead, massesRead, stateRead}
-use Rattle.record.specs.Passes.{Held}
 use Rattle.record.proofs.Gathered.{interfaces-most, liquids-most}
 use Rattle.record.proofs.Assembled.{length-cells}
 use Rattle.record.proofs.Standing.{count-five, flags-back, count-six, count-seven, mass-back, part-back, near, part-kinds, mass-kinds}

@@ -3,17 +3,17 @@
 -- Use: `back w32 4 z f refl` is `toZ w32 (value (bytesOf 4 (ofZ w32 z))) ≡ z`, from `f : SFits w32 z`. Assumes nothing.
 use mathlib.Core.Path.{_≡_, refl, sym, ap, ap₂, _∙_, subst}
 use mathlib.Core.Bool.{true, false, true≢false}
-use mathlib.Core.List.{List, [], _∷_, _++_, append-assoc}
+use mathlib.Core.List.{List, [], _∷_, _++_}
 use Prim.Native.Nat.{ℕ, zero, suc, _+_, _*_, _/_, _%_, _^_, _-_, _≤_, _<_}
 use native.Mathlib.Nat.{pow-succ', add-zero, zero-add, suc-add, mul-assoc, mul-add, add-assoc}
 use native.Mathlib.Omega.{arith}
 use lib.Dec.{T}
 use lib.IntN.{ℤ, pos, negsuc, natAbs}
 use lib.ListN.{length, getD, take, drop, set, length-drop}
-use lib.Seq.{drop-cons, take-add, take-at, drop-at, drop-drop, length-take-le, sets}
+use lib.Seq.{drop-cons, take-add, drop-drop, length-take-le, sets}
 use lib.Signed.{ltZ, nonNeg, mag}
 use borrow.Author.Tests.{ltb-true}
-use mir.Syntax.{Width, w32, w64}
+use mir.Syntax.{Width}
 use mir.Val.{bits, hbits, Fits, SFits, toZ, ofZ}
 use mir.ValLaws.{toZ-ofZ, ofZ-toZ, ofZ-fits, toZ-pos, half-full}
 use Rattle.record.specs.Bytes.{value, bytesOf, part}

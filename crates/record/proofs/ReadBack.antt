@@ -3,30 +3,24 @@
 -- state's numbers fit their bytes is what its rules say. Assumes nothing.
 use mathlib.Core.Path.{_≡_, refl, sym, ap, ap₂, _∙_, subst}
 use mathlib.Core.Bool.{Bool, true, false, not, cond, _&&_, false≢true}
-use mathlib.Core.List.{List, [], _∷_, _++_, append-assoc, append-nil}
-use mathlib.Core.Logic.{_⊎_, inl, inr}
-use Prim.Native.Nat.{ℕ, zero, suc, _+_, _*_, _^_, _≤_, _<_}
-use native.Mathlib.Nat.{eq-or-lt-of-le, le-of-suc-le-suc, not-suc-le-zero, le-trans, le-of-eq}
+use mathlib.Core.List.{List, [], _∷_, _++_}
+use mathlib.Core.Logic.{_⊎_}
+use Prim.Native.Nat.{ℕ, suc, _+_, _*_, _^_, _≤_, _<_}
+use native.Mathlib.Nat.{le-trans, le-of-eq}
 use native.Mathlib.Omega.{arith}
 use lib.Dec.{eqb, leb}
-use lib.IntN.{ℤ, pos, negsuc, natAbs}
-use lib.Signed.{leZ}
-use lib.ListN.{length, getD, take, drop, length-append}
-use lib.Seq.{take-at, drop-at}
+use lib.IntN.{ℤ, pos, natAbs}
+use lib.ListN.{length, getD}
 use borrow.Author.Tests.{leb-true, eq-eqb, not-false}
 use mir.Syntax.{w32, w64}
-use mir.Val.{SFits, toZ, ofZ}
-use Rattle.whole.specs.Bools.{and-left, and-right}
-use Rattle.whole.specs.Bounds.{fits-abs, abs-below}
+use mir.Val.{SFits}
+use Rattle.whole.specs.laws.Bools.{and-left, and-right}
 use Rattle.whole.specs.Fold.{all}
-use Rattle.whole.specs.Machine.{Within}
-use Rattle.whole.specs.Order.{leZ-true}
-use Rattle.whole.specs.Search.{all-at, first-none}
-use Rattle.whole.specs.Tab.{upto-all}
+use Rattle.whole.specs.laws.Search.{all-at, first-none}
+use Rattle.whole.specs.laws.Tab.{upto-all}
 use Rattle.lattice.specs.Lattice.{d3q19, density}
 use Rattle.lattice.specs.Cell.{edgeGood, coordinateGood, carryGood}
 use Rattle.lattice.specs.declared.Settings.{Settings}
-use Rattle.lattice.proofs.Ranges.{between}
 use Rattle.grid.specs.declared.Sides.{Sides}
 use Rattle.grid.specs.declared.Answer.the-variants.{Done}
 use Rattle.grid.specs.Grid.{cellsOf, sidesGood, gridOf, box}
@@ -34,10 +28,9 @@ use Rattle.grid.specs.Good.{dryGood, interfaceGood, fluidGood, fillGood, cellGo
 use Rattle.lattice.specs.Body.{eqZ}
 use Rattle.grid.specs.Demands.{Same}
 use Rattle.grid.specs.Outcome.{accepted, orRefuse, ifNone, goodAnswer, settingsGood}
-use Rattle.grid.specs.Sight.{Body}
+use Rattle.grid.specs.inner.Sight.{Body}
 use Rattle.grid.specs.Step.{fillFor}
-use Rattle.grid.specs.State.{Lent, State, stateOf, lentOf, byFlag, liquid}
-use Rattle.grid.specs.Passes.{flagOf}
+use Rattle.grid.specs.State.{Lent, State, stateOf, lentOf, byFlag, liquid, flagOf}
 use Rattle.grid.proofs.Accepted.{done-accepted, skip, none-found, cell-good, sound}
 use Rattle.lattice.proofs.Equal.{eqZ-true}
 use Rattle.grid.proofs.Blocks.{blocks-all}
@@ -48,13 +41,13 @@ use Rattle.grid.proofs.GoodSides.{GoodSides, good-sides}
 use Rattle.pumps.specs.Three.{numberIn, withTotals, totalGood, totalsGood}
 use Rattle.record.specs.declared.Site.{Site}
 use Rattle.record.specs.declared.Head.{Head}
-use Rattle.record.specs.Bytes.{bytesOf, value, part, u32At, i32At, i64At, u32Of, i32Of, i64Of, join, gathered}
+use Rattle.record.specs.Bytes.{bytesOf, value, part, u32At, i32At, i64At, join, Held}
 use Rattle.record.specs.Places.{past, counts, settingsFrom, originFrom, totalsFrom, cellsFrom, massesFrom, partsFrom, lengthOf}
-use Rattle.record.specs.Layout.{recorded, siteGood, section, interfaces, liquids, massBytes, cellBytes, partBytes, siteBytes, totalsBytes, headBytes, cellsBytes, recordOf, recordLength}
+use Rattle.record.specs.Layout.{recorded, siteGood, interfaces, liquids, siteBytes, totalsBytes, headBytes, cellsBytes, recordOf, recordLength}
 use Rattle.record.specs.Reading.{sidesIn, settingsIn, siteIn, totalsIn, carryIn, pouredIn, takenIn, cellsIn, flagsIn, flagIn, interfacesIn, liquidsIn, slicesFit, contentAnswer, massAt, partAt, massIn, partIn, stateIn, readAnswer, readHead, readFlags, readSet}
 use Rattle.record.specs.Writing.{writeAnswer}
-use Rattle.record.specs.Passes.{Held, Sound}
-use Rattle.record.proofs.Numbers.{value-bytesOf, back, length-bytesOf}
+use Rattle.record.specs.inner.Passes.{Sound}
+use Rattle.record.proofs.Numbers.{value-bytesOf, back}
 use Rattle.record.proofs.Gathered.{interfaces-most, liquids-most}
 use Rattle.record.proofs.Assembled.{length-head, length-record}
 use Rattle.record.proofs.Standing.{count-five, flags-back, count-six, count-seven, mass-back, part-back, fits-word, near, fits-long, total-fits, coordinate-fits, part-kinds, mass-kinds, dry-kinds}

@@ -4,13 +4,13 @@ use mathlib.Core.Path.{_≡_, refl, sym, ap, _∙_, subst}
 use mathlib.Core.Bool.{Bool, true, false, not, cond, _&&_, false≢true}
 use Prim.Native.Nat.{ℕ, zero, suc, _≤_, _<_}
 use native.Mathlib.Omega.{arith}
-use lib.Dec.{eqb, leb}
+use lib.Dec.{eqb}
 use lib.IntN.{ℤ, pos, natAbs}
 use borrow.Author.Tests.{leb-true, eqb-true, eq-eqb, not-false}
-use Rattle.whole.specs.Bools.{and-left, and-right}
+use Rattle.whole.specs.laws.Bools.{and-left, and-right}
 use Rattle.whole.specs.Fold.{all}
-use Rattle.whole.specs.Machine.{Within}
-use Rattle.whole.specs.Search.{all-at, first-none}
+use Rattle.whole.specs.laws.Machine.{Within}
+use Rattle.whole.specs.laws.Search.{all-at, first-none}
 use Rattle.lattice.specs.Lattice.{Lattice, dot, density, momentum}
 use Rattle.lattice.specs.Cell.{partGood, massGood, carryGood, dense, slow}
 use Rattle.lattice.specs.Body.{eqZ, bodyGood}

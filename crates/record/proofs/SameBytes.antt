@@ -1,38 +1,30 @@
 -- An accepted record whose section 4 has three numbers is written back as the same bytes: what the reader hands back, with the slices that it filled,
 -- has the record r itself as its record. One with a single number there gets the count 3 and sixteen bytes of 0 behind its carry, and nothing else changes.
 -- The one idea: each number of the record is the part of r that it was read from, and parts that follow each other join. Assumes nothing.
-use mathlib.Core.Path.{_≡_, refl, sym, ap, ap₂, _∙_, subst}
-use mathlib.Core.Bool.{Bool, true, false, cond}
+use mathlib.Core.Path.{_≡_, refl, sym, ap, ap₂, _∙_}
+use mathlib.Core.Bool.{true, cond}
 use mathlib.Core.List.{List, [], _∷_, _++_, append-assoc}
-use mathlib.Core.Logic.{_⊎_, inl, inr, ⊎-elim}
-use Prim.Native.Nat.{ℕ, zero, suc, _+_, _*_, _^_, _≤_, _<_}
-use native.Mathlib.Nat.{le-step, lt-suc-self, le-trans, le-refl}
-use native.Mathlib.Numerals.{add-one}
+use mathlib.Core.Logic.{_⊎_, ⊎-elim}
+use Prim.Native.Nat.{ℕ, _+_, _*_, _^_, _≤_, _<_}
 use native.Mathlib.Omega.{arith}
 use lib.Dec.{eqb}
 use lib.IntN.{ℤ, pos}
-use lib.ListN.{length, getD, take, drop, replicate, length-drop, List·getD-eq-default}
-use lib.Seq.{take-add, take-all, drop-drop, length-take-le, getD-take, getD-drop}
-use borrow.Author.Tests.{ne-eqb}
-use mir.Syntax.{w32, w64}
-use mir.Val.{toZ, ofZ}
+use lib.ListN.{length, take, drop, replicate, List·getD-eq-default}
 use Rattle.whole.specs.Fold.{count}
-use Rattle.whole.specs.Order.{≤-or}
+use Rattle.whole.specs.laws.Order.{≤-or}
 use Rattle.lattice.specs.Lattice.{d3q19, density}
 use Rattle.grid.specs.declared.Answer.the-variants.{Done}
 use Rattle.grid.specs.Outcome.{accepted}
-use Rattle.grid.specs.State.{Lent, lent, stateOf, lentOf, byFlag, liquid}
-use Rattle.grid.specs.Passes.{flagOf}
-use Rattle.grid.specs.Grid.{cellsOf}
+use Rattle.grid.specs.State.{Lent, lent, stateOf, lentOf, byFlag}
 use Rattle.grid.proofs.Accepted.{done-accepted}
 use Rattle.grid.proofs.Listed.{same-listed}
-use Rattle.record.specs.Bytes.{bytesOf, value, part, u32At, i32At, i64At, u32Of, i32Of, i64Of, join, gathered}
-use Rattle.record.specs.Places.{counts, totalsFrom, cellsFrom, massesFrom, partsFrom, lengthOf}
-use Rattle.record.specs.Layout.{section, interfaces, liquids, massBytes, cellBytes, partBytes, siteBytes, totalsBytes, headBytes, cellsBytes, recordOf}
-use Rattle.record.specs.Reading.{sidesIn, settingsIn, siteIn, totalsIn, carryIn, pouredIn, takenIn, flagsAt, cellsIn, flagsIn, flagIn, interfacesIn, liquidsIn, massAt, partAt, massIn, partIn, stateIn, readAnswer, readHead, readFlags, readSet}
+use Rattle.record.specs.Bytes.{bytesOf, part, i64At, u32Of, i64Of, join}
+use Rattle.record.specs.Places.{counts, totalsFrom, cellsFrom}
+use Rattle.record.specs.Layout.{siteBytes, totalsBytes, headBytes, cellsBytes, recordOf}
+use Rattle.record.specs.Reading.{sidesIn, settingsIn, siteIn, totalsIn, carryIn, pouredIn, takenIn, cellsIn, flagsIn, flagIn, interfacesIn, liquidsIn, massAt, partAt, massIn, partIn, stateIn, readAnswer, readHead, readFlags, readSet}
 use Rattle.record.specs.Back.{writtenBack}
-use Rattle.record.specs.Passes.{Held, Sound}
-use Rattle.record.proofs.Numbers.{Bytes, bytesOf-value, again}
+use Rattle.record.specs.inner.Passes.{Sound}
+use Rattle.record.proofs.Numbers.{Bytes}
 use Rattle.record.proofs.Shaped.{sound, shape-accepted}
 use Rattle.record.proofs.FlagPart.{totals-cases}
 use Rattle.record.proofs.Again.{joined, word-again, int-again, long-again, count-again, There, cells-rest, whole-again}

@@ -1,7 +1,7 @@
 -- The reader's sections in their order over any counts, in four groups, and what a record whose sections all passed holds: each section's count and
 -- bytes, good sides, slices that fit, flags that passed test 4, and no byte past the end. Assumes nothing.
-use mathlib.Core.Path.{_≡_, refl, _∙_}
-use mathlib.Core.Bool.{Bool, true, false}
+use mathlib.Core.Path.{_≡_, _∙_}
+use mathlib.Core.Bool.{Bool, true}
 use mathlib.Core.List.{List}
 use Prim.Native.Nat.{ℕ, _≤_}
 use lib.Dec.{leb}
@@ -13,7 +13,8 @@ use Rattle.grid.specs.Outcome.{accepted, orRefuse, ifNone}
 use Rattle.record.specs.declared.Counts.{Counts}
 use Rattle.record.specs.Places.{past, settingsFrom, originFrom, totalsFrom, cellsFrom, massesFrom}
 use Rattle.record.specs.Reading.{whole, opensOn, frontsOn, endsOn, shapesOn}
-use Rattle.record.specs.Passes.{Held, Shaped}
+use Rattle.record.specs.Bytes.{Held}
+use Rattle.record.specs.inner.Passes.{Shaped}
 use Rattle.record.proofs.Answers.{whole-held, Chain, chain-or, chain-whole, chain-both, chain-then, or-true, or-pass, whole-there}
 
 -- ---- each group passes the rest on, or answers itself

@@ -14,7 +14,8 @@ use Rattle.grid.specs.Outcome.{accepted, ifNone}
 use Rattle.grid.proofs.Accepted.{accepted-done}
 use Rattle.record.specs.Places.{counts, settingsFrom, originFrom, totalsFrom, cellsFrom}
 use Rattle.record.specs.Reading.{opensOn, frontsOn, ends, behindFlags, slicesFit, sidesIn, totalsIn, cellsIn, flagIn, interfacesIn, liquidsIn, shapeAnswer, contentAnswer, readAnswer}
-use Rattle.record.specs.Passes.{Held, Sound}
+use Rattle.record.specs.Bytes.{Held}
+use Rattle.record.specs.inner.Passes.{Sound}
 use Rattle.record.proofs.Answers.{Chain, chain-both}
 use Rattle.record.proofs.Sections.{chain-opens-on, chain-fronts-on, opened-on, fronted-on, chain-shapes, shaped, fitted, shapes-pass}
 

@@ -10,22 +10,21 @@ use native.Mathlib.Omega.{arith}
 use lib.Dec.{leb}
 use lib.IntN.{ℤ, pos, negsuc, natAbs}
 use lib.Signed.{leZ}
-use lib.ListN.{length, take, drop, length-append}
+use lib.ListN.{length, take, length-append}
 use lib.Seq.{take-at, drop-at}
 use borrow.Author.Tests.{leb-true}
 use mir.Syntax.{w32, w64}
 use mir.Val.{SFits, toZ, ofZ}
-use Rattle.whole.specs.Bools.{and-left, and-right}
-use Rattle.whole.specs.Bounds.{fits-abs, abs-below}
-use Rattle.whole.specs.Machine.{Within}
-use Rattle.whole.specs.Order.{leZ-true}
+use Rattle.whole.specs.laws.Bools.{and-left, and-right}
+use Rattle.whole.specs.laws.Bounds.{fits-abs, abs-below}
+use Rattle.whole.specs.laws.Machine.{Within}
+use Rattle.whole.specs.laws.Order.{leZ-true}
 use Rattle.lattice.specs.Cell.{coordinateGood}
 use Rattle.lattice.proofs.Ranges.{between}
-use Rattle.grid.specs.State.{byFlag, liquid}
-use Rattle.grid.specs.Passes.{flagOf}
+use Rattle.grid.specs.State.{byFlag, liquid, flagOf}
 use Rattle.pumps.specs.Three.{totalGood}
 use Rattle.record.specs.declared.Counts.{Counts}
-use Rattle.record.specs.Bytes.{bytesOf, value, part, u32At, i32At, u32Of, i32Of, join, gathered}
+use Rattle.record.specs.Bytes.{value, part, u32At, i32At, u32Of, i32Of, join, gathered}
 use Rattle.record.specs.Places.{cellsFrom, massesFrom, partsFrom}
 use Rattle.record.specs.Layout.{section, interfaces, liquids, massBytes, cellNumbers, partNumbers, cellSections}
 use Rattle.record.proofs.Numbers.{value-bytesOf, back, length-bytesOf}

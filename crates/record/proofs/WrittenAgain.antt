@@ -4,21 +4,19 @@ use mathlib.Core.Path.{_≡_, refl, sym, ap, ap₂, _∙_, subst}
 use mathlib.Core.Bool.{Bool, true, _&&_, cond}
 use mathlib.Core.List.{List, _++_}
 use Prim.Native.Nat.{ℕ, suc, _+_, _*_, _≤_}
-use native.Mathlib.Nat.{le-trans}
 use native.Mathlib.Omega.{arith}
-use lib.Dec.{eqb, leb}
+use lib.Dec.{eqb}
 use lib.ListN.{length, drop}
 use borrow.Author.Tests.{eq-eqb, le-leb}
-use Rattle.whole.specs.Bools.{and-left}
-use Rattle.whole.specs.Tab.{length-tab}
+use Rattle.whole.specs.laws.Bools.{and-left}
+use Rattle.whole.specs.laws.Tab.{length-tab}
 use Rattle.lattice.specs.Lattice.{d3q19}
 use Rattle.grid.specs.declared.Answer.{Answer}
 use Rattle.grid.specs.declared.Answer.the-variants.{Done}
-use Rattle.grid.specs.Grid.{cellsOf, sidesGood, gridOf, box}
-use Rattle.grid.specs.Good.{badFlag, badFluid, badRule}
+use Rattle.grid.specs.Grid.{cellsOf, gridOf, box}
 use Rattle.grid.specs.Demands.{Same}
-use Rattle.grid.specs.Outcome.{accepted, orRefuse, ifNone, goodAnswer, lengthsGood}
-use Rattle.grid.specs.State.{Lent, lent, State, stateOf, lentOf}
+use Rattle.grid.specs.Outcome.{accepted, orRefuse, goodAnswer, lengthsGood}
+use Rattle.grid.specs.State.{Lent, lent, stateOf, lentOf}
 use Rattle.grid.proofs.Accepted.{done-accepted, passed, none-found, skip}
 use Rattle.grid.proofs.Listed.{same-listed, lengths-listed}
 use Rattle.grid.proofs.Same.{bad-rule-same}
@@ -28,7 +26,7 @@ use Rattle.record.specs.Layout.{siteGood, recordOf, recordLength}
 use Rattle.record.specs.Reading.{sidesIn, settingsIn, siteIn, flagsAt, pouredIn, takenIn, cellsIn, flagsIn, flagIn, stateIn, setIn, contentAnswer, readAnswer, readHead, readFlags, readSet}
 use Rattle.record.specs.Writing.{writeAnswer, writtenRoom}
 use Rattle.record.specs.Back.{writtenBack}
-use Rattle.record.specs.Passes.{Sound}
+use Rattle.record.specs.inner.Passes.{Sound}
 use Rattle.record.proofs.Numbers.{Bytes}
 use Rattle.record.proofs.Answers.{or-pass}
 use Rattle.record.proofs.Assembled.{length-record}

@@ -1,6 +1,6 @@
 -- The writer's promise, from what its tests give, and why settings in their ranges fit the record's numbers. Assumes nothing.
-use mathlib.Core.Path.{_≡_, refl, sym, ap, _∙_, subst}
-use mathlib.Core.Bool.{Bool, true, false, not, cond, _&&_}
+use mathlib.Core.Path.{_≡_, refl, sym, ap, _∙_}
+use mathlib.Core.Bool.{true, false, _&&_}
 use mathlib.Core.List.{List, _++_}
 use Prim.Native.Nat.{ℕ, suc, _≤_, _<_}
 use native.Mathlib.Omega.{arith}
@@ -10,10 +10,10 @@ use lib.Signed.{leZ}
 use lib.ListN.{length, drop}
 use lib.Seq.{sets}
 use borrow.Author.Tests.{le-leb, lt-leb}
-use Rattle.whole.specs.Bools.{and-left, and-right}
-use Rattle.whole.specs.Bounds.{abs-below}
-use Rattle.whole.specs.Machine.{Within}
-use Rattle.whole.specs.Order.{leZ-true}
+use Rattle.whole.specs.laws.Bools.{and-left, and-right}
+use Rattle.whole.specs.laws.Bounds.{abs-below}
+use Rattle.whole.specs.laws.Machine.{Within}
+use Rattle.whole.specs.laws.Order.{leZ-true}
 use Rattle.lattice.specs.Lattice.{d3q19, Lattice}
 use Rattle.lattice.specs.Cell.{relaxationGood, gravityGood, edgeGood, coordinateGood}
 use Rattle.lattice.specs.declared.Settings.{Settings}
@@ -25,13 +25,14 @@ use Rattle.grid.specs.Grid.{Grid, sidesGood, cellsOf, gridOf}
 use Rattle.grid.specs.State.{Lent, State, stateOf}
 use Rattle.grid.specs.Good.{badFlag, badFluid, badRule}
 use Rattle.grid.specs.Outcome.{accepted, orRefuse, ifNone, goodAnswer, settingsGood}
-use Rattle.grid.specs.Between.{Sized}
+use Rattle.grid.specs.inner.Between.{Sized}
 use Rattle.grid.proofs.Accepted.{accepted-done, done-accepted}
 use Rattle.pumps.specs.Three.{numberIn, headOf, totalsGood, threeLengths, threeGood}
 use Rattle.pumps.proofs.Checked.{carry-three, head-sized}
 use Rattle.record.specs.declared.Site.{Site}
 use Rattle.record.specs.declared.Written.{Written}
-use Rattle.record.specs.Layout.{siteGood, Small, recordOf, recordLength}
+use Rattle.record.specs.Layout.{siteGood, recordOf, recordLength}
+use Rattle.record.specs.inner.Small.{Small}
 use Rattle.record.specs.Writing.{roomTest, writtenOn, roomOn, writeAnswer, written, writtenRoom}
 use Rattle.record.specs.Promise.{Wrote}
 use Rattle.record.proofs.Answers.{Chain, chain-or, chain-both, chain-then, or-true, or-pass, or-fail}

@@ -1,8 +1,9 @@
 -- Numbers as bytes, little-endian: reading them at a place, and writing them. Assumes nothing.
-use Prim.Native.Nat.{ℕ, zero, suc, _+_, _*_, _/_, _%_}
+use Prim.Native.Nat.{ℕ, zero, suc, _+_, _*_, _/_, _%_, _≤_}
+use mathlib.Core.Path.{_≡_}
 use mathlib.Core.List.{List, [], _∷_, _++_}
 use lib.IntN.{ℤ}
-use lib.ListN.{take, drop}
+use lib.ListN.{length, take, drop}
 use mir.Syntax.{w32, w64}
 use mir.Val.{toZ, ofZ}
 
@@ -47,6 +48,11 @@ join (b ∷ bs) = b ++ join bs
 unfoldable pub gathered : ℕ → (ℕ → List ℕ) → List ℕ
 gathered zero f = []
 gathered (suc n) f = gathered n f ++ f n
+
+-- a section of n numbers is there: its count, and its bytes
+pub record Held (r : List ℕ) (from n size : ℕ) : Type 0 where
+  pub count : u32At r from ≡ n
+  pub inside : from + 4 + size * n ≤ length r
 
 -- names every definition of this file: whoever unfolds this computes with all of them
 unfoldable pub open-bytes : Unit {0}

@@ -1,18 +1,16 @@
 -- The grid record: seven sections in fixed order, each after its count of numbers. Assumes nothing.
-use Prim.Native.Nat.{ℕ, zero, suc, _+_, _*_}
-use mathlib.Core.Bool.{Bool, true, false, _&&_}
+use Prim.Native.Nat.{ℕ, _+_, _*_}
+use mathlib.Core.Bool.{Bool, false, _&&_}
 use mathlib.Core.List.{List, [], _∷_, _++_}
-use lib.IntN.{ℤ, pos}
+use lib.IntN.{ℤ}
 use lib.Dec.{eqb}
 use Rattle.whole.specs.Fold.{count}
-use Rattle.whole.specs.Machine.{Within}
 use Rattle.lattice.specs.Cell.{edgeGood, coordinateGood}
 use Rattle.lattice.specs.declared.Settings.{Settings}
 use Rattle.grid.specs.declared.Sides.{Sides}
 use Rattle.grid.specs.Grid.{cellsOf}
-use Rattle.grid.specs.State.{Lent, stateOf, byFlag, liquid}
+use Rattle.grid.specs.State.{Lent, stateOf, byFlag, liquid, flagOf}
 use Rattle.grid.specs.Outcome.{settingsGood}
-use Rattle.grid.specs.Passes.{flagOf}
 use Rattle.pumps.specs.Three.{numberIn}
 use Rattle.record.specs.declared.Site.{Site}
 use Rattle.record.specs.Places.{counts, lengthOf}
@@ -91,14 +89,6 @@ recordOf s g t a =
 -- its length, 108 + N + 4I + 76L
 unfoldable pub recordLength : Sides → Lent → ℕ
 recordLength s a = lengthOf counts 3 (cellsOf s) (interfaces (cellsOf s) (stateOf 18 a .flag)) (19 * liquids (cellsOf s) (stateOf 18 a .flag))
-
--- settings that fit the record's numbers, as those in their ranges do
-pub record Small (g : Settings) (t : Site) : Type 0 where
-  pub p : Within (g .p) 2147483647
-  pub gx : Within (g .gx) 2147483647
-  pub gy : Within (g .gy) 2147483647
-  pub gz : Within (g .gz) 2147483647
-  pub edge : Within (t .edge) 2147483647
 
 -- names every definition of this file: whoever unfolds this computes with all of them
 unfoldable pub open-layout : Unit {0}

@@ -4,5 +4,5 @@ pub mod Layout
 pub mod Reading
 pub mod Writing
 pub mod Back
-pub mod Passes
 pub mod Promise
+pub mod inner

@@ -1,6 +1,6 @@
 -- What the reader answers, and what each lent slice then holds, for every input. Assumes nothing.
-use Prim.Native.Nat.{ℕ, zero, suc, _+_, _*_}
-use mathlib.Core.Bool.{Bool, true, false, _&&_, cond}
+use Prim.Native.Nat.{ℕ, suc, _+_, _*_}
+use mathlib.Core.Bool.{Bool, false, _&&_, cond}
 use mathlib.Core.List.{List, [], _∷_}
 use lib.IntN.{ℤ, pos}
 use lib.Dec.{leb, eqb}
@@ -9,13 +9,12 @@ use Rattle.lattice.specs.Lattice.{Lattice, density, d3q19}
 use Rattle.lattice.specs.declared.Settings.{Settings}
 use Rattle.grid.specs.declared.Sides.{Sides}
 use Rattle.grid.specs.declared.Answer.{Answer}
-use Rattle.grid.specs.declared.Answer.the-variants.{Done, Refused}
+use Rattle.grid.specs.declared.Answer.the-variants.{Done}
 use Rattle.grid.specs.Grid.{cellsOf, sidesGood, gridOf}
-use Rattle.grid.specs.State.{State, Lent, lentOf, byFlag}
+use Rattle.grid.specs.State.{State, Lent, lentOf, byFlag, flagOf}
 use Rattle.grid.specs.Step.{fillFor}
 use Rattle.grid.specs.Good.{badFlag, badFluid, badRule}
 use Rattle.grid.specs.Outcome.{accepted, orRefuse, ifNone}
-use Rattle.grid.specs.Passes.{flagOf}
 use Rattle.pumps.specs.Three.{withTotals, totalsGood}
 use Rattle.record.specs.declared.Site.{Site}
 use Rattle.record.specs.declared.Head.{Head}

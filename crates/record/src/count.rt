@@ -3,8 +3,7 @@ ghost use mathlib.Core.Path.{_≡_};
 ghost use mathlib.Core.Bool.{cond};
 ghost use lib.Dec.{eqb};
 ghost use lib.ListN.{length};
-ghost use Rattle.grid.specs.State.{liquid};
-ghost use Rattle.grid.specs.Passes.{flagOf};
+ghost use Rattle.grid.specs.State.{liquid, flagOf};
 ghost use Rattle.record.specs.Layout.{interfaces, liquids};
 
 pub fn one_interface(flag: u8) -> usize

@@ -13,7 +13,6 @@ use lattice::Settings;
 use lattice::limits::good_settings;
 use whole::wide;
 ghost use mathlib.Core.Path.{_≡_};
-ghost use mathlib.Core.Bool.{true};
 ghost use Prim.Native.Nat.{_+_, _≤_};
 ghost use lib.ListN.{length};
 ghost use Rattle.lattice.specs.Cell.{edgeGood, coordinateGood};

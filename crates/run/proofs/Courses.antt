@@ -11,8 +11,8 @@ use Rattle.grid.specs.declared.Answer.{Answer}
 use Rattle.grid.specs.declared.Answer.the-variants.{Done, Refused}
 use Rattle.grid.specs.State.{Lent}
 use Rattle.grid.specs.Outcome.{accepted, Ran, ranBy}
-use Rattle.grid.specs.Halfway.{Alike}
-use Rattle.run.specs.Turns.{here, there, Evened}
+use Rattle.grid.specs.inner.Halfway.{Alike}
+use Rattle.run.specs.inner.Turns.{here, there, Evened}
 
 -- what a run goes by: how many cells, the definition's step with all its tests, tests 7 and 8 alone, and the next set; Fit says that tests 1 to 6 pass, Sized
 -- that the slices are of their lengths

@@ -18,8 +18,8 @@ use Rattle.grid.specs.Step.{next}
 use Rattle.grid.specs.Outcome.{goodAnswer, moveAnswer, lengthsGood, sceneOf, entryAnswer, stepAnswer, nextOf, ran, runEntry, open-outcome}
 use Rattle.grid.specs.Ground.{boxGround}
 use Rattle.grid.specs.Demands.{gridAnswer}
-use Rattle.grid.specs.Between.{Sized, Ready}
-use Rattle.grid.specs.Halfway.{Alike, Stepping, Advanced}
+use Rattle.grid.specs.inner.Between.{Sized, Ready}
+use Rattle.grid.specs.inner.Halfway.{Alike, Stepping, Advanced}
 use Rattle.grid.specs.Promise.{RanTo}
 use Rattle.grid.proofs.Box.{grid-laid}
 use Rattle.grid.proofs.Listed.{same-listed, lengths-listed}
@@ -28,7 +28,7 @@ use Rattle.grid.proofs.Reached.{step-good}
 use Rattle.grid.proofs.Conserved.{good-any}
 use Rattle.step.proofs.Finishes.{alike-sized, like-sized}
 use Rattle.step.proofs.Entrance.{may-step}
-use Rattle.run.specs.Turns.{here, there, Crossed, Evened, Went}
+use Rattle.run.specs.inner.Turns.{here, there, Crossed, Evened, Went}
 use Rattle.run.proofs.Admitted.{RanOn, refuses-on, entered-on, admits, not-admitted-on, ended-on}
 use Rattle.run.proofs.Courses
 use Rattle.run.proofs.Courses.{Course, Lawful, Passed, Ended}

@@ -9,9 +9,9 @@ use step::stepping;
 ghost use mathlib.Core.Path.{_≡_};
 ghost use Rattle.grid.specs.Outcome.{runEntry};
 ghost use Rattle.grid.specs.Promise.{RanTo};
-ghost use Rattle.grid.specs.Halfway.{Alike, Stepping};
+ghost use Rattle.grid.specs.inner.Halfway.{Alike, Stepping};
 ghost use Rattle.grid.specs.State.{lent};
-ghost use Rattle.run.specs.Turns.{here, there, Crossed, Evened, Went};
+ghost use Rattle.run.specs.inner.Turns.{here, there, Crossed, Evened, Went};
 
 // How far a run came: the number of leading accepted steps, and the refusal that stopped it.
 pub struct Ran {
@@ -40,7 +40,7 @@ fn turn(
     ensures { λ r. ⌜ Crossed s g back (lent (now (flags .entry)) (now (parts .entry)) (now (mass .entry)) (now (fill .entry)) (now (carry .entry))) (lent (now (flags2 .entry)) (now (parts2 .entry)) (now (mass2 .entry)) (now (fill2 .entry)) (now (carry2 .entry))) r (lent (now (flags .exit)) (now (parts .exit)) (now (mass .exit)) (now (fill .exit)) (now (carry .exit))) (lent (now (flags2 .exit)) (now (parts2 .exit)) (now (mass2 .exit)) (now (fill2 .exit)) (now (carry2 .exit))) (now (marks .exit)) ⌝ }
 {
     if back {
-        return stepping::stepped(
+        return stepping::advanced(
             flags2,
             parts2,
             mass2,
@@ -56,7 +56,7 @@ fn turn(
             g,
         );
     }
-    stepping::stepped(
+    stepping::advanced(
         flags,
         parts,
         mass,

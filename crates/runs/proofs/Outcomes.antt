@@ -9,7 +9,7 @@ use lib.Dec.{leb}
 use lib.IntN.{ℤ, pos}
 use lib.ListN.{length, getD, take, replicate}
 use borrow.Author.Tests.{le-leb, lt-leb}
-use Rattle.whole.specs.Bools.{cond-no}
+use Rattle.whole.specs.laws.Bools.{cond-no}
 use Rattle.lattice.specs.declared.Settings.{Settings}
 use Rattle.grid.specs.declared.Sides.{Sides}
 use Rattle.grid.specs.declared.Answer.{Answer}
@@ -17,9 +17,9 @@ use Rattle.grid.specs.declared.Answer.the-variants.{Done, Refused}
 use Rattle.grid.specs.Grid.{cellsOf}
 use Rattle.grid.specs.State.{Lent, lent}
 use Rattle.grid.specs.Outcome.{accepted, orRefuse, ran}
-use Rattle.grid.specs.Halfway.{Stepping}
+use Rattle.grid.specs.inner.Halfway.{Stepping}
 use Rattle.grid.proofs.Accepted.{passed}
-use Rattle.run.specs.Turns.{Went}
+use Rattle.run.specs.inner.Turns.{Went}
 use Rattle.pumps.specs.Three.{headOf}
 use Rattle.index.specs.Index.{Index, indexOf}
 use Rattle.index.specs.Held.{Held, held}

@@ -1,33 +1,30 @@
 -- The outcomes as the code goes through them: a test that refuses answers, and one that passes lets the next one answer. Assumes nothing.
 use mathlib.Core.Path.{_≡_, refl, sym, ap, ap₂, _∙_, subst}
-use mathlib.Core.Bool.{Bool, true, false, _&&_, _||_, not, false≢true, true≢false}
+use mathlib.Core.Bool.{Bool, true, false, _&&_, _||_, false≢true, true≢false}
 use mathlib.Core.List.{List}
 use Prim.Native.Nat.{ℕ, suc, _*_, _≤_, _<_}
 use native.Mathlib.Omega.{arith}
-use lib.Dec.{eqb, ltb}
-use lib.ListN.{length, getD, set}
-use borrow.Author.Tests.{eqb-true, eq-eqb, ne-eqb, lt-ltb, le-ltb, ltb-true, not-true}
-use Rattle.whole.specs.Bools.{and-left, and-right}
+use lib.Dec.{eqb}
+use lib.ListN.{length, getD}
+use borrow.Author.Tests.{eqb-true}
+use Rattle.whole.specs.laws.Bools.{and-left, and-right}
 use Rattle.whole.specs.Fold.{tab}
 use Rattle.grid.specs.declared.Sides.{Sides}
 use Rattle.grid.specs.declared.Answer.{Answer}
 use Rattle.grid.specs.declared.Answer.the-variants.{Done, Refused}
 use Rattle.grid.specs.Grid.{cellsOf, sidesGood, gridOf}
-use Rattle.grid.specs.State.{Lent, stateOf}
+use Rattle.grid.specs.State.{Lent, stateOf, flagOf}
 use Rattle.grid.specs.Good.{badFlag, badFluid}
-use Rattle.grid.specs.Outcome.{accepted, orRefuse, ifNone}
-use Rattle.grid.specs.Passes.{Inner, flagOf}
+use Rattle.grid.specs.Outcome.{orRefuse, ifNone}
 use Rattle.grid.proofs.Accepted.{passed, skip}
 use Rattle.grid.proofs.Checks.{stop}
-use Rattle.grid.proofs.Coordinates.{inner-of}
-use Rattle.grid.proofs.Lists.{getD-there}
 use Rattle.pumps.specs.Three.{numberIn, totalsGood, threeLengths}
 use Rattle.pumps.proofs.Checked.{four, head-sized}
 use Rattle.pumps.proofs.Checked.{lengths-told as told}
 use Rattle.schemes.specs.Scheme.{wallAt, ownAt, joinedFlag, ownFlag, joinedFlags, partedFlags, joined, badMark, badOpen, badOwn, ruled, tested}
 use Rattle.schemes.specs.Outcome.{ifDone, joinAnswer, joinGrid, partAnswer, partOwn}
 use Rattle.schemes.specs.Promise.{Joined, Parted}
-use Rattle.schemes.specs.Between.{Measured, Marked}
+use Rattle.schemes.specs.inner.Between.{Measured, Marked}
 use Rattle.schemes.proofs.Tests.{Scheme, tells}
 
 -- ---- tests 4 to 6 of a scheme

@@ -12,9 +12,9 @@ use lib.Dec.{eqb, ltb, leb}
 use lib.IntN.{ℤ}
 use lib.ListN.{length}
 use borrow.Author.Tests.{leb-true, le-leb, eqb-true, eq-eqb, ne-eqb, lt-ltb, not-false, ltb-true}
-use Rattle.whole.specs.Bools.{and-left, and-right, and-true, or-false, where-then}
-use Rattle.whole.specs.Search.{first-none, first-all}
-use Rattle.whole.specs.Tab.{getD-tab}
+use Rattle.whole.specs.laws.Bools.{and-left, and-right, and-true, or-false, where-then}
+use Rattle.whole.specs.laws.Search.{first-none, first-all}
+use Rattle.whole.specs.laws.Tab.{getD-tab}
 use Rattle.lattice.specs.Lattice.{d3q19, density}
 use Rattle.lattice.specs.Cell.{carryGood}
 use Rattle.grid.specs.declared.Sides.{Sides}

@@ -1,4 +1,4 @@
 pub mod Scheme
 pub mod Outcome
 pub mod Promise
-pub mod Between
+pub mod inner

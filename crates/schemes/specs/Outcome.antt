@@ -8,10 +8,9 @@ use Rattle.grid.specs.declared.Sides.{Sides}
 use Rattle.grid.specs.declared.Answer.{Answer}
 use Rattle.grid.specs.declared.Answer.the-variants.{Done, Refused}
 use Rattle.grid.specs.Grid.{cellsOf, sidesGood, gridOf}
-use Rattle.grid.specs.State.{Lent}
+use Rattle.grid.specs.State.{Lent, flagOf}
 use Rattle.grid.specs.Good.{badFlag}
 use Rattle.grid.specs.Outcome.{orRefuse, ifNone}
-use Rattle.grid.specs.Passes.{flagOf}
 use Rattle.schemes.specs.Scheme.{joinedFlags, partedFlags, tested}
 
 -- by an answer: accepted, or refused

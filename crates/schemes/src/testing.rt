@@ -13,12 +13,11 @@ ghost use lib.Dec.{leb, eqb};
 ghost use lib.ListN.{length};
 ghost use Rattle.whole.specs.Fold.{first};
 ghost use Rattle.grid.specs.Grid.{sidesGood, cellsOf, gridOf};
-ghost use Rattle.grid.specs.State.{lent};
+ghost use Rattle.grid.specs.State.{lent, flagOf};
 ghost use Rattle.grid.specs.Good.{badFluid};
-ghost use Rattle.grid.specs.Passes.{flagOf};
 ghost use Rattle.pumps.specs.Three.{threeLengths};
 ghost use Rattle.schemes.specs.Scheme.{joinedFlags, badMark, wetWall, badOwn, ruled, tested};
-ghost use Rattle.schemes.specs.Between.{Measured, Marked, Looking, emptyAt, Within, opened};
+ghost use Rattle.schemes.specs.inner.Between.{Measured, Marked, Looking, emptyAt, Within, opened};
 
 // Whether cell c is in the outer layer.
 pub fn outer(c: usize, s: Sides) -> bool

@@ -13,7 +13,7 @@ use Rattle.lattice.specs.declared.Settings.{Settings}
 use Rattle.grid.specs.declared.Answer.{Answer}
 use Rattle.grid.specs.declared.Answer.the-variants.{Done, Refused}
 use Rattle.grid.specs.State.{Lent}
-use Rattle.grid.specs.Step.{tooFast, next}
+use Rattle.grid.specs.Step.{unsteady, next}
 use Rattle.grid.specs.Good.{badFlag, badFluid, badRule}
 use Rattle.grid.specs.Outcome.{numberOf, accepted, orRefuse, goodAnswer, moveAnswer, settingsGood, byAnswer}
 use Rattle.grid.specs.Ground.{Ground, lengthsOn, stateOn, sceneOn, entryOn, stepOn, nextOn, secondOn, marksOn}
@@ -96,8 +96,8 @@ module _ (G : Ground) (g : Settings) (a b : Lent) (marks : List ℕ) where
     unfolding moveAnswer
     move-by x y z =
         let S = sceneOn G g a in
-        go (leb (S .grid .cells) (first (S .grid .cells) (tooFast S))) (leb (suc (S .grid .cells)) (badRule (S .lat) (S .grid .cells) (next S)))
-        (first (S .grid .cells) (tooFast S)) (badRule (S .lat) (S .grid .cells) (next S))
+        go (leb (S .grid .cells) (first (S .grid .cells) (unsteady S))) (leb (suc (S .grid .cells)) (badRule (S .lat) (S .grid .cells) (next S)))
+        (first (S .grid .cells) (unsteady S)) (badRule (S .lat) (S .grid .cells) (next S))
       where
         go : (t u : Bool) (p q : ℕ) → byAnswer (orRefuse t 7 p (orRefuse u 8 q Done)) x y z ≡ cond (accepted (orRefuse t 7 p (orRefuse u 8 q Done))) x y
         go true true p q = refl

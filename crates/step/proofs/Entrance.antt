@@ -6,7 +6,7 @@ use Prim.Native.Nat.{ℕ, _*_}
 use lib.Dec.{eqb}
 use lib.ListN.{length}
 use borrow.Author.Tests.{eqb-true}
-use Rattle.whole.specs.Bools.{and-left, and-right}
+use Rattle.whole.specs.laws.Bools.{and-left, and-right}
 use Rattle.lattice.specs.Lattice.{d3q19}
 use Rattle.lattice.specs.Cell.{relaxationGood, gravityGood}
 use Rattle.lattice.specs.declared.Settings.{Settings}
@@ -17,8 +17,8 @@ use Rattle.grid.specs.Grid.{cellsOf, sidesGood, gridOf}
 use Rattle.grid.specs.State.{Lent, stateOf}
 use Rattle.grid.specs.Outcome.{orRefuse, goodAnswer, lengthsGood, settingsGood, entryAnswer, open-outcome}
 use Rattle.grid.specs.Ground.{boxGround}
-use Rattle.grid.specs.Between.{Sized}
-use Rattle.grid.specs.Halfway.{Stepping, Advanced}
+use Rattle.grid.specs.inner.Between.{Sized}
+use Rattle.grid.specs.inner.Halfway.{Stepping, Advanced}
 use Rattle.grid.specs.Promise.{Stepped}
 use Rattle.grid.proofs.Accepted.{passed}
 use Rattle.grid.proofs.Prepared.{sized}

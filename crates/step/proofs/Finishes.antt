@@ -5,37 +5,36 @@ use mathlib.Core.List.{List, []}
 use Prim.Native.Nat.{ℕ, suc, _*_, _/_, _%_, _≤_, _<_}
 use lib.IntN.{ℤ}
 use lib.ListN.{length, replicate, length-replicate}
-use Rattle.whole.specs.Bools.{and-left, and-right}
+use Rattle.whole.specs.laws.Bools.{and-left, and-right}
 use Rattle.whole.specs.Fold.{tab, first}
-use Rattle.whole.specs.Tab.{length-tab}
+use Rattle.whole.specs.laws.Tab.{length-tab}
 use Rattle.lattice.specs.Lattice.{d3q19}
 use Rattle.lattice.specs.Body.{bodyGood}
 use Rattle.lattice.specs.declared.Settings.{Settings}
 use Rattle.grid.specs.declared.Sides.{Sides}
 use Rattle.grid.specs.declared.Answer.{Answer}
 use Rattle.grid.specs.declared.Answer.the-variants.{Done, Refused}
-use Rattle.grid.specs.Fill.{partOf}
+use Rattle.grid.specs.State.{partOf, Lent, lent, Scene, liquid, stateOf, lentOf}
 use Rattle.grid.specs.Grid.{cellsOf}
-use Rattle.grid.specs.State.{Lent, lent, Scene, liquid, stateOf, lentOf}
-use Rattle.grid.specs.Step.{flagAt, tooFast, collided, newFlag, newPart, newMass, newFill, next}
+use Rattle.grid.specs.Step.{flagAt, unsteady, collided, newFlag, newPart, newMass, newFill, next}
 use Rattle.grid.specs.Good.{badRule}
 use Rattle.grid.specs.Outcome.{accepted, ifNone, moveAnswer, sceneOf, nextOf}
-use Rattle.grid.specs.Between.{Sized, Ready, movedPart, movedMass, firstMark}
-use Rattle.grid.specs.Halfway.{Alike, Moved, Turning, Turned, Stepping, Advanced}
-use Rattle.grid.specs.Passes.{lowOf, offsetOf, openedBy, openedMark}
+use Rattle.grid.specs.inner.Between.{Sized, Ready, movedPart}
+use Rattle.grid.specs.inner.Halfway.{Alike, Moved, Turning, Turned, Stepping, Advanced}
+use Rattle.grid.specs.inner.Passes.{lowOf, offsetOf, openedBy, openedMark}
 use Rattle.grid.proofs.Beside.{Offsets}
 use Rattle.grid.proofs.Listed.{same-lent, lengths-listed}
 use Rattle.grid.proofs.Prepared.{sized}
 use Rattle.flow.specs.declared.passing.Passed.{Passed}
 use Rattle.flow.specs.declared.passing.Passed.the-variants.{Stopped, Through}
-use Rattle.flow.specs.Flowed.{Flowable, Went, stopped, through, Flowed}
+use Rattle.flow.specs.inner.Flowed.{Flowable, Went, stopped, through, Flowed}
 use Rattle.flow.proofs.Marking.{opened-box}
 use Rattle.flow.proofs.Poise.{poised}
 use Rattle.flow.proofs.Walked.{moved-list}
-use Rattle.turn.specs.Filled.{Fillable, Refilled}
-use Rattle.turn.proofs.Field.{fieldOf, Sound}
-use Rattle.turn.proofs.Converts.{ready-field, moved-parts, turned-parts}
-use Rattle.step.specs.Finished.{Finishing, Finished, Tried}
+use Rattle.fills.specs.inner.Filled.{Fillable, Refilled}
+use Rattle.conversion.proofs.Field.{fieldOf, Sound}
+use Rattle.conversion.proofs.Converts.{ready-field, moved-parts, turned-parts}
+use Rattle.step.specs.inner.Finished.{Finishing, Finished, Tried}
 use Rattle.step.proofs.Opened.{open-fluid, open-near}
 use Rattle.step.proofs.Refills.{fills-weighty}
 use Rattle.step.proofs.Tests
@@ -54,9 +53,9 @@ abbrev was-fair : Passed → Bool
 was-fair (Stopped c) = false
 was-fair (Through u v) = u
 
-abbrev was-still : Passed → Bool
-was-still (Stopped c) = false
-was-still (Through u v) = v
+abbrev was-calm : Passed → Bool
+was-calm (Stopped c) = false
+was-calm (Through u v) = v
 
 -- ---- two sets of the right lengths are alike
 pub alike-sized : {n : ℕ} {a b : Lent} → Sized n a → Sized n b → Alike a b
@@ -81,13 +80,13 @@ module _ (s : Sides) (g : Settings) (a : Lent) where
   U = sceneOf s g (lent (a .flags) (a .parts) (a .masses) (a .fills) [])
 
   -- ---- pass 1
-  pub moved-carried : {parts masses : List ℤ} {marks : List ℕ} {fair still : Bool} → Moved U (cellsOf s) parts masses marks fair still → Moved S (cellsOf s) parts masses marks fair still
+  pub moved-carried : {parts masses : List ℤ} {marks : List ℕ} {fair calm : Bool} → Moved U (cellsOf s) parts masses marks fair calm → Moved S (cellsOf s) parts masses marks fair calm
   unfolding sceneOf stateOf
   moved-carried m =
       moved-list (ap length (m .parts-are) ∙ length-tab (19 * cellsOf s) (λ j. movedPart U (j / 19) (j % 19)))
       (Uncarried.moved-carried (S .lat) (S .grid) (S .old .flag) (S .old .part) (S .old .mass) (S .old .fill) (S .g) (S .relax) (U .old .carry) (S .old .carry) (moved-parts m))
 
-  fast-carried : tooFast U ≡ tooFast S
+  fast-carried : unsteady U ≡ unsteady S
   unfolding sceneOf stateOf
   fast-carried = Uncarried.fast-is (S .lat) (S .grid) (S .old .flag) (S .old .part) (S .old .mass) (S .old .fill) (S .g) (S .relax) (U .old .carry) (S .old .carry)
 
@@ -96,7 +95,7 @@ module _ (s : Sides) (g : Settings) (a : Lent) where
     field = ready-field s g a r
 
     -- a cell that is too fast: refusal 7 there
-    pub stopped-answer : {c : ℕ} → c < cellsOf s → first (cellsOf s) (tooFast U) ≡ c → Refused 7 c ≡ moveAnswer S
+    pub stopped-answer : {c : ℕ} → c < cellsOf s → first (cellsOf s) (unsteady U) ≡ c → Refused 7 c ≡ moveAnswer S
     unfolding sceneOf stateOf
     stopped-answer h e = Tests.stopped-answer (fieldOf s g a) (field .stands) h (sym (ap (first (cellsOf s)) fast-carried) ∙ e)
 
@@ -118,7 +117,7 @@ module _ (s : Sides) (g : Settings) (a : Lent) where
         opened : {marks : List ℕ} → marks ≡ tab (cellsOf s) (openedMark s (a .flags) before) → marks ≡ tab (length (a .flags)) (openedBy (a .flags) before (tab 19 (offsetOf s)) (lowOf s))
         opened k = k ∙ sym (opened-box offs (a .flags) before (r .sized .flags))
 
-    module _ (t : cellsOf s ≤ first (cellsOf s) (tooFast S)) {flags2 : List ℕ} {parts2 masses2 carry2 : List ℤ} {marks : List ℕ} {turned : Bool}
+    module _ (t : cellsOf s ≤ first (cellsOf s) (unsteady S)) {flags2 : List ℕ} {parts2 masses2 carry2 : List ℤ} {marks : List ℕ} {turned : Bool}
         (w : Turned S (cellsOf s) flags2 parts2 masses2 carry2 marks turned) where
       -- after the conversion
       pub fills-asked : Fillable flags2 parts2 masses2
@@ -173,14 +172,14 @@ like-sized x y = record {
 pub cleared : (n : ℕ) {marks : List ℕ} → marks ≡ replicate n 0 → length marks ≡ n
 cleared n e = ap length e ∙ length-replicate n 0
 
-went-stopped : {S : Scene} {n : ℕ} {o : Passed} {parts masses : List ℤ} {marks : List ℕ} (c : ℕ) → o ≡ Stopped c → Went S n o parts masses marks → (c < n) × (first n (tooFast S) ≡ c)
+went-stopped : {S : Scene} {n : ℕ} {o : Passed} {parts masses : List ℤ} {marks : List ℕ} (c : ℕ) → o ≡ Stopped c → Went S n o parts masses marks → (c < n) × (first n (unsteady S) ≡ c)
 went-stopped {S} {n} c e (stopped {c = d} h f) = let k : d ≡ c = ap stopped-at e in (subst (λ (m : ℕ). m < n) k h, f ∙ k)
 went-stopped c e (through m) = absurd (false≢true (ap is-stopped e))
 
 went-through : {S : Scene} {n : ℕ} {o : Passed} {parts masses : List ℤ} {marks : List ℕ} (u v : Bool) → o ≡ Through u v → Went S n o parts masses marks → Moved S n parts masses marks u v
 went-through u v e (stopped h f) = absurd (false≢true (sym (ap is-stopped e)))
-went-through {S} {n} {o} {parts} {masses} {marks} u v e (through {fair = x} {still = y} m) =
-    subst (λ (z : Bool). Moved S n parts masses marks z v) (ap was-fair e) (subst (λ (z : Bool). Moved S n parts masses marks x z) (ap was-still e) m)
+went-through {S} {n} {o} {parts} {masses} {marks} u v e (through {fair = x} {calm = y} m) =
+    subst (λ (z : Bool). Moved S n parts masses marks z v) (ap was-fair e) (subst (λ (z : Bool). Moved S n parts masses marks x z) (ap was-calm e) m)
 
 module _ {s : Sides} {g : Settings} {a : Lent} where
   pub advanced-lengths : {answer : Answer} {second : Lent} {after : List ℕ} → Ready s g a → Advanced s g a answer second after → Sized (cellsOf s) second
@@ -191,7 +190,7 @@ module _ {s : Sides} {g : Settings} {a : Lent} where
       go false e = subst (λ (y : Lent). Sized (cellsOf s) y) (sym e) (r .sized)
 
   -- finished
-  pub turning : {b : Lent} {marks : List ℕ} {fair still : Bool} → Finishing s g a b marks fair still → Turning s g a (b .flags) (b .parts) (b .masses) (b .carry) marks still
+  pub turning : {b : Lent} {marks : List ℕ} {fair calm : Bool} → Finishing s g a b marks fair calm → Turning s g a (b .flags) (b .parts) (b .masses) (b .carry) marks calm
   turning f = record {
     ready = f .ready;
     moved = record {
@@ -200,13 +199,13 @@ module _ {s : Sides} {g : Settings} {a : Lent} where
       masses-are = f .moved .masses-are;
       marks-are = f .moved .marks-are;
       fair-tells = λ e. absurd (false≢true e);
-      still-tells = f .moved .still-tells;
+      calm-tells = f .moved .calm-tells;
     };
     flags-room = f .flags-room;
     carry-room = f .carry-room;
   }
 
-  module _ {b : Lent} {before : List ℕ} {fair still : Bool} (f : Finishing s g a b before fair still) {flags2 : List ℕ} {parts2 masses2 carry2 : List ℤ} {marks : List ℕ} {turned : Bool}
+  module _ {b : Lent} {before : List ℕ} {fair calm : Bool} (f : Finishing s g a b before fair calm) {flags2 : List ℕ} {parts2 masses2 carry2 : List ℤ} {marks : List ℕ} {turned : Bool}
       (w : Turned (sceneOf s g a) (cellsOf s) flags2 parts2 masses2 carry2 marks turned) where
     flags-count : length flags2 ≡ cellsOf s
     flags-count = ap length (w .flags-are) ∙ length-tab (cellsOf s) (newFlag (sceneOf s g a))
@@ -256,10 +255,10 @@ module _ {s : Sides} {g : Settings} {a : Lent} where
             marks-are = λ k. absurd (false≢true (ap accepted k));
           }
 
-      pub finishing : (fair still : Bool) → o ≡ Through fair still → Finishing s g a flowed marks2 fair still
-      finishing fair still e = record {
+      pub finishing : (fair calm : Bool) → o ≡ Through fair calm → Finishing s g a flowed marks2 fair calm
+      finishing fair calm e = record {
         ready = f .ready;
-        moved = moved-carried s g a (went-through fair still e (w .went));
+        moved = moved-carried s g a (went-through fair calm e (w .went));
         flags-room = second-sized .flags;
         fills-room = second-sized .fills;
         carry-room = second-sized .carry;

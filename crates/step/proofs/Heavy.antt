@@ -5,19 +5,19 @@ use native.Mathlib.Nat.{mul-le-mul-left, not-suc-le-zero}
 use native.Mathlib.Omega.{arith}
 use lib.IntN.{ℤ, pos, natAbs, _+ℤ_, _-ℤ_, _*ℤ_}
 use lib.Signed.{_≤ℤ_, _<ℤ_, quotZ}
-use Rattle.whole.specs.Bounds.{abs-add, abs-sub, abs-mul, abs-above}
-use Rattle.whole.specs.Fold.{sum, dirs}
-use Rattle.whole.specs.Machine.{Within, within-by}
-use Rattle.whole.specs.Parts.{≤-parts, parts-<}
-use Rattle.whole.specs.Sums.{sum-abs}
+use Rattle.whole.specs.laws.Bounds.{abs-add, abs-sub, abs-mul, abs-above}
+use Rattle.whole.specs.Fold.{dirs}
+use Rattle.whole.specs.laws.Machine.{Within, within-by}
+use Rattle.whole.specs.laws.Parts.{≤-parts, parts-<}
+use Rattle.whole.specs.laws.Sums.{sum-abs}
 use Rattle.lattice.specs.Lattice.{dot, d3q19, density}
-use Rattle.lattice.specs.Cell.{quad, relaxed, still}
+use Rattle.lattice.specs.Cell.{quad, relaxed, cutEquilibrium}
 use Rattle.lattice.proofs.Reading.{reading, is-least}
-use Rattle.lattice.specs.Body.{vec, Tame}
+use Rattle.lattice.specs.inner.Held.{vec, Tame}
 use Rattle.lattice.specs.declared.Flow.{Flow}
 use Rattle.grid.proofs.Same.{density-same}
 use Rattle.flow.proofs.Spans.{short}
-use Rattle.grid.specs.Fill.{Weighty}
+use Rattle.grid.specs.inner.Fill.{Weighty}
 
 -- ---- the formulas of stages 4 and 5
 module _ {ρ : ℤ} (low : pos 294912 ≤ℤ ρ) (high : Within ρ 1179648) where
@@ -32,9 +32,9 @@ module _ {ρ : ℤ} (low : pos 294912 ≤ℤ ρ) (high : Within ρ 1179648) wher
   cut-still : {w q : ℤ} → Within w 4 → Within q 26000000000000 → Within (quotZ (w *ℤ q) (pos 72 *ℤ ρ)) 33554432
   cut-still {w} {q} hw hq = let d = is-least (pos 72 *ℤ ρ) 21233664 (far 72) in within-by (search reading depth 20) tt
 
-  pub still-in : {w : ℕ} {q : ℤ} → w ≤ 4 → Within q 26000000000000 → Within (still w q ρ) 33554432
-  unfolding still
-  still-in {w} {q} hw hq = cut-still {w = pos w} (record { abs = hw }) hq
+  pub equilibrium-in : {w : ℕ} {q : ℤ} → w ≤ 4 → Within q 26000000000000 → Within (cutEquilibrium w q ρ) 33554432
+  unfolding cutEquilibrium
+  equilibrium-in {w} {q} hw hq = cut-still {w = pos w} (record { abs = hw }) hq
 
   cut-relaxed : {p f q w : ℤ} → Within p 2037 → Within w 4 → Within q 26000000000000 → Within f 1572864
       → Within (f +ℤ quotZ (p *ℤ (w *ℤ q -ℤ pos 72 *ℤ (ρ *ℤ f))) (pos 73728 *ℤ ρ)) 33554432

@@ -7,16 +7,16 @@ use native.Mathlib.Omega.{arith}
 use lib.Dec.{leb, ltb, eqb}
 use lib.ListN.{length, getD}
 use borrow.Author.Tests.{eqb-true, eq-eqb, not-true, le-leb, lt-ltb}
-use Rattle.whole.specs.Bools.{and-left, and-right, and-true, cond-yes}
-use Rattle.whole.specs.Fold.{tab}
-use Rattle.whole.specs.Search.{Dir, any-dir}
-use Rattle.whole.specs.Tab.{getD-tab}
+use Rattle.whole.specs.laws.Bools.{and-left, and-right, and-true, cond-yes}
+use Rattle.whole.specs.Fold.{tab, Dir}
+use Rattle.whole.specs.laws.Search.{any-dir}
+use Rattle.whole.specs.laws.Tab.{getD-tab}
 use Rattle.grid.specs.State.{liquid}
-use Rattle.grid.specs.Passes.{Amid, amid, besideAt, openMark, openedBy}
+use Rattle.grid.specs.inner.Passes.{Amid, amid, besideAt, openMark, openedBy}
 use Rattle.grid.proofs.Lists.{getD-there}
-use Rattle.turn.proofs.Births.{wet-low}
-use Rattle.turn.proofs.Field.{Field, Sound}
-use Rattle.turn.proofs.Offspring.{within}
+use Rattle.conversion.proofs.Births.{wet-low}
+use Rattle.conversion.proofs.Field.{Field, Sound}
+use Rattle.conversion.proofs.Offspring.{within}
 
 mark-one : (t : Bool) → _≡_ {A = ℕ} (cond t 1 0) 1 → t ≡ true
 mark-one true e = refl

@@ -8,21 +8,22 @@ use lib.Dec.{eqb}
 use lib.IntN.{ℤ, pos}
 use lib.ListN.{length, getD}
 use borrow.Author.Tests.{eq-eqb}
-use Rattle.whole.specs.Bools.{and-true, where-then, cond-no}
+use Rattle.lattice.specs.Body.{collidedPart, relaxedDir, equilibriumDir, equilibriumPart}
+use Rattle.whole.specs.laws.Bools.{and-true, where-then, cond-no}
 use Rattle.whole.specs.Fold.{tab, first}
-use Rattle.whole.specs.Machine.{Within}
-use Rattle.whole.specs.Search.{all-at}
-use Rattle.whole.specs.Tab.{getD-tab, length-tab, tab-cong}
+use Rattle.whole.specs.laws.Machine.{Within}
+use Rattle.whole.specs.laws.Search.{all-at}
+use Rattle.whole.specs.laws.Tab.{getD-tab, length-tab, tab-cong}
 use Rattle.lattice.specs.Lattice.{dot, d3q19, density}
 use Rattle.lattice.specs.Cell.{dense, slow, massGood, relaxationGood}
-use Rattle.lattice.specs.Body.{Tame, steadyFlow}
+use Rattle.lattice.specs.inner.Held.{Tame, steadyFlow}
 use Rattle.lattice.specs.declared.Flow.{Flow}
 use Rattle.lattice.specs.declared.Settings.{Settings}
 use Rattle.lattice.proofs.Ranges.{relaxation-in}
 use Rattle.lattice.proofs.Tame.{steady-tame}
 use Rattle.grid.specs.State.{Scene, byFlag, liquid}
-use Rattle.grid.specs.Step.{newDensity, newMomentum, tooFast, collidedDir, collided, filled, emptied, besideFilled, besideEmptied, flagAfter, newFlag, liquidNear, bornDensity, bornMomentum, bornDir, born, newPart, newMass, fillFor, newFill}
-use Rattle.grid.specs.Sight.{Around, sight}
+use Rattle.grid.specs.Step.{streamedDensity, streamedMomentum, unsteady, collidedDir, collided, filled, emptied, besideFilled, besideEmptied, flagAfter, newFlag, liquidNear, bornDensity, bornMomentum, bornDir, born, newPart, newMass, fillFor, newFill}
+use Rattle.grid.specs.inner.Sight.{Around, sight}
 use Rattle.grid.proofs.Dense.{born-part}
 use Rattle.grid.proofs.Moved.{density-collided, density-born}
 use Rattle.grid.proofs.Same.{density-same}
@@ -30,14 +31,14 @@ use Rattle.flow.proofs.Collisions.{relaxation-of}
 use Rattle.flow.proofs.Modes.{relax-good}
 use Rattle.flow.proofs.Onward.{collided-seen}
 use Rattle.flow.proofs.Spans.{Light, light-low, streamed-in}
-use Rattle.turn.specs.Born.{TestedOn}
-use Rattle.grid.specs.Fill.{Weighty}
-use Rattle.turn.specs.Filled.{Refilled, fillAt, fairMass, fairAt}
-use Rattle.turn.proofs.Births.{wet-low}
-use Rattle.turn.proofs.Means.{born-tame}
-use Rattle.turn.proofs.Field.{Field, sceneIn, sightIn, Standing}
-use Rattle.turn.proofs.Offspring.{near-of, tested, within, around, born-seen, fed, is-born}
-use Rattle.step.proofs.Heavy.{still-in, relaxed-in, weighty, weighty-same, quad-of}
+use Rattle.conversion.specs.inner.Born.{TestedOn}
+use Rattle.grid.specs.inner.Fill.{Weighty}
+use Rattle.fills.specs.inner.Filled.{Refilled, fillAt, fairMass, fairAt}
+use Rattle.conversion.proofs.Births.{wet-low}
+use Rattle.conversion.proofs.Means.{born-tame}
+use Rattle.conversion.proofs.Field.{Field, sceneIn, sightIn, Standing}
+use Rattle.conversion.proofs.Offspring.{near-of, tested, within, around, born-seen, fed, is-born}
+use Rattle.step.proofs.Heavy.{equilibrium-in, relaxed-in, weighty, weighty-same, quad-of}
 
 -- ---- one cell, as a function of one cell sees it
 module _ (weights : ℕ → ℕ) (light : Light weights) (flags : List ℕ) (part : ℕ → ℕ → ℤ) (fills off : List ℕ) (low : ℕ) (g : Settings) (t : TestedOn weights flags part fills off low g) (relax : relaxationGood (g .p) ≡ true) (c : ℕ) where
@@ -46,22 +47,22 @@ module _ (weights : ℕ → ℕ) (light : Light weights) (flags : List ℕ) (par
 
   module _ (h : c < length flags) (l : liquid (getD flags c 3) ≡ true) where
     abbrev flow : Flow
-    flow = record { rho = newDensity S c; x = newMomentum S c .x; y = newMomentum S c .y; z = newMomentum S c .z }
+    flow = record { rho = streamedDensity S c; x = streamedMomentum S c .x; y = streamedMomentum S c .y; z = streamedMomentum S c .z }
 
     tame : Tame flow
     unfolding steadyFlow
-    tame = steady-tame flow (and-true (dense (newDensity S c)) (slow (newDensity S c) (dot (newMomentum S c) (newMomentum S c))) (t .is-dense c h l) (t .is-slow c h l))
+    tame = steady-tame flow (and-true (dense (streamedDensity S c)) (slow (streamedDensity S c) (dot (streamedMomentum S c) (streamedMomentum S c))) (t .is-dense c h l) (t .is-slow c h l))
 
     moved-in : (i : ℕ) → 1 ≤ i → i < 19 → Within (collidedDir S c i) 33554432
-    unfolding collidedDir sight
+    unfolding relaxedDir sight
     moved-in i z k =
         relaxed-in (tame .low) (tame .rho) (relaxation-in (S .relax c) (relax-good (g .turbulent) _ (g .p) c relax)) (light-low light i z k) (quad-of flow tame i k)
         (streamed-in weights light flags part fills off low g (t .bodies) c (t .around c h (wet-low (getD flags c 3) l)) l i (omega arith))
 
     pub collided-weighty : Weighty (collided S c)
-    unfolding collided sight d3q19 density
+    unfolding collided collidedPart sight d3q19 density
     collided-weighty =
-        weighty (newDensity S c) (collidedDir S c) (collided S c) refl (λ a. refl) (tame .low) (tame .rho) moved-in (density-collided S c)
+        weighty (streamedDensity S c) (collidedDir S c) (collided S c) refl (λ a. refl) (tame .low) (tame .rho) moved-in (density-collided S c)
 
   module _ (a : Around (length flags) off low c) (some : 0 < liquidNear S c) where
     abbrev beginning : Flow
@@ -71,11 +72,11 @@ module _ (weights : ℕ → ℕ) (light : Light weights) (flags : List ℕ) (par
     begun = born-tame weights flags part fills off low g c t a (record { rho = refl; momentum = refl }) some
 
     born-in : (i : ℕ) → 1 ≤ i → i < 19 → Within (bornDir S c i) 33554432
-    unfolding bornDir sight
-    born-in i z k = still-in (begun .low) (begun .rho) (light-low light i z k) (quad-of beginning begun i k)
+    unfolding equilibriumDir sight
+    born-in i z k = equilibrium-in (begun .low) (begun .rho) (light-low light i z k) (quad-of beginning begun i k)
 
     pub born-weighty : Weighty (born S c)
-    unfolding born sight d3q19 density
+    unfolding born equilibriumPart sight d3q19 density
     born-weighty = weighty (bornDensity S c) (bornDir S c) (born S c) refl (λ b. refl) (begun .low) (begun .rho) born-in (density-born S c)
 
 -- ---- the next state of a field
@@ -84,7 +85,7 @@ kept true em e = absurd (omega arith)
 kept false true e = absurd (omega arith)
 kept false false e = refl
 
-module _ (F : Field) (r : Standing F) (fast : F .cells ≤ first (F .cells) (tooFast (sceneIn F))) where
+module _ (F : Field) (r : Standing F) (fast : F .cells ≤ first (F .cells) (unsteady (sceneIn F))) where
   abbrev step : Scene
   step = sceneIn F
 

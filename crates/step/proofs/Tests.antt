@@ -7,16 +7,16 @@ use Prim.Native.Nat.{ℕ, suc, _≤_, _<_}
 use native.Mathlib.Omega.{arith}
 use lib.IntN.{ℤ, pos}
 use lib.ListN.{getD}
-use Rattle.whole.specs.Bools.{and-left, and-right}
+use Rattle.whole.specs.laws.Bools.{and-left, and-right}
 use Rattle.whole.specs.Fold.{tab, all, first}
-use Rattle.whole.specs.Tab.{getD-tab}
+use Rattle.whole.specs.laws.Tab.{getD-tab}
 use Rattle.lattice.specs.Lattice.{dot, density, momentum, d3q19}
 use Rattle.lattice.specs.Body.{bodyGood}
 use Rattle.lattice.specs.Cell.{partGood, dense, slow}
 use Rattle.grid.specs.declared.Answer.{Answer}
 use Rattle.grid.specs.declared.Answer.the-variants.{Done, Refused}
 use Rattle.grid.specs.State.{State, Scene, liquid}
-use Rattle.grid.specs.Step.{newDensity, tooFast, collided, filled, emptied, besideFilled, besideEmptied, newFlag, newPart, newMass, newFill, next}
+use Rattle.grid.specs.Step.{streamedDensity, unsteady, collided, filled, emptied, besideFilled, besideEmptied, newFlag, newPart, newMass, newFill, next}
 use Rattle.grid.specs.Good.{badRule}
 use Rattle.grid.specs.Outcome.{ifNone, moveAnswer}
 use Rattle.grid.specs.Demands.{Same}
@@ -26,10 +26,10 @@ use Rattle.grid.proofs.Checks.{stop}
 use Rattle.grid.proofs.Dense.{newborn-cases}
 use Rattle.grid.proofs.Fair.{Fair, fair-holds}
 use Rattle.grid.proofs.Same.{body-same, bad-rule-same}
-use Rattle.turn.specs.Filled.{Refilled}
-use Rattle.turn.specs.Turned.{TurnedTo}
-use Rattle.turn.proofs.Amounts.{new-dense}
-use Rattle.turn.proofs.Field.{Field, sceneIn, Standing, laid, walled}
+use Rattle.fills.specs.inner.Filled.{Refilled}
+use Rattle.conversion.specs.inner.Turned.{TurnedTo}
+use Rattle.conversion.proofs.Amounts.{new-dense}
+use Rattle.conversion.proofs.Field.{Field, sceneIn, Standing, laid, walled}
 use Rattle.step.proofs.Refills.{fills-next, masses-fair}
 
 module _ (F : Field) (r : Standing F) where
@@ -49,18 +49,18 @@ module _ (F : Field) (r : Standing F) where
   last = ifNone (suc N) 8 (badRule (S .lat) N (next S)) Done
 
   -- a cell that is too fast: refusal 7 there
-  pub stopped-answer : {c : ℕ} → c < n → first n (tooFast S) ≡ c → Refused 7 c ≡ moveAnswer S
+  pub stopped-answer : {c : ℕ} → c < n → first n (unsteady S) ≡ c → Refused 7 c ≡ moveAnswer S
   unfolding moveAnswer
-  stopped-answer {c} h e = sym (stop N 7 (first N (tooFast S)) last (subst (λ (k : ℕ). first k (tooFast S) < k) (sym (r .cells-are)) (subst (λ (m : ℕ). m < n) (sym e) h)) ∙ ap (Refused 7) found)
+  stopped-answer {c} h e = sym (stop N 7 (first N (unsteady S)) last (subst (λ (k : ℕ). first k (unsteady S) < k) (sym (r .cells-are)) (subst (λ (m : ℕ). m < n) (sym e) h)) ∙ ap (Refused 7) found)
     where
-      found : first N (tooFast S) ≡ c
-      found = ap (λ (k : ℕ). first k (tooFast S)) (r .cells-are) ∙ e
+      found : first N (unsteady S) ≡ c
+      found = ap (λ (k : ℕ). first k (unsteady S)) (r .cells-are) ∙ e
 
-  module _ (t : n ≤ first n (tooFast S)) where
-    steady : N ≤ first N (tooFast S)
-    steady = subst (λ (k : ℕ). k ≤ first k (tooFast S)) (sym (r .cells-are)) t
+  module _ (t : n ≤ first n (unsteady S)) where
+    steady : N ≤ first N (unsteady S)
+    steady = subst (λ (k : ℕ). k ≤ first k (unsteady S)) (sym (r .cells-are)) t
 
-    dense-now : (c : ℕ) → c < N → liquid (getD (F .flags) c 3) ≡ true → dense (newDensity S c) ≡ true
+    dense-now : (c : ℕ) → c < N → liquid (getD (F .flags) c 3) ≡ true → dense (streamedDensity S c) ≡ true
     dense-now c h l = new-dense F r t c (listed h) l
 
     module _ {flags2 : List ℕ} {part2 : ℕ → ℕ → ℤ} {masses2 carry2 : List ℤ} {marks : List ℕ} {turned : Bool} (w : TurnedTo S n flags2 part2 masses2 carry2 marks turned)
@@ -98,7 +98,7 @@ module _ (F : Field) (r : Standing F) where
         pub fair-answer : Done ≡ moveAnswer S
         unfolding moveAnswer
         fair-answer =
-            sym (skip N 7 (first N (tooFast S)) last steady
+            sym (skip N 7 (first N (unsteady S)) last steady
             ∙ skip (suc N) 8 (badRule (S .lat) N (next S)) Done (fair-holds S (laid F r) (walled F r) dense-now fair))
 
       -- ---- test 8 by the scan
@@ -122,4 +122,4 @@ module _ (F : Field) (r : Standing F) where
           a ∙ ap (λ (m : ℕ). ifNone (suc m) 8 (badRule (S .lat) m held) Done) e
           ∙ ap (λ (d : ℕ). ifNone (suc n) 8 d Done) (sym (bad-rule-same (S .lat) n (next S) held same-next))
           ∙ ap (λ (m : ℕ). ifNone (suc m) 8 (badRule (S .lat) m (next S)) Done) (sym (r .cells-are))
-          ∙ sym (skip N 7 (first N (tooFast S)) last steady)
+          ∙ sym (skip N 7 (first N (unsteady S)) last steady)

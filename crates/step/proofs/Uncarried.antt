@@ -6,14 +6,14 @@ use mathlib.Core.List.{List}
 use Prim.Native.Nat.{ℕ, zero, suc, _≤_}
 use lib.IntN.{ℤ, pos, _+ℤ_, _-ℤ_}
 use Rattle.whole.specs.Fold.{dirs, tab, first}
-use Rattle.lattice.specs.Body.{bodyGood}
+use Rattle.lattice.specs.Body.{bodyGood, collidedPart, relaxedDir}
 use Rattle.lattice.specs.Lattice.{V3, dot, Lattice, d3q19, density, momentum}
 use Rattle.lattice.specs.Cell.{dense, slow, pull, quad, relaxed, over, under}
 use Rattle.grid.specs.Grid.{Grid}
 use Rattle.grid.specs.State.{Scene, byFlag, liquid}
-use Rattle.grid.specs.Step.{seen, normal, oldDensity, oldMomentum, leansTo, rebuilt, rebuild, arrives, streamed, difference, traded, tradedMass, newDensity, newMomentum, tooFast, collidedDir, collided}
-use Rattle.grid.specs.Between.{movedPart, movedMass, firstMark}
-use Rattle.flow.specs.Flowed.{MovedTo}
+use Rattle.grid.specs.Step.{seen, normal, oldDensity, oldMomentum, leansTo, rebuilds, rebuiltPart, arrives, streamed, difference, traded, tradedMass, streamedDensity, streamedMomentum, unsteady, collidedDir, collided}
+use Rattle.grid.specs.inner.Between.{movedPart, movedMass, firstMark}
+use Rattle.flow.specs.inner.Flowed.{MovedTo}
 
 module _ (L : Lattice) (G : Grid) (flag : ℕ → ℕ) (part : ℕ → ℕ → ℤ) (mass : ℕ → ℤ) (fill : ℕ → ℕ) (g : V3) (p : ℕ → ℤ) (k k′ : ℤ) where
   abbrev A : Scene
@@ -24,7 +24,7 @@ module _ (L : Lattice) (G : Grid) (flag : ℕ → ℕ) (part : ℕ → ℕ → �
 
   -- ---- stages 1 to 4
   streamed-is : (c d : ℕ) → streamed A c d ≡ streamed B c d
-  unfolding streamed arrives seen normal leansTo rebuilt rebuild oldDensity oldMomentum
+  unfolding streamed arrives seen normal leansTo rebuilds rebuiltPart oldDensity oldMomentum
   streamed-is c zero = refl
   streamed-is c (suc a) = refl
 
@@ -32,29 +32,29 @@ module _ (L : Lattice) (G : Grid) (flag : ℕ → ℕ) (part : ℕ → ℕ → �
   unfolding tradedMass traded difference
   traded-is c = refl
 
-  density-is : (c : ℕ) → newDensity A c ≡ newDensity B c
-  unfolding newDensity
+  density-is : (c : ℕ) → streamedDensity A c ≡ streamedDensity B c
+  unfolding streamedDensity
   density-is c i = density L (λ d. streamed-is c d i)
 
-  momentum-is : (c : ℕ) → newMomentum A c ≡ newMomentum B c
-  unfolding newMomentum
+  momentum-is : (c : ℕ) → streamedMomentum A c ≡ streamedMomentum B c
+  unfolding streamedMomentum
   momentum-is c i = record {
     x = momentum L (λ d. streamed-is c d i) .x +ℤ pull (density-is c i) (g .x);
     y = momentum L (λ d. streamed-is c d i) .y +ℤ pull (density-is c i) (g .y);
     z = momentum L (λ d. streamed-is c d i) .z +ℤ pull (density-is c i) (g .z);
   }
 
-  pub fast-is : tooFast A ≡ tooFast B
-  unfolding tooFast
+  pub fast-is : unsteady A ≡ unsteady B
+  unfolding unsteady
   fast-is i c = liquid (flag c) && not (dense (density-is c i) && slow (density-is c i) (dot (momentum-is c i) (momentum-is c i)))
 
   collided-dir-is : (c d : ℕ) → collidedDir A c d ≡ collidedDir B c d
-  unfolding collidedDir
+  unfolding relaxedDir
   collided-dir-is c d i =
       relaxed (p c) (L .weight d) (quad (density-is c i) (dot (L .e d) (momentum-is c i)) (dot (momentum-is c i) (momentum-is c i))) (density-is c i) (streamed-is c d i)
 
   collided-at : (c d : ℕ) → collided A c d ≡ collided B c d
-  unfolding collided
+  unfolding collided collidedPart
   collided-at c zero = λ i. density-is c i -ℤ dirs (L .q) (λ d. collided-dir-is c d i)
   collided-at c (suc a) = λ i. collided-dir-is c (suc a) i
 
@@ -74,12 +74,12 @@ module _ (L : Lattice) (G : Grid) (flag : ℕ → ℕ) (part : ℕ → ℕ → �
   first-mark-is i c = byFlag (flag c) 0 (cond (over (traded-is c i) (density-is c i)) 1 (cond (under (traded-is c i) (density-is c i)) 2 0)) 0 0
 
   -- all of pass 1
-  pub moved-carried : {n : ℕ} {part2 : ℕ → ℕ → ℤ} {masses2 : List ℤ} {marks : List ℕ} {fair still : Bool} → MovedTo A n part2 masses2 marks fair still → MovedTo B n part2 masses2 marks fair still
+  pub moved-carried : {n : ℕ} {part2 : ℕ → ℕ → ℤ} {masses2 : List ℤ} {marks : List ℕ} {fair calm : Bool} → MovedTo A n part2 masses2 marks fair calm → MovedTo B n part2 masses2 marks fair calm
   moved-carried {n} m = record {
     steady = subst (λ (f : ℕ → Bool). n ≤ first n f) fast-is (m .steady);
     part-is = λ c d h l. m .part-is c d h l ∙ ap (λ (f : ℕ → ℕ → ℤ). f c d) moved-part-is;
     masses-are = m .masses-are ∙ ap (tab n) moved-mass-is;
     marks-are = m .marks-are ∙ ap (tab n) first-mark-is;
     fair-tells = λ e c h l. sym (ap (λ (f : ℕ → ℕ → ℤ). bodyGood d3q19 (f c)) collided-is) ∙ m .fair-tells e c h l;
-    still-tells = λ e c h. sym (ap (λ (f : ℕ → ℕ). f c) first-mark-is) ∙ m .still-tells e c h;
+    calm-tells = λ e c h. sym (ap (λ (f : ℕ → ℕ). f c) first-mark-is) ∙ m .calm-tells e c h;
   }

@@ -1,4 +1,4 @@
-// Layer 2, the step: tests at entry, the passes in a row, the copy on a refusal. Knows the promises of flow and turn.
+// Layer 2, the step: tests at entry, the passes in a row, the copy on a refusal. Knows the promises of flow, conversion and fills.
 pub mod entry;
 pub mod sets;
 pub mod stepping;

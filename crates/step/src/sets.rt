@@ -2,7 +2,7 @@
 use grid::copying;
 ghost use mathlib.Core.Path.{_≡_};
 ghost use Rattle.grid.specs.State.{lent};
-ghost use Rattle.grid.specs.Halfway.{Alike};
+ghost use Rattle.grid.specs.inner.Halfway.{Alike};
 
 // The second set becomes a copy of the first.
 pub fn copied(

@@ -1,6 +1,8 @@
 // The step of a set that passed tests 1 to 6: passes in a row, and on refusal 7 or 8 the copy.
 use crate::entry;
 use crate::sets;
+use conversion::turning;
+use fills::filling;
 use flow::marks;
 use flow::passing;
 use flow::passing::Passed;
@@ -9,8 +11,6 @@ use grid::Sides;
 use grid::checking;
 use grid::copying;
 use lattice::Settings;
-use turn::filling;
-use turn::turning;
 ghost use mathlib.Core.Path.{_≡_};
 ghost use Prim.Native.Nat.{suc};
 ghost use lib.ListN.{length};
@@ -18,10 +18,10 @@ ghost use Rattle.lattice.specs.Lattice.{d3q19};
 ghost use Rattle.grid.specs.State.{lent, stateOf};
 ghost use Rattle.grid.specs.Good.{badRule};
 ghost use Rattle.grid.specs.Outcome.{ifNone};
-ghost use Rattle.grid.specs.Between.{Sized};
-ghost use Rattle.grid.specs.Halfway.{Stepping, Advanced};
+ghost use Rattle.grid.specs.inner.Between.{Sized};
+ghost use Rattle.grid.specs.inner.Halfway.{Stepping, Advanced};
 ghost use Rattle.grid.specs.Promise.{Stepped};
-ghost use Rattle.step.specs.Finished.{Finishing, Finished, Tried};
+ghost use Rattle.step.specs.inner.Finished.{Finishing, Finished, Tried};
 
 // Test 8 where something is not fair: test 6's own scan of the second set.
 fn judged(flags2: &[u8], parts2: &[i32], mass2: &[i32], fill2: &[u32], carry2: &[i64]) -> Answer
@@ -49,11 +49,11 @@ fn finished(
     carry2: &mut [i64],
     marks: &mut [u8],
     fair: bool,
-    still: bool,
+    calm: bool,
     s: Sides,
     g: Settings,
 ) -> Answer
-    requires { ⌜ Finishing s g (lent (now flags) (now parts) (now mass) (now fill) (now carry)) (lent (now flags2) (now parts2) (now mass2) (now fill2) (now carry2)) (now marks) fair still ⌝ }
+    requires { ⌜ Finishing s g (lent (now flags) (now parts) (now mass) (now fill) (now carry)) (lent (now flags2) (now parts2) (now mass2) (now fill2) (now carry2)) (now marks) fair calm ⌝ }
     ensures { λ r. ⌜ Finished s g (lent (now (flags .entry)) (now (parts .entry)) (now (mass .entry)) (now (fill .entry)) (now (carry .entry))) r (lent (now (flags2 .exit)) (now (parts2 .exit)) (now (mass2 .exit)) (now (fill2 .exit)) (now (carry2 .exit))) (now (marks .exit)) ⌝ }
 {
     let a = turning::turned(
@@ -67,7 +67,7 @@ fn finished(
         mass2,
         carry2,
         marks,
-        still,
+        calm,
         s,
         g,
     );
@@ -79,7 +79,7 @@ fn finished(
 }
 
 // The passes in a row; after a refusal the second set holds what was worked out so far.
-fn advanced(
+fn tried(
     flags: &[u8],
     parts: &[i32],
     mass: &[i32],
@@ -101,7 +101,7 @@ fn advanced(
     let a = passing::flowing(flags, parts, mass, fill, parts2, mass2, marks, s, g);
     match a {
         Passed::Stopped(c) => Answer::Refused(7, c),
-        Passed::Through(fair, still) => finished(
+        Passed::Through(fair, calm) => finished(
             flags,
             parts,
             mass,
@@ -114,7 +114,7 @@ fn advanced(
             carry2,
             marks,
             fair,
-            still,
+            calm,
             s,
             g,
         ),
@@ -122,7 +122,7 @@ fn advanced(
 }
 
 // The step of a set that is ready.
-pub fn stepped(
+pub fn advanced(
     flags: &[u8],
     parts: &[i32],
     mass: &[i32],
@@ -140,7 +140,7 @@ pub fn stepped(
     requires { ⌜ Stepping s g (lent (now flags) (now parts) (now mass) (now fill) (now carry)) (lent (now flags2) (now parts2) (now mass2) (now fill2) (now carry2)) (now marks) ⌝ }
     ensures { λ r. ⌜ Advanced s g (lent (now (flags .entry)) (now (parts .entry)) (now (mass .entry)) (now (fill .entry)) (now (carry .entry))) r (lent (now (flags2 .exit)) (now (parts2 .exit)) (now (mass2 .exit)) (now (fill2 .exit)) (now (carry2 .exit))) (now (marks .exit)) ⌝ }
 {
-    let a = advanced(
+    let a = tried(
         flags,
         parts,
         mass,
@@ -210,7 +210,7 @@ pub fn step(
     if let Answer::Refused(no, at) = a {
         return Answer::Refused(no, at);
     }
-    stepped(
+    advanced(
         flags,
         parts,
         mass,

@@ -7,13 +7,13 @@ use native.Mathlib.Nat.{lt-irrefl, le-of-suc-le-suc}
 use native.Mathlib.Omega.{arith}
 use lib.IntN.{ℤ, pos, negsuc}
 use lib.Signed.{_≤ℤ_, _<ℤ_}
-use Rattle.whole.specs.Parts.{≤-parts, <-parts}
+use Rattle.whole.specs.laws.Parts.{≤-parts, <-parts}
 use Rattle.whole.specs.Fold.{dirs}
-use Rattle.whole.specs.Search.{first-is, first-all}
-use Rattle.whole.specs.Sums.{sum-abs}
-use Rattle.whole.specs.Machine.{Within}
+use Rattle.whole.specs.laws.Search.{first-is, first-all}
+use Rattle.whole.specs.laws.Sums.{sum-abs}
+use Rattle.whole.specs.laws.Machine.{Within}
 use Rattle.lattice.specs.Cell.{positive, isPositive, lowestDir}
-use Rattle.lattice.specs.Body.{partsOf, Weights}
+use Rattle.lattice.specs.inner.Held.{partsOf, Weights}
 
 pub positive-yes : (z : ℤ) → pos 0 <ℤ z → positive z ≡ z
 positive-yes (pos n) h = refl

@@ -1,7 +1,7 @@
 // Stage 5: which interface cells are filled or emptied.
 ghost use mathlib.Core.Path.{_≡_};
 ghost use mathlib.Core.Bool.{cond};
-ghost use Rattle.whole.specs.Machine.{Within};
+ghost use Rattle.whole.specs.laws.Machine.{Within};
 ghost use Rattle.lattice.specs.Cell.{over, under};
 
 // 1 where mass m at density rho is filled, 2 where it would be emptied, else 0.

@@ -7,9 +7,9 @@ ghost use lib.IntN.{pos, _*ℤ_};
 ghost use lib.Signed.{_<ℤ_};
 ghost use lib.Dec.{eqb};
 ghost use Rattle.whole.specs.Fold.{dirs};
-ghost use Rattle.whole.specs.Machine.{Within};
+ghost use Rattle.whole.specs.laws.Machine.{Within};
 ghost use Rattle.lattice.specs.Cell.{cut, positive, lowestDir, remainder, share};
-ghost use Rattle.lattice.specs.Body.{partsOf, Weights};
+ghost use Rattle.lattice.specs.inner.Held.{partsOf, Weights};
 
 // The weight of a neighbour with new flag f that lies d along the normal: d where positive, of targets alone.
 pub fn weight(f: u8, d: i32) -> i64
@@ -60,7 +60,7 @@ fn first(w: [i64; 19]) -> usize
     19
 }
 
-fn share(e: i64, w: i64, t: i64) -> i64
+fn cut_share(e: i64, w: i64, t: i64) -> i64
     requires { ⌜ Within e 4294967296 × Within w 1000000 × (pos 0 <ℤ t) ⌝ }
     ensures { λ r. ⌜ (r ≡ cut (e *ℤ w) t) × Within r 4294967296000000 ⌝ }
 {
@@ -74,7 +74,7 @@ fn remainder(e: i64, w: [i64; 19], t: i64) -> i64
     let mut r = e;
     let mut i = 1;
     while i < 19 {
-        r -= share(e, w[i], t);
+        r -= cut_share(e, w[i], t);
         i += 1;
     }
     r
@@ -86,7 +86,7 @@ pub fn given(e: i64, w: [i64; 19], i: usize) -> i64
     ensures { λ r. ⌜ r ≡ share 18 e (partsOf w) i ⌝ }
 {
     let t = total(w);
-    let y = share(e, w[i], t);
+    let y = cut_share(e, w[i], t);
     if first(w) == i {
         return y + remainder(e, w, t);
     }

@@ -7,8 +7,8 @@ use borrow.Author.Tests.{leb-true, ltb-true}
 use lib.Dec.{T, leb, ltb}
 use lib.IntN.{ℤ, pos, negsuc, natAbs, _-ℤ_}
 use lib.Signed.{ltZ, nonNeg, shrZ}
-use Rattle.whole.specs.Bools.{and-left, and-right}
-use Rattle.whole.specs.Machine.{Within}
+use Rattle.whole.specs.laws.Bools.{and-left, and-right}
+use Rattle.whole.specs.laws.Machine.{Within}
 use Rattle.lattice.specs.Cell.{edgeGood, coordinateGood}
 use Rattle.tunnel.specs.declared.Point.{Point}
 use Rattle.tunnel.specs.Place.{pointGood, inside, axisOf}

@@ -8,7 +8,7 @@ use lib.Arith.{digits-lt}
 use Rattle.grid.specs.declared.Sides.{Sides}
 use Rattle.grid.specs.Grid.{sidesGood, cellsOf, cellAt}
 use Rattle.grid.proofs.GoodSides.{good-sides}
-use Rattle.tunnel.specs.Asks.{Inside}
+use Rattle.tunnel.specs.inner.Asks.{Inside}
 
 -- the coordinates of cell c
 pub record Coordinates (s : Sides) (c : ℕ) : Type 0 where

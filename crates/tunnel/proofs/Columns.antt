@@ -8,11 +8,11 @@ use native.Mathlib.Omega.{arith}
 use borrow.Author.Tests.{ltb-false}
 use lib.Dec.{ltb}
 use Rattle.whole.specs.Fold.{first, all, total}
-use Rattle.whole.specs.Search.{first-none}
+use Rattle.whole.specs.laws.Search.{first-none}
 use Rattle.grid.specs.declared.Sides.{Sides}
 use Rattle.grid.specs.Grid.{cellAt, cellsOf}
 use Rattle.grid.proofs.GoodSides.{good-sides}
-use Rattle.tunnel.specs.Asks.{Inside, InColumn}
+use Rattle.tunnel.specs.inner.Asks.{Inside, InColumn}
 use Rattle.tunnel.specs.Depth.{columnAt, fillBad, isWall, openFill}
 use Rattle.tunnel.proofs.Cells.{small}
 

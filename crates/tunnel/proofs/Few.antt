@@ -8,7 +8,7 @@ use borrow.Author.Tests.{leb-true}
 use lib.Dec.{eqb, leb, ltb}
 use lib.ListN.{length}
 use Rattle.whole.specs.Fold.{first, all, total}
-use Rattle.whole.specs.Sums.{total-le}
+use Rattle.whole.specs.laws.Sums.{total-le}
 use Rattle.grid.specs.declared.Sides.{Sides}
 use Rattle.grid.specs.Grid.{sidesGood, cellsOf, cellAt}
 use Rattle.grid.proofs.GoodSides.{good-sides}

@@ -10,7 +10,7 @@ use Rattle.whole.specs.Fold.{tab, open-fold}
 use Rattle.grid.specs.declared.Sides.{Sides}
 use Rattle.grid.specs.Grid.{open-grid}
 use Rattle.tunnel.specs.declared.Placed.the-variants.{Cell}
-use Rattle.tunnel.specs.Place.{placeOf, open-place}
+use Rattle.tunnel.specs.Place.{placingOf, open-place}
 use Rattle.tunnel.specs.Point.{refused, pointOf, open-point}
 use Rattle.tunnel.specs.Depth.{solid, dry, deep, depthOf, open-depth}
 use Rattle.tunnel.specs.Depth as depth
@@ -19,7 +19,7 @@ use Rattle.tunnel.specs.Depth as depth
 ten : Sides
 ten = record { nx = 10; ny = 10; nz = 10 }
 
-place-corner : placeOf ten (pos 50) (record { x = pos 5200000000; y = pos 5200000000; z = pos 5200000000 }) (record { x = pos 5200000149; y = pos 5200000149; z = pos 5200000150 }) ≡ Cell 322
+place-corner : placingOf ten (pos 50) (record { x = pos 5200000000; y = pos 5200000000; z = pos 5200000000 }) (record { x = pos 5200000149; y = pos 5200000149; z = pos 5200000150 }) ≡ Cell 322
 unfolding open-place open-grid ten
 place-corner = refl
 

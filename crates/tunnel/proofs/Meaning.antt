@@ -9,8 +9,8 @@ use borrow.Author.Tests.{lt-ltb}
 use lib.Dec.{ltb}
 use lib.IntN.{ℤ, pos, negsuc, _-ℤ_}
 use lib.Signed.{_≤ℤ_, _<ℤ_, shrZ}
-use Rattle.whole.specs.Parts.{≤-parts, <-parts, parts-≤, parts-<}
-use Rattle.whole.specs.Quot.{floor-only}
+use Rattle.whole.specs.laws.Parts.{≤-parts, <-parts, parts-≤, parts-<}
+use Rattle.whole.specs.laws.Quot.{floor-only}
 use Rattle.grid.specs.declared.Sides.{Sides}
 use Rattle.grid.specs.Grid.{cellAt}
 use Rattle.tunnel.specs.Place.{inside, axisOf}

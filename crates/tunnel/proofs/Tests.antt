@@ -17,7 +17,7 @@ use Rattle.tunnel.specs.declared.Placed.{Placed}
 use Rattle.tunnel.specs.declared.Placed.the-variants.{Refused, Cell}
 use Rattle.tunnel.specs.Refusal.{orElse}
 use Rattle.lattice.specs.Cell.{edgeGood}
-use Rattle.tunnel.specs.Place.{pointGood, axisOf, foundOf, placeOf, refusalNumber}
+use Rattle.tunnel.specs.Place.{pointGood, axisOf, foundOf, placingOf, refusalNumber}
 use Rattle.tunnel.specs.Depth.{Reading, refused, solid, dry, deep, flagBad, fillBad, isWall, openFill, readingOf, measuredOf, depthOf}
 
 -- ---- depth
@@ -116,8 +116,8 @@ shape-finds true false d c g e = absurd (false≢true (sym e))
 shape-finds true true false c g e = finds-none
 shape-finds true true true c g e = finds-cell c
 
-pub place-finds : (s : Sides) (edge : ℤ) (origin point : Point) → sidesGood s ≡ true → eqb (refusalNumber (placeOf s edge origin point)) 3 ≡ false → Finds (placeOf s edge origin point)
-unfolding placeOf foundOf
+pub place-finds : (s : Sides) (edge : ℤ) (origin point : Point) → sidesGood s ≡ true → eqb (refusalNumber (placingOf s edge origin point)) 3 ≡ false → Finds (placingOf s edge origin point)
+unfolding placingOf foundOf
 place-finds s edge origin point g e =
     let x = axisOf (point .x) (origin .x) (natAbs edge) (s .nx) in
     let y = axisOf (point .y) (origin .y) (natAbs edge) (s .ny) in
@@ -132,8 +132,8 @@ shape-three true true true c g = refl
 
 -- 3 exactly for an edge, an origin or a point out of range; of the origin itself: for edge or origin
 pub three-means : (s : Sides) (edge : ℤ) (origin point : Point) → sidesGood s ≡ true
-    → eqb (refusalNumber (placeOf s edge origin point)) 3 ≡ not (edgeGood edge && pointGood origin && pointGood point)
-unfolding placeOf foundOf
+    → eqb (refusalNumber (placingOf s edge origin point)) 3 ≡ not (edgeGood edge && pointGood origin && pointGood point)
+unfolding placingOf foundOf
 three-means s edge origin point g =
     let x = axisOf (point .x) (origin .x) (natAbs edge) (s .nx) in
     let y = axisOf (point .y) (origin .y) (natAbs edge) (s .ny) in
@@ -146,5 +146,5 @@ twice true false = refl
 twice false b = refl
 
 pub origin-means : (s : Sides) (edge : ℤ) (origin : Point) → sidesGood s ≡ true
-    → eqb (refusalNumber (placeOf s edge origin origin)) 3 ≡ not (edgeGood edge && pointGood origin)
+    → eqb (refusalNumber (placingOf s edge origin origin)) 3 ≡ not (edgeGood edge && pointGood origin)
 origin-means s edge origin g = three-means s edge origin origin g ∙ ap not (twice (edgeGood edge) (pointGood origin))

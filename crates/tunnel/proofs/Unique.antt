@@ -5,7 +5,7 @@ use Rattle.tunnel.specs.declared.Placed.{Placed}
 use Rattle.tunnel.specs.declared.CellPoint.{CellPoint}
 use Rattle.tunnel.specs.declared.Depth.{Depth}
 use Rattle.tunnel.specs.Point.{WholePoint, PointIs}
-use Rattle.tunnel.specs.Depth.{Reading, Told, toldOf, Tells, DepthIs}
+use Rattle.tunnel.specs.Depth.{Reading, Told, Tells, DepthIs}
 use Rattle.tunnel.proofs.Cases.{caseOf, told-back}
 use Rattle.tunnel.proofs.Floats.{exactly-one}
 

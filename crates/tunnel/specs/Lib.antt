@@ -3,4 +3,4 @@ pub mod Exact
 pub mod Place
 pub mod Point
 pub mod Depth
-pub mod Asks
+pub mod inner

@@ -47,13 +47,13 @@ foundOf s edge origin point =
     (Cell (cellAt (s .nx) (s .ny) x y z))
 
 -- tests 1, 3, 13
-unfoldable pub placeOf : Sides → ℤ → Point → Point → Placed
-placeOf s edge origin point =
+unfoldable pub placingOf : Sides → ℤ → Point → Point → Placed
+placingOf s edge origin point =
     orElse (sidesGood s) (Refused 1 0)
     (orElse (edgeGood edge && pointGood origin && pointGood point) (Refused 3 0)
     (foundOf s edge origin point))
 
 -- names every definition of this file: whoever unfolds this computes with all of them
 unfoldable pub open-place : Unit {0}
-unfolding pointGood axisOf foundOf placeOf
+unfolding pointGood axisOf foundOf placingOf
 open-place = tt

@@ -9,7 +9,7 @@ ghost use mathlib.Core.Path.{_≡_};
 ghost use mathlib.Core.Bool.{true};
 ghost use Prim.Native.Nat.{_≤_, _<_};
 ghost use Rattle.grid.specs.Grid.{sidesGood, cellsOf, cellAt};
-ghost use Rattle.tunnel.specs.Asks.{Inside};
+ghost use Rattle.tunnel.specs.inner.Asks.{Inside};
 ghost use Rattle.tunnel.specs.Point.{refused, centreOf, pointOf, PointIs};
 
 // The number of cell (x, y, z).

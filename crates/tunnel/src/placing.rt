@@ -9,7 +9,7 @@ ghost use mathlib.Core.Bool.{true};
 ghost use lib.IntN.{natAbs};
 ghost use Rattle.grid.specs.Grid.{sidesGood};
 ghost use Rattle.lattice.specs.Cell.{edgeGood, coordinateGood};
-ghost use Rattle.tunnel.specs.Place.{pointGood, axisOf, foundOf, placeOf};
+ghost use Rattle.tunnel.specs.Place.{pointGood, axisOf, foundOf, placingOf};
 
 fn good_edge(edge: i64) -> bool
     ensures { λ r. ⌜ r ≡ edgeGood edge ⌝ }
@@ -73,7 +73,7 @@ fn found(s: Sides, edge: i64, origin: Point, point: Point) -> Placed
 
 // The cell that holds a survey point of a grid with this cell edge and origin. No difference is formed before the ranges are tested.
 pub fn place(s: Sides, edge: i64, origin: Point, point: Point) -> Placed
-    ensures { λ r. ⌜ r ≡ placeOf s edge origin point ⌝ }
+    ensures { λ r. ⌜ r ≡ placingOf s edge origin point ⌝ }
 {
     if !good_sides(s) {
         return Placed::Refused(1, 0);

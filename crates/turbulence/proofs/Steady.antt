@@ -1,28 +1,28 @@
 -- In a flow that passes stage 3's test every pair can be worked out by products: the even part of Q is in range and at least 6ρ·|e·j|, and the code's form of
 -- a pair is the sum of the two parts of the equilibrium. Assumes nothing.
-use mathlib.Core.Path.{_≡_, refl, sym, _∙_, ap, ap₂, subst}
+use mathlib.Core.Path.{_≡_, sym, _∙_, ap, ap₂, subst}
 use mathlib.Core.Logic.{⊎-elim}
 use mathlib.Core.Bool.{true}
-use mathlib.Core.List.{List, [], _∷_}
-use Prim.Native.Nat.{ℕ, suc, _+_, _*_, _-_, _/_, _<_, _≤_}
+use mathlib.Core.List.{[], _∷_}
+use Prim.Native.Nat.{ℕ, _+_, _*_, _-_, _/_, _<_, _≤_}
 use native.Mathlib.Nat.{mul-le-mul, mul-le-mul-left, le-div-iff-mul-le, mul-comm}
 use native.Mathlib.Omega.{arith}
 use lib.IntN.{ℤ, pos, natAbs, negℤ, _+ℤ_, _-ℤ_, _*ℤ_}
 use lib.Signed.{_≤ℤ_, leZ, quotZ, pos-natAbs, yes-nonNeg}
-use Rattle.whole.specs.Bools.{and-right}
-use Rattle.whole.specs.Parts.{is-pos, is-add, is-neg, is-eq, parts-≤}
-use Rattle.whole.specs.Bounds.{abs-add, abs-sub, abs-neg, abs-above}
-use Rattle.whole.specs.Ring.{ring-by, quotes, square-pos, *ℤ-assoc}
-use Rattle.whole.specs.Order.{leZ-true, ≤-or, ≤ℤ-trans, squares}
-use Rattle.whole.specs.Machine.{Within}
+use Rattle.whole.specs.laws.Bools.{and-right}
+use Rattle.whole.specs.laws.Parts.{is-pos, is-add, is-neg, is-eq, parts-≤}
+use Rattle.whole.specs.laws.Bounds.{abs-add, abs-sub, abs-neg, abs-above}
+use Rattle.whole.specs.laws.Ring.{ring-by, quotes, square-pos, *ℤ-assoc}
+use Rattle.whole.specs.laws.Order.{leZ-true, ≤-or, ≤ℤ-trans, squares}
 use Rattle.lattice.specs.declared.Flow.{Flow}
 use Rattle.lattice.specs.Lattice.{dot, Lattice}
-use Rattle.lattice.specs.Cell.{dense, slow, still, quad}
-use Rattle.lattice.specs.Body.{vec, Tame, steadyFlow, stillDir}
+use Rattle.lattice.specs.Cell.{dense, slow, cutEquilibrium, quad}
+use Rattle.lattice.specs.inner.Held.{vec, Tame, steadyFlow}
+use Rattle.lattice.specs.Body.{equilibriumDir}
 use Rattle.lattice.proofs.Tame.{steady-tame}
 use Rattle.turbulence.specs.declared.stress.Shared.{Shared}
 use Rattle.turbulence.specs.Turbulence.{square}
-use Rattle.turbulence.specs.Post.{SharedIs, Apt, evenOf, evenShare, pairOf}
+use Rattle.turbulence.specs.inner.Post.{SharedIs, Apt, evenOf, evenShare, pairOf}
 use Rattle.turbulence.proofs.Still.{parted}
 
 -- ---- squares of sums
@@ -146,8 +146,8 @@ module _ (v : Flow) (steady : steadyFlow v ≡ true) where
         go ρ q x = ring-by (ρ ∷ q ∷ x ∷ []) (search quotes depth 20) (search quotes depth 20) tt
 
     whole-part : (L : Lattice) (i w : ℕ) → L .weight i ≡ w → dot (L .e i) (vec v) ≡ d
-        → stillDir L (v .rho) (vec v) i ≡ quotZ (pos w *ℤ (pos (natAbs (evenOf d k)) +ℤ pos (6 * r) *ℤ d)) (pos (72 * r))
-    unfolding stillDir still
+        → equilibriumDir L (v .rho) (vec v) i ≡ quotZ (pos w *ℤ (pos (natAbs (evenOf d k)) +ℤ pos (6 * r) *ℤ d)) (pos (72 * r))
+    unfolding equilibriumDir cutEquilibrium
     whole-part L i w hw hd =
         ap₂ (λ (n : ℕ) (q : ℤ). quotZ (pos n *ℤ q) (pos 72 *ℤ v .rho)) hw
         (ap (λ (z : ℤ). quad (v .rho) z (dot (vec v) (vec v))) hd
@@ -155,7 +155,7 @@ module _ (v : Flow) (steady : steadyFlow v ≡ true) where
         ∙ ap (λ (ρ : ℤ). quotZ (pos w *ℤ (pos (natAbs (evenOf d k)) +ℤ pos 6 *ℤ ρ *ℤ d)) (pos 72 *ℤ ρ)) rho-is
 
     part-is : (L : Lattice) (i w n : ℕ) → 0 < w → w * n ≡ 12 → L .weight i ≡ w → dot (L .e i) (vec v) ≡ d
-        → stillDir L (v .rho) (vec v) i ≡ pos (natAbs (pos (evenShare d k) +ℤ d) / n)
+        → equilibriumDir L (v .rho) (vec v) i ≡ pos (natAbs (pos (evenShare d k) +ℤ d) / n)
     part-is L i w n o t hw hd =
         whole-part L i w hw hd ∙ parted r (natAbs (evenOf d k)) d (omega (arith, r-some)) share-wide w n o t
         ∙ ap (λ (m : ℕ). pos (natAbs (pos (natAbs (evenOf d k) / m) +ℤ d) / n)) (sym (is .den))
@@ -173,7 +173,7 @@ module _ (v : Flow) (steady : steadyFlow v ≡ true) where
 
   module _ (k : Shared) (is : SharedIs v k) (d : ℤ) (few : 9 * square d ≤ 2 * (r * r)) where
     pub pair-is : (L : Lattice) (i j w n : ℕ) → 0 < w → w * n ≡ 12 → L .weight i ≡ w → L .weight j ≡ w → dot (L .e i) (vec v) ≡ d → dot (L .e j) (vec v) ≡ negℤ d
-        → pairOf d k n ≡ stillDir L (v .rho) (vec v) i +ℤ stillDir L (v .rho) (vec v) j
+        → pairOf d k n ≡ equilibriumDir L (v .rho) (vec v) i +ℤ equilibriumDir L (v .rho) (vec v) j
     pair-is L i j w n o t wi wj hi hj =
         sym (ap₂ _+ℤ_ (part-is k is d few L i w n o t wi hi)
         (part-is k is (negℤ d) (neg-few d few) L j w n o t wj hj ∙ ap (λ (z : ℤ). pos (natAbs (pos (natAbs z / k .den) -ℤ d) / n)) (even-neg k d)))

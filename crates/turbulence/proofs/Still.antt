@@ -1,14 +1,14 @@
 -- The equilibrium by pairs: of w·Q/72ρ the even part of Q is divided by 6ρ, e·j is added or taken away, and the rest is a quotient by 12/w. In a flow that
 -- passes stage 3's test Q is above 0 in every direction, and the even share is at least |e·j|. Assumes nothing.
-use mathlib.Core.Path.{_≡_, refl, sym, _∙_, ap, ap₂, subst}
-use mathlib.Core.List.{List, [], _∷_}
+use mathlib.Core.Path.{_≡_, sym, _∙_, ap}
+use mathlib.Core.List.{[], _∷_}
 use Prim.Native.Nat.{ℕ, zero, suc, _+_, _*_, _-_, _/_, _%_, _<_, _≤_}
-use native.Mathlib.Nat.{div-add-mod, mod-lt, div-eq-of-lt-le, mul-le-mul-left, mul-comm}
+use native.Mathlib.Nat.{div-add-mod, mod-lt, div-eq-of-lt-le, mul-le-mul-left}
 use native.Mathlib.Omega.{arith}
 use lib.IntN.{ℤ, pos, natAbs, _+ℤ_, _-ℤ_, _*ℤ_}
 use lib.Signed.{_≤ℤ_, quotZ, pos-natAbs, yes-nonNeg}
-use Rattle.whole.specs.Parts.{up, down, is-self, is-pos, is-add, is-neg, is-le, eq-is, abs-parts}
-use Rattle.whole.specs.Ring.{ring-by, quotes}
+use Rattle.whole.specs.laws.Parts.{is-self, is-pos, is-add, is-neg, is-le, eq-is, abs-parts}
+use Rattle.whole.specs.laws.Ring.{ring-by, quotes}
 
 -- ---- a ± d, where |d| is at most a
 module _ (a : ℕ) (d : ℤ) (h : natAbs d ≤ a) where

@@ -4,14 +4,14 @@ use mathlib.Core.List.{[], _∷_}
 use Prim.Native.Nat.{ℕ, suc, _+_, _*_}
 use native.Mathlib.Omega.{arith}
 use lib.IntN.{ℤ, _+ℤ_, _-ℤ_, _*ℤ_}
-use Rattle.whole.specs.Fold.{sum, dirs, total, open-fold}
-use Rattle.whole.specs.Sums.{sum-cong}
-use Rattle.whole.specs.Ring.{quotes, ring-by}
+use Rattle.whole.specs.Fold.{total, open-fold}
+use Rattle.whole.specs.laws.Sums.{sum-cong}
+use Rattle.whole.specs.laws.Ring.{quotes, ring-by}
 use Rattle.lattice.specs.Lattice.{Lattice, d3q19, open-lattice}
 use Rattle.lattice.proofs.Momentum.{many, all-parts}
 use Rattle.turbulence.specs.declared.stress.Nine.{Nine}
 use Rattle.turbulence.specs.Turbulence.{component, stress, square, tension}
-use Rattle.turbulence.specs.Post.{both, NineIs, tensionOf}
+use Rattle.turbulence.specs.inner.Post.{both, NineIs, tensionOf}
 
 -- ---- any lattice: the tensor is symmetric
 pub symmetric : (L : Lattice) (g : ℕ → ℤ) (a b : ℕ) → stress L g a b ≡ stress L g b a

@@ -12,9 +12,9 @@ ghost use Prim.Native.Nat.{_+_, _<_, _≤_};
 ghost use lib.IntN.{natAbs};
 ghost use Rattle.lattice.specs.Lattice.{d3q19};
 ghost use Rattle.lattice.specs.Cell.{relaxationGood};
-ghost use Rattle.lattice.specs.Body.{partsOf, Bounded, vec, steadyFlow};
+ghost use Rattle.lattice.specs.inner.Held.{partsOf, Bounded, vec, steadyFlow};
 ghost use Rattle.turbulence.specs.Turbulence.{under, divisor, nearest, own, ownRelaxation};
-ghost use Rattle.turbulence.specs.Post.{Keeps};
+ghost use Rattle.turbulence.specs.inner.Post.{Keeps};
 
 fn under(p: u64, s: u64) -> u64
     requires { ⌜ (0 < p) × (p ≤ 2037) × (s ≤ 1073741824) ⌝ }

@@ -6,12 +6,12 @@ use lattice::moments::times;
 ghost use mathlib.Core.Path.{_≡_};
 ghost use mathlib.Core.Bool.{true};
 ghost use Prim.Native.Nat.{_+_, _*_, _/_, _<_, _≤_};
-ghost use lib.IntN.{pos, natAbs, _+ℤ_, _-ℤ_};
-ghost use Rattle.whole.specs.Machine.{Within};
+ghost use lib.IntN.{pos, _+ℤ_, _-ℤ_};
+ghost use Rattle.whole.specs.laws.Machine.{Within};
 ghost use Rattle.lattice.specs.Lattice.{d3q19};
-ghost use Rattle.lattice.specs.Body.{partsOf, Bounded, vec, steadyFlow};
+ghost use Rattle.lattice.specs.inner.Held.{partsOf, Bounded, vec, steadyFlow};
 ghost use Rattle.turbulence.specs.Turbulence.{beyond, square};
-ghost use Rattle.turbulence.specs.Post.{SharedIs, Apt, evenShare, pairOf, both, NineIs, Small, tensionOf};
+ghost use Rattle.turbulence.specs.inner.Post.{SharedIs, Apt, evenShare, pairOf, both, NineIs, Small, tensionOf};
 
 // What the pairs share: 2ρ² − 3|j|², 6ρ, and 2^43/6ρ from below.
 pub struct Shared {
@@ -69,7 +69,7 @@ fn even_share(d: i32, k: Shared) -> i32
 }
 
 // The equilibrium's parts of a pair together; n is 12/w.
-pub fn still_pair(d: i32, k: Shared, n: u32) -> i32
+pub fn equilibrium_pair(d: i32, k: Shared, n: u32) -> i32
     requires { ⌜ Apt d k × (0 < n) ⌝ }
     ensures { λ r. ⌜ (r ≡ pairOf d k n) × Within r 2359296 ⌝ }
 {
@@ -92,15 +92,15 @@ pub fn beyond(f: [i32; 19], v: Flow) -> Nine
 {
     let k = shared_of(v);
     Nine {
-        x: slack(f, 0, still_pair(v.x, k, 6)),
-        y: slack(f, 1, still_pair(v.y, k, 6)),
-        z: slack(f, 2, still_pair(v.z, k, 6)),
-        xy: slack(f, 3, still_pair(v.x + v.y, k, 12)),
-        yx: slack(f, 4, still_pair(v.x - v.y, k, 12)),
-        yz: slack(f, 5, still_pair(v.y + v.z, k, 12)),
-        zy: slack(f, 6, still_pair(v.y - v.z, k, 12)),
-        xz: slack(f, 7, still_pair(v.x + v.z, k, 12)),
-        zx: slack(f, 8, still_pair(v.x - v.z, k, 12)),
+        x: slack(f, 0, equilibrium_pair(v.x, k, 6)),
+        y: slack(f, 1, equilibrium_pair(v.y, k, 6)),
+        z: slack(f, 2, equilibrium_pair(v.z, k, 6)),
+        xy: slack(f, 3, equilibrium_pair(v.x + v.y, k, 12)),
+        yx: slack(f, 4, equilibrium_pair(v.x - v.y, k, 12)),
+        yz: slack(f, 5, equilibrium_pair(v.y + v.z, k, 12)),
+        zy: slack(f, 6, equilibrium_pair(v.y - v.z, k, 12)),
+        xz: slack(f, 7, equilibrium_pair(v.x + v.z, k, 12)),
+        zx: slack(f, 8, equilibrium_pair(v.x - v.z, k, 12)),
     }
 }
 

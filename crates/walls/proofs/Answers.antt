@@ -8,14 +8,14 @@ use native.Mathlib.Omega.{arith}
 use lib.Dec.{eqb, ltb}
 use lib.ListN.{length, getD, set}
 use borrow.Author.Tests.{eq-eqb, ne-eqb, lt-ltb, le-ltb, ltb-true, not-true}
-use Rattle.whole.specs.Bools.{and-left}
+use Rattle.whole.specs.laws.Bools.{and-left}
 use Rattle.grid.specs.declared.Sides.{Sides}
 use Rattle.grid.specs.declared.Answer.{Answer}
 use Rattle.grid.specs.declared.Answer.the-variants.{Done, Refused}
 use Rattle.grid.specs.Grid.{cellsOf, gridOf}
 use Rattle.grid.specs.State.{Lent}
 use Rattle.grid.specs.Outcome.{accepted, orRefuse}
-use Rattle.grid.specs.Passes.{Inner}
+use Rattle.grid.specs.inner.Passes.{Inner}
 use Rattle.grid.proofs.Accepted.{passed}
 use Rattle.grid.proofs.Coordinates.{inner-of}
 use Rattle.grid.proofs.Lists.{getD-there}

@@ -13,9 +13,9 @@ use lib.IntN.{ℤ, pos}
 use lib.ListN.{getD}
 use borrow.Author.Tests.{eq-eqb, ne-eqb}
 use Rattle.whole.specs.Fold.{all, tabFrom}
-use Rattle.whole.specs.Bools.{and-true}
-use Rattle.whole.specs.Search.{first-all}
-use Rattle.whole.specs.Tab.{length-tab}
+use Rattle.whole.specs.laws.Bools.{and-true}
+use Rattle.whole.specs.laws.Search.{first-all}
+use Rattle.whole.specs.laws.Tab.{length-tab}
 use Rattle.lattice.specs.Lattice.{d3q19}
 use Rattle.lattice.specs.Cell.{carryGood}
 use Rattle.lattice.specs.Body.{eqZ}

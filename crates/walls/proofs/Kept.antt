@@ -14,10 +14,10 @@ use lib.IntN.{ℤ, pos, _+ℤ_}
 use lib.ListN.{set, length-set}
 use lib.Seq.{getD-set-same, getD-set-other}
 use borrow.Author.Tests.{eqb-true, eq-eqb, not-false, not-true, eqb-false, ltb-true}
-use Rattle.whole.specs.Bools.{and-left, and-right, or-false}
-use Rattle.whole.specs.Fold.{anyDir, sum}
-use Rattle.whole.specs.Search.{Dir, first-cong, any-dir}
-use Rattle.whole.specs.Sums.{sum-cong}
+use Rattle.whole.specs.laws.Bools.{and-left, and-right, or-false}
+use Rattle.whole.specs.Fold.{anyDir, sum, Dir}
+use Rattle.whole.specs.laws.Search.{first-cong, any-dir}
+use Rattle.whole.specs.laws.Sums.{sum-cong}
 use Rattle.lattice.specs.Lattice.{d3q19}
 use Rattle.lattice.specs.Cell.{carryGood}
 use Rattle.lattice.proofs.Paired.{paired19}

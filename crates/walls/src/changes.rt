@@ -9,7 +9,7 @@ ghost use Prim.Native.Nat.{_<_};
 ghost use lib.ListN.{length};
 ghost use Rattle.grid.specs.Grid.{sidesGood, cellsOf};
 ghost use Rattle.grid.specs.State.{lent};
-ghost use Rattle.grid.specs.Passes.{Inner};
+ghost use Rattle.grid.specs.inner.Passes.{Inner};
 ghost use Rattle.grid.specs.declared.Answer.the-variants.{Done};
 ghost use Rattle.walls.specs.Outcome.{wanted, inWay, placed, wallAnswer};
 ghost use Rattle.walls.specs.Promise.{Changed};

@@ -1,10 +1,10 @@
 -- Sums, tests, counts and searches over the numbers below n and over the directions 1 to q, and lists by tabulating: the words that document 01's
--- definitions are written in. Their laws are in Sums, Search and Tab.
+-- definitions are written in. Their laws are in laws/Sums, Search and Tab.
 -- Use: `sum 3 f` is f 0 + f 1 + f 2; `first 5 bad` is the lowest bad number below 5, or 5; `tab 3 f` is the list f 0, f 1, f 2. Assumes nothing.
-use Prim.Native.Nat.{ℕ, zero, suc, _+_}
+use Prim.Native.Nat.{ℕ, zero, suc, _+_, _<_, _≤_}
 use mathlib.Core.Bool.{Bool, true, false, _&&_, _||_, cond}
 use mathlib.Core.List.{List, [], _∷_}
-use lib.IntN.{ℤ, pos, _+ℤ_}
+use lib.IntN.{ℤ, pos, negsuc, _+ℤ_}
 
 -- f 0 + .. + f (n − 1), of whole numbers and of naturals
 unfoldable pub sum : ℕ → (ℕ → ℤ) → ℤ
@@ -37,6 +37,11 @@ firstFrom (suc n) i f = elim (f i) [ true ↦ i | false ↦ firstFrom n (suc i) 
 abbrev pub first : ℕ → (ℕ → Bool) → ℕ
 first n f = firstFrom n 0 f
 
+-- i is a direction of q
+pub record Dir (q i : ℕ) : Type 0 where
+  pub some : 0 < i
+  pub most : i ≤ q
+
 -- over the directions 1 to q
 abbrev pub dirs : ℕ → (ℕ → ℤ) → ℤ
 dirs q f = sum q (λ a. f (suc a))
@@ -55,6 +60,15 @@ module _ {ℓ} {A : Type ℓ} where
 
   abbrev pub tab : ℕ → (ℕ → A) → List A
   tab n f = tabFrom n 0 f
+
+-- the positive and the negative part of a whole number: the other of the two is 0
+abbrev pub up : ℤ → ℕ
+up (pos n) = n
+up (negsuc n) = 0
+
+abbrev pub down : ℤ → ℕ
+down (pos n) = 0
+down (negsuc n) = suc n
 
 -- names every definition of this file: whoever unfolds this computes with all of them
 unfoldable pub open-fold : Unit {0}

@@ -1,14 +1,2 @@
-pub mod Bools
 pub mod Fold
-pub mod Parts
-pub mod Ring
-pub mod Order
-pub mod Bounds
-pub mod Machine
-pub mod Tests
-pub mod Casts
-pub mod Quot
-pub mod Sums
-pub mod Search
-pub mod Tab
-pub mod Table
+pub mod laws

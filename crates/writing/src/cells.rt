@@ -11,7 +11,7 @@ ghost use Prim.Native.Nat.{_+_, _*_, _≤_};
 ghost use lib.IntN.{pos};
 ghost use lib.ListN.{length, getD};
 ghost use lib.Seq.{sets};
-ghost use Rattle.grid.specs.Passes.{flagOf};
+ghost use Rattle.grid.specs.State.{flagOf};
 ghost use Rattle.record.specs.Places.{endFrom};
 ghost use Rattle.record.specs.Layout.{section, interfaces, liquids, massBytes, partNumbers, cellSections};
 

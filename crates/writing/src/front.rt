@@ -11,10 +11,11 @@ ghost use mathlib.Core.List.{[], _∷_};
 ghost use Prim.Native.Nat.{_+_, _≤_, _<_};
 ghost use lib.ListN.{length};
 ghost use lib.Seq.{sets};
-ghost use Rattle.whole.specs.Machine.{Within};
+ghost use Rattle.whole.specs.laws.Machine.{Within};
 ghost use Rattle.grid.specs.Grid.{sidesGood};
 ghost use Rattle.record.specs.Bytes.{u32Of, i32Of, i64Of};
-ghost use Rattle.record.specs.Layout.{section, totalsBytes, headBytes, Small};
+ghost use Rattle.record.specs.Layout.{section, totalsBytes, headBytes};
+ghost use Rattle.record.specs.inner.Small.{Small};
 
 // A count or a side.
 pub fn put_count(room: &mut [u8], at: usize, n: usize)

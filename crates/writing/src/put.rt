@@ -10,9 +10,8 @@ ghost use lib.Dec.{eqb};
 ghost use lib.IntN.{pos};
 ghost use lib.ListN.{length, getD};
 ghost use lib.Seq.{sets};
-ghost use Rattle.grid.specs.State.{byFlag, liquid};
+ghost use Rattle.grid.specs.State.{byFlag, liquid, flagOf};
 ghost use Rattle.record.specs.Bytes.{i32Of};
-ghost use Rattle.grid.specs.Passes.{flagOf};
 ghost use Rattle.record.specs.Layout.{interfaces, liquids, massBytes, cellNumbers, partNumbers};
 
 pub fn put_flags(room: &mut [u8], at: usize, flags: &[u8])

@@ -21,14 +21,14 @@ ghost use lib.IntN.{pos};
 ghost use lib.ListN.{length, getD};
 ghost use lib.Seq.{sets};
 ghost use Rattle.grid.specs.Grid.{sidesGood, cellsOf};
-ghost use Rattle.grid.specs.Passes.{flagOf};
+ghost use Rattle.grid.specs.State.{flagOf, lent};
 ghost use Rattle.grid.specs.declared.Answer.the-variants.{Done};
-ghost use Rattle.grid.specs.State.{lent};
 ghost use Rattle.grid.specs.Outcome.{orRefuse};
 ghost use Rattle.pumps.specs.Three.{threeLengths, threeGood};
 ghost use Rattle.record.specs.Promise.{Wrote};
 ghost use Rattle.record.specs.Places.{counts, lengthOf};
-ghost use Rattle.record.specs.Layout.{siteGood, Small, interfaces, liquids, headBytes, cellsBytes};
+ghost use Rattle.record.specs.Layout.{siteGood, interfaces, liquids, headBytes, cellsBytes};
+ghost use Rattle.record.specs.inner.Small.{Small};
 
 // The record of a grid that passed its tests, into room that suffices.
 fn put_record(

@@ -3,12 +3,11 @@ use mathlib.Core.Path.{_≡_}
 use mathlib.Core.Bool.{true, false}
 use Prim.Native.Nat.{_-_}
 use native.Mathlib.Omega.{arith}
-use lib.IntN.{pos, natAbs}
+use lib.IntN.{pos}
 use lib.Signed.{ltZ}
 use mir.Syntax.{w64}
-use mir.Val.{bits, ofZ}
 use mir.ValLaws.{toZ-ofZ}
-use Rattle.whole.proofs.Signs.{Cast, below, above, some}
+use Rattle.whole.proofs.Signs.{below, above, some}
 use Rattle.whole.proofs.magnitude.Statement.{statement}
 use Rattle.whole.proofs.magnitude.Tie as tie
 

@@ -10,13 +10,14 @@ use lib.IntN.{ℤ, pos, _+ℤ_, _-ℤ_}
 use mir.Syntax.{w32, w64}
 use mir.Val.{toZ, ofZ}
 use mir.Facts.{toZ-ofZ}
-use Rattle.whole.specs.Machine.{Within, known, v32, within-by, does-fit, reads-as}
+use Rattle.whole.specs.laws.Machine.{Within, known, v32, within-by, does-fit, reads-as}
 use Rattle.lattice.specs.Lattice.{d3q19}
-use Rattle.lattice.specs.Body.{partsOf, vec, relaxedDir}
+use Rattle.lattice.specs.inner.Held.{partsOf, vec}
+use Rattle.lattice.specs.Body.{relaxedDir}
 use Rattle.lattice.proofs.Ranges.{relaxation-in}
 use Rattle.lattice.proofs.Reading.{reading, inside}
 use Rattle.lattice.proofs.Tame.{steady-tame}
-use Rattle.collision.specs.Estimate.{landed, EndsNear}
+use Rattle.collision.specs.inner.Estimate.{landed, EndsNear}
 use Rattle.collision.proofs.Landed.{room, slack, landed-part}
 use Rattle.collision.proofs.Turns.{Done, eighteen, begun, more, all-done}
 use Rattle.collision.proofs.collide.collided.Statement.{statement}

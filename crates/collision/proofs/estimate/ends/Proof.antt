@@ -7,10 +7,10 @@ use lib.ListN.{getD}
 use mir.Syntax.{w32, w64}
 use mir.Val.{toZ, ofZ}
 use mir.Facts.{toZ-ofZ}
-use Rattle.whole.specs.Machine.{v32, v64, same, reads-as}
+use Rattle.whole.specs.laws.Machine.{v32, v64, same, reads-as}
 use Rattle.lattice.specs.Lattice.{d3q19, open-lattice}
 use Rattle.lattice.proofs.Reading.{inside}
-use Rattle.collision.specs.Estimate.{RatesAre, Near, speed, odd, even, energy}
+use Rattle.collision.specs.inner.Estimate.{RatesAre, Near, speed, odd, even, energy}
 use Rattle.collision.proofs.Dots.{dot1, dot2, dot3, dot4, dot5, dot6, dot7, dot8, dot9, dot10, dot11, dot12, dot13, dot14, dot15, dot16, dot17, dot18}
 use Rattle.collision.proofs.Each.{each18}
 use Rattle.collision.proofs.Rates.{Fair, calm-of, axis-x, axis-y, axis-z, base-in, joined, turned}

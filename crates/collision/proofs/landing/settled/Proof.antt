@@ -1,6 +1,5 @@
 -- `collision::landing::settled`: the sum fits, and the two ways out are the definition's. Assumes nothing.
 use mathlib.Core.Path.{_≡_, sym, _∙_, ap₂}
-use mathlib.Core.Bool.{true, false}
 use Prim.Native.Nat.{_/_, _≤_}
 use native.Mathlib.Nat.{mul-le-mul-right}
 use native.Mathlib.Omega.{arith}
@@ -8,9 +7,9 @@ use lib.IntN.{pos, natAbs, _+ℤ_, _*ℤ_}
 use lib.Signed.{ltZ, shrZ}
 use mir.Syntax.{w32}
 use mir.Val.{toZ, ofZ}
-use Rattle.whole.specs.Bounds.{abs-add, abs-mul}
-use Rattle.whole.specs.Casts.{n32}
-use Rattle.whole.specs.Machine.{Val, known, same, v*, v32, within-by, does-fit, reads-as}
+use Rattle.whole.specs.laws.Bounds.{abs-add, abs-mul}
+use Rattle.whole.specs.laws.Casts.{n32}
+use Rattle.whole.specs.laws.Machine.{Val, known, same, v*, v32, within-by, does-fit, reads-as}
 use Rattle.lattice.proofs.Reading.{inside}
 use Rattle.collision.proofs.Loss.{shifting, vshr, by}
 use Rattle.collision.proofs.Landed.{floored, landed-below, landed-above}

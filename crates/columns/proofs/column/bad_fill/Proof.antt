@@ -9,7 +9,7 @@ use native.Mathlib.Omega.{arith}
 use lib.Dec.{ltb}
 use lib.ListN.{length, getD}
 use denote.Ref.{now}
-use Rattle.whole.specs.Search.{first-is, first-all}
+use Rattle.whole.specs.laws.Search.{first-is, first-all}
 use Rattle.tunnel.specs.Depth.{fillBad}
 use Rattle.tunnel.proofs.Columns.{in-column, below-length, high, few}
 use Rattle.columns.proofs.column.bad_fill.Statement.{statement}

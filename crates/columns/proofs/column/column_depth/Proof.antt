@@ -7,7 +7,7 @@ use Prim.Native.Nat.{ℕ}
 use lib.ListN.{length}
 use denote.Ref.{now}
 use Rattle.grid.specs.Grid.{sidesGood, cellsOf}
-use Rattle.tunnel.specs.Asks.{InColumn}
+use Rattle.tunnel.specs.inner.Asks.{InColumn}
 use Rattle.tunnel.specs.Depth.{depthOf}
 use Rattle.tunnel.proofs.Cases.{is-refused}
 use Rattle.columns.proofs.column.column_depth.Statement.{statement}

@@ -5,14 +5,14 @@ use mathlib.Core.List.{[], _++_}
 use Prim.Native.Nat.{ℕ, _+_, _≤_}
 use native.Mathlib.Omega.{arith}
 use lib.IntN.{natAbs}
-use lib.ListN.{length, length-append}
+use lib.ListN.{length}
 use denote.Ref.{now}
 use mir.Syntax.{w64}
 use mir.Val.{toZ, ofZ}
 use mir.Facts.{toZ-ofZ}
 use Rattle.grid.proofs.GoodSides.{good-sides}
-use Rattle.depths.specs.Asks.{Measured}
-use Rattle.depths.specs.Map.{headerText, depthAt, rowsText}
+use Rattle.depths.specs.inner.Asks.{Measured}
+use Rattle.depths.specs.Map.{depthAt, rowsText}
 use Rattle.depths.proofs.Texts.{map-long, header-most, rows-most}
 use Rattle.depths.proofs.long.map_length.Statement.{statement}
 use Rattle.depths.proofs.long.map_length.Tie as tie

@@ -1,14 +1,12 @@
 -- `depths::long::rows_length`: what is counted, and the rows south of it, are the whole. Assumes nothing.
-use borrow.Author.Needs.{needs}
 use mathlib.Core.Path.{_≡_, ap}
-use mathlib.Core.List.{List}
 use Prim.Native.Nat.{ℕ, _+_, _-_, _≤_, _<_}
 use native.Mathlib.Omega.{arith}
 use lib.IntN.{ℤ}
 use lib.ListN.{length}
 use denote.Ref.{now}
 use Rattle.grid.proofs.GoodSides.{good-sides}
-use Rattle.depths.specs.Map.{depthAt, rowText, rowsText}
+use Rattle.depths.specs.Map.{depthAt, rowsText}
 use Rattle.depths.proofs.Texts.{rows-step-long, rows-none, rows-most}
 use Rattle.depths.proofs.long.rows_length.Statement.{statement}
 use Rattle.depths.proofs.long.rows_length.Tie as tie

@@ -9,10 +9,8 @@ use lib.ListN.{length}
 use denote.Ref.{now}
 use mir.Syntax.{w64}
 use mir.Facts.{toZ-ofZ}
-use Rattle.grid.specs.declared.Sides.{Sides}
-use Rattle.spelling.specs.Spelling.{spellOf, metresOf, Put}
+use Rattle.spelling.specs.Spelling.{spellOf, metresOf}
 use Rattle.spelling.proofs.Putting.{put-as}
-use Rattle.depths.specs.declared.Corner.{Corner}
 use Rattle.depths.specs.Map.{ncols, nrows, xllcorner, yllcorner, cellsize, NODATA-value, noData, lineText, headerText}
 use Rattle.depths.proofs.Texts.{last, fromEdge, fromSouth, fromWest, fromRows, header-is}
 use Rattle.depths.proofs.Storing.{Under, under-begin, under-as, line-more, line-room, metres-room, under-end, under-long}

@@ -4,15 +4,14 @@ use mathlib.Core.Path.{_≡_, sym, ap, _∙_, subst}
 use mathlib.Core.List.{List, [], _++_}
 use Prim.Native.Nat.{ℕ, _+_, _≤_}
 use native.Mathlib.Omega.{arith}
-use lib.IntN.{ℤ, natAbs}
+use lib.IntN.{natAbs}
 use lib.ListN.{length}
 use denote.Ref.{now}
 use mir.Syntax.{w64}
 use mir.Val.{toZ, ofZ}
 use mir.Facts.{toZ-ofZ}
-use Rattle.spelling.specs.Spelling.{Put}
 use Rattle.spelling.proofs.Putting.{put-as, put-then, put-long}
-use Rattle.depths.specs.Asks.{Measured}
+use Rattle.depths.specs.inner.Asks.{Measured}
 use Rattle.depths.specs.Map.{depthAt, rowsText}
 use Rattle.depths.proofs.Texts.{map-is, map-long}
 use Rattle.depths.proofs.put.put_map.Statement.{statement}

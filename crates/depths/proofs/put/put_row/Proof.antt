@@ -1,5 +1,5 @@
 -- `depths::put::put_row`: what is stored, and the rest of the row, are the whole. Assumes nothing.
-use borrow.Author.Needs.{needs, sfits-of}
+use borrow.Author.Needs.{sfits-of}
 use mathlib.Core.Path.{_≡_, sym, ap, _∙_, subst}
 use mathlib.Core.List.{List, [], _∷_, _++_}
 use Prim.Native.Nat.{ℕ, _+_, _-_, _≤_, _<_}
@@ -12,7 +12,7 @@ use mir.Val.{toZ, ofZ}
 use mir.Facts.{toZ-ofZ}
 use Rattle.grid.specs.declared.Sides.{Sides}
 use Rattle.grid.proofs.GoodSides.{good-sides}
-use Rattle.spelling.specs.Spelling.{wholeOf, Put}
+use Rattle.spelling.specs.Spelling.{wholeOf}
 use Rattle.spelling.proofs.Putting.{put-as}
 use Rattle.depths.specs.Map.{depthAt, behind, rowText}
 use Rattle.depths.proofs.Texts.{row-begin, row-step, row-none}

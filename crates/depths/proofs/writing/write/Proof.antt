@@ -1,10 +1,9 @@
 -- `depths::writing::write`: tests, the room, and then the text from the front. Assumes nothing.
 use borrow.Author.Needs.{needs}
-use mathlib.Core.Path.{_≡_, sym, ap, _∙_}
+use mathlib.Core.Path.{_≡_, sym, _∙_}
 use mathlib.Core.Bool.{true}
-use Prim.Native.Nat.{ℕ, _≤_}
+use Prim.Native.Nat.{_≤_}
 use native.Mathlib.Omega.{arith}
-use lib.ListN.{length}
 use borrow.Author.Tests.{not-true}
 use denote.Ref.{now}
 use Rattle.grid.specs.declared.Answer.the-variants.{Done}

@@ -6,10 +6,10 @@ use lib.IntN.{pos}
 use lib.ListN.{getD}
 use mir.Syntax.{w64}
 use mir.Val.{toZ, ofZ}
-use Rattle.whole.specs.Bools.{cond-yes, cond-no}
-use Rattle.whole.specs.Machine.{does-fit, reads-as, v+, vneg, v64}
-use Rattle.grid.specs.Fill.{partOf}
-use Rattle.excess.specs.Gifts.{densityAt, excessAt}
+use Rattle.whole.specs.laws.Bools.{cond-yes, cond-no}
+use Rattle.whole.specs.laws.Machine.{does-fit, reads-as, v+, vneg, v64}
+use Rattle.grid.specs.State.{partOf}
+use Rattle.excess.specs.inner.Gifts.{densityAt, excessAt}
 use Rattle.excess.proofs.Owned.{own-bounded, own-density}
 use Rattle.excess.proofs.Readings.{told, told64, held-in}
 use Rattle.excess.proofs.giving.excess.Statement.{statement}

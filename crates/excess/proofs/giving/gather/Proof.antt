@@ -10,10 +10,10 @@ use lib.IntN.{ℤ, pos, _+ℤ_}
 use lib.ListN.{length, getD}
 use mir.Syntax.{w64}
 use mir.Val.{toZ, ofZ}
-use Rattle.whole.specs.Machine.{Val, does-fit, reads-as, v+, v64, v32}
+use Rattle.whole.specs.laws.Machine.{Val, does-fit, reads-as, v+, v64, v32}
 use Rattle.grid.proofs.Ranges.{Ranged, over-gap, ranged-first, ranged-more, ranged-keep, ranged-all}
-use Rattle.grid.specs.Fill.{partOf}
-use Rattle.excess.specs.Gifts.{roomOf, gatheredAt, receivedAt, Giving}
+use Rattle.grid.specs.State.{partOf}
+use Rattle.excess.specs.inner.Gifts.{roomOf, gatheredAt, receivedAt, Giving}
 use Rattle.excess.proofs.Takes.{taking, took, kept, marked-still, giving-still, received-still, received-in, in-range, giving-as}
 use Rattle.excess.proofs.Readings.{told, told64, held-in}
 use Rattle.excess.proofs.giving.gather.Statement.{statement}

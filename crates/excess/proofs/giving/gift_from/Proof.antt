@@ -1,7 +1,7 @@
 -- `excess::giving::gift_from`: a cell with no mark gives nothing. Assumes nothing.
 use borrow.Author.Needs.{needs}
 use mathlib.Core.Path.{_∙_}
-use Rattle.grid.specs.Fill.{partOf}
+use Rattle.grid.specs.State.{partOf}
 use Rattle.excess.proofs.Sent.{from-none, from-some}
 use Rattle.excess.proofs.Readings.{told64}
 use Rattle.excess.proofs.giving.gift_from.Statement.{statement}

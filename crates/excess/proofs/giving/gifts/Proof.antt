@@ -6,12 +6,11 @@ use native.Mathlib.Omega.{arith}
 use lib.ListN.{getD}
 use mir.Syntax.{w64}
 use mir.Val.{toZ, ofZ}
-use Rattle.whole.specs.Fold.{sum}
-use Rattle.whole.specs.Machine.{does-fit, reads-as, v+, v64}
-use Rattle.whole.specs.Search.{Dir}
+use Rattle.whole.specs.Fold.{sum, Dir}
+use Rattle.whole.specs.laws.Machine.{does-fit, reads-as, v+, v64}
 use Rattle.lattice.specs.Lattice.{d3q19}
-use Rattle.grid.specs.Fill.{partOf}
-use Rattle.excess.specs.Gifts.{roomOf, receivedAt}
+use Rattle.grid.specs.State.{partOf}
+use Rattle.excess.specs.inner.Gifts.{roomOf, receivedAt}
 use Rattle.excess.proofs.Takes.{sent, Asked, asked, sum-in, sent-in, sum-more, sent-at}
 use Rattle.excess.proofs.Readings.{told64, held-in}
 use Rattle.excess.proofs.giving.gifts.Statement.{statement}

@@ -5,8 +5,8 @@ use Prim.Native.Nat.{_-_, _≤_}
 use native.Mathlib.Omega.{arith}
 use lib.IntN.{pos}
 use lib.ListN.{length, length-set}
-use Rattle.whole.specs.Tab.{Upto, upto-more, upto-all}
-use Rattle.excess.specs.Gifts.{ofDir}
+use Rattle.whole.specs.laws.Tab.{Upto, upto-more, upto-all}
+use Rattle.excess.specs.inner.Gifts.{ofDir}
 use Rattle.excess.proofs.Leans.{of-dir, none-yet, byFlags, by-flags}
 use Rattle.excess.proofs.Readings.{told64}
 use Rattle.excess.proofs.leaning.evens.Statement.{statement}

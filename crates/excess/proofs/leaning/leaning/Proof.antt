@@ -1,8 +1,8 @@
 -- `excess::leaning::leaning`: the normal, turned where the mark is not 1. Assumes nothing.
 use mathlib.Core.Path.{sym, ap, _∙_, subst}
-use Rattle.lattice.specs.Body.{vec}
+use Rattle.lattice.specs.inner.Held.{vec}
 use Rattle.grid.proofs.Slopes.{vector}
-use Rattle.excess.specs.Gifts.{back}
+use Rattle.excess.specs.inner.Gifts.{back}
 use Rattle.excess.proofs.Leans.{Leaning, normal-in}
 use Rattle.excess.proofs.Readings.{turned-fits, turned, leaning-filled, leaning-emptied}
 use Rattle.excess.proofs.leaning.leaning.Statement.{statement}

@@ -1,7 +1,7 @@
 -- `excess::leaning::used_weights`: the weights by the normal, unless their total is 0. Assumes nothing.
 use mathlib.Core.Path.{sym, _∙_, subst}
-use Rattle.lattice.specs.Body.{vec}
-use Rattle.excess.specs.Gifts.{leanWeightAt}
+use Rattle.lattice.specs.inner.Held.{vec}
+use Rattle.excess.specs.inner.Gifts.{leanWeightAt}
 use Rattle.excess.proofs.Leans.{Leaning, leaning-in, lean-in, weights-fit, used-even, used-lean}
 use Rattle.excess.proofs.Readings.{bits-zero, zero-bits}
 use borrow.Author.Needs.{needs}

@@ -8,10 +8,10 @@ use lib.Dec.{eqb}
 use mathlib.Core.Bool.{cond}
 use Rattle.lattice.specs.Cell.{positive}
 use lib.ListN.{length, getD, length-set}
-use Rattle.whole.specs.Machine.{Within}
-use Rattle.whole.specs.Tab.{Upto, upto-more, upto-all}
-use Rattle.lattice.specs.Body.{vec}
-use Rattle.excess.specs.Gifts.{ofDir}
+use Rattle.whole.specs.laws.Machine.{Within}
+use Rattle.whole.specs.laws.Tab.{Upto, upto-more, upto-all}
+use Rattle.lattice.specs.inner.Held.{vec}
+use Rattle.excess.specs.inner.Gifts.{ofDir}
 use Rattle.excess.proofs.Leans.{of-dir, none-yet, byDots, by-dots}
 use Rattle.excess.proofs.Readings.{told, told64}
 use Rattle.excess.proofs.leaning.weights.Statement.{statement}

@@ -3,8 +3,8 @@ use borrow.Author.Needs.{needs}
 use mathlib.Core.Path.{sym, _∙_}
 use Prim.Native.Nat.{_-_}
 use native.Mathlib.Omega.{arith}
-use Rattle.whole.specs.Bools.{cond-yes, cond-no}
-use Rattle.excess.specs.Gifts.{evenAt, lostAt}
+use Rattle.whole.specs.laws.Bools.{cond-yes, cond-no}
+use Rattle.excess.specs.inner.Gifts.{evenAt, lostAt}
 use Rattle.excess.proofs.Leans.{weights-fit, even-in, dirs-at}
 use Rattle.excess.proofs.Sent.{no-target, some-target}
 use Rattle.excess.proofs.Readings.{told64, bits-zero, zero-bits}

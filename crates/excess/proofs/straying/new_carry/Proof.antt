@@ -11,12 +11,12 @@ use mir.Syntax.{w64}
 use mir.Val.{toZ, ofZ}
 use mir.Facts.{toZ-ofZ}
 use Rattle.whole.specs.Fold.{sum}
-use Rattle.whole.specs.Machine.{Val, Within, within-by, does-fit, reads-as, v+, v64}
+use Rattle.whole.specs.laws.Machine.{Val, Within, within-by, does-fit, reads-as, v+, v64}
 use Rattle.grid.specs.Grid.{cellsOf}
 use Rattle.grid.proofs.GoodSides.{good-sides}
 use Rattle.grid.proofs.Ranges.{over-gap}
-use Rattle.grid.specs.Fill.{partOf}
-use Rattle.excess.specs.Gifts.{strayAt}
+use Rattle.grid.specs.State.{partOf}
+use Rattle.excess.specs.inner.Gifts.{strayAt}
 use Rattle.excess.proofs.Strays.{around-as, stray-some, stray-in, strays-in, strays-more, strays-keep}
 use Rattle.excess.proofs.Readings.{told64, held-in}
 use Rattle.excess.proofs.straying.new_carry.Statement.{statement}

@@ -1,7 +1,7 @@
 -- `flow::marks::mark_open`: by the box's offsets, pass 0. Assumes nothing.
 use mathlib.Core.Path.{sym, _∙_, subst}
 use Prim.Native.Nat.{ℕ}
-use Rattle.grid.specs.Passes.{Reaching}
+use Rattle.grid.specs.inner.Passes.{Reaching}
 use Rattle.grid.proofs.Beside.{Offsets}
 use Rattle.grid.proofs.Inside.{reaching}
 use Rattle.flow.proofs.Marking.{opened-box}

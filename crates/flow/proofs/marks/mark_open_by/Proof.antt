@@ -3,8 +3,8 @@ use borrow.Author.Needs.{needs}
 use mathlib.Core.Path.{refl, ap, _∙_}
 use Prim.Native.Nat.{_-_, _≤_}
 use native.Mathlib.Omega.{arith}
-use lib.ListN.{length, getD}
-use Rattle.grid.specs.Passes.{besideAt, openMark}
+use lib.ListN.{getD}
+use Rattle.grid.specs.inner.Passes.{besideAt, openMark}
 use Rattle.grid.proofs.Ranges.{Ranged, ranged-first, ranged-more}
 use Rattle.grid.proofs.Inside.{reach-by}
 use Rattle.flow.proofs.Marking.{opened}

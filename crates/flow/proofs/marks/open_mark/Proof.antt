@@ -1,5 +1,5 @@
 -- `flow::marks::open_mark` is 1 at a fluid cell with no wall beside it. Assumes nothing.
-use Rattle.whole.specs.Bools.{cond-yes, cond-no}
+use Rattle.whole.specs.laws.Bools.{cond-yes, cond-no}
 use mathlib.Core.Path.{sym}
 use Rattle.flow.proofs.marks.open_mark.Statement.{statement}
 use Rattle.flow.proofs.marks.open_mark.Tie as tie

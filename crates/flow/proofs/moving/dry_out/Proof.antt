@@ -6,10 +6,11 @@ use Prim.Native.Nat.{ℕ, _+_, _*_, _≤_}
 use lib.IntN.{ℤ, pos}
 use lib.ListN.{length, getD, replicate, getD-replicate, length-replicate}
 use Rattle.whole.specs.Fold.{tab, all}
-use Rattle.whole.specs.Search.{all-at}
-use Rattle.whole.specs.Tab.{getD-tab}
-use Rattle.lattice.specs.Body.{partsOf, eqZ}
-use Rattle.grid.specs.Pasted.{pasted}
+use Rattle.whole.specs.laws.Search.{all-at}
+use Rattle.whole.specs.laws.Tab.{getD-tab}
+use Rattle.lattice.specs.inner.Held.{partsOf}
+use Rattle.lattice.specs.Body.{eqZ}
+use Rattle.grid.specs.inner.Pasted.{pasted}
 use Rattle.lattice.proofs.Equal.{eqZ-true}
 use Rattle.grid.proofs.Blocks.{pasted-same}
 use borrow.Author.Tests.{not-false}

@@ -1,22 +1,20 @@
 -- `flow::moving::put_moved` does stages 3 and 4 of a liquid cell: it refuses as the definition does, and else pastes the collided parts. Assumes nothing.
 use mathlib.Core.Path.{_≡_, refl, sym, ap, _∙_, subst}
-use mathlib.Core.Bool.{true, false, not, false≢true}
-use mathlib.Core.List.{List}
-use Prim.Native.Nat.{ℕ, _+_, _*_, _<_, _≤_}
+use mathlib.Core.Bool.{false≢true}
+use Prim.Native.Nat.{_+_, _*_, _<_, _≤_}
 use native.Mathlib.Omega.{arith}
-use lib.IntN.{ℤ, pos}
-use lib.ListN.{length, getD}
-use borrow.Author.Needs.{sfits-of}
-use mir.Syntax.{w32, w64}
+use lib.IntN.{ℤ}
+use mir.Syntax.{w64}
 use mir.Val.{toZ, ofZ}
 use mir.Facts.{toZ-ofZ}
 use Rattle.whole.specs.Fold.{tab}
 use Rattle.lattice.specs.Lattice.{d3q19}
-use Rattle.grid.specs.Fill.{partOf}
+use Rattle.grid.specs.State.{partOf}
 use Rattle.lattice.specs.Cell.{relaxationGood}
 use borrow.Author.Tests.{not-true, not-false}
-use Rattle.lattice.specs.Body.{partsOf, Bounded, vec, Tame, steadyFlow, collidedPart}
-use Rattle.flow.proofs.Collisions.{loosened, gravity-of, relaxation-of, flow-rho, flow-x, flow-y, flow-z, pulled-x, pulled-y, pulled-z, put-refused, put-accepted}
+use Rattle.lattice.specs.inner.Held.{partsOf, Bounded, vec}
+use Rattle.lattice.specs.Body.{collidedPart}
+use Rattle.flow.proofs.Collisions.{loosened, gravity-of, flow-rho, flow-x, flow-y, flow-z, pulled-x, pulled-y, pulled-z, put-refused, put-accepted}
 use borrow.Author.Needs.{needs}
 use Rattle.flow.proofs.moving.put_moved.Statement.{statement}
 use Rattle.flow.proofs.moving.put_moved.Tie as tie

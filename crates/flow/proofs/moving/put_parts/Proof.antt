@@ -1,11 +1,11 @@
 -- `flow::moving::put_parts` does stages 1 to 4 of any cell: what is not liquid gets zeros. Assumes nothing.
-use mathlib.Core.Path.{_≡_, refl, sym, ap, _∙_, subst}
-use mathlib.Core.Bool.{true, false}
-use Prim.Native.Nat.{ℕ, _+_, _*_, _<_, _≤_}
+use mathlib.Core.Path.{_≡_, sym, ap, _∙_}
+use mathlib.Core.Bool.{true}
+use Prim.Native.Nat.{_+_, _*_, _<_, _≤_}
 use native.Mathlib.Omega.{arith}
 use lib.ListN.{length, getD}
 use Rattle.grid.specs.State.{liquid}
-use Rattle.grid.specs.Sight.{bodiesOf}
+use Rattle.grid.specs.inner.Sight.{bodiesOf}
 use Rattle.grid.proofs.Lists.{getD-there}
 use Rattle.flow.proofs.Collisions.{put-dry}
 use Rattle.flow.proofs.Spans.{light19, bounded-streamed}

@@ -2,31 +2,24 @@
 use mathlib.Core.Path.{_≡_, refl, sym, ap, _∙_, subst}
 use mathlib.Core.Bool.{Bool, true, false, not, _&&_}
 use mathlib.Core.List.{List, []}
-use Prim.Native.Nat.{ℕ, zero, suc, _+_, _*_, _-_, _/_, _≤_, _<_}
+use Prim.Native.Nat.{ℕ, _+_, _*_, _-_, _/_, _≤_, _<_}
 use native.Mathlib.Nat.{le-refl}
 use native.Mathlib.Omega.{arith}
-use lib.IntN.{ℤ, pos}
-use lib.ListN.{length, getD, set, length-set}
-use borrow.Author.Needs.{needs}
+use lib.ListN.{length, getD, length-set}
 use borrow.Author.Tests.{not-true, not-false}
 use mir.Syntax.{w32}
 use mir.Facts.{toZ-ofZ}
-use Rattle.whole.specs.Fold.{tab}
 use Rattle.lattice.specs.Lattice.{d3q19}
-use Rattle.grid.specs.declared.Sides.{Sides}
-use Rattle.grid.specs.Fill.{partOf}
+use Rattle.grid.specs.State.{partOf, lent, liquid, stateOf}
 use Rattle.grid.specs.Grid.{cellsOf, gridOf}
-use Rattle.grid.specs.State.{lent, liquid, stateOf}
 use Rattle.grid.specs.Outcome.{sceneOf}
-use Rattle.grid.specs.Between.{Poised}
-use Rattle.grid.specs.Passes.{lowOf, offsetOf}
-use Rattle.grid.specs.Sight.{Around}
+use Rattle.grid.specs.inner.Between.{Poised}
+use Rattle.grid.specs.inner.Sight.{Around}
 use Rattle.grid.proofs.Beside.{Offsets}
 use Rattle.grid.proofs.Lists.{getD-there}
-use Rattle.flow.specs.Flowed.{Flowable, Flowed, Went, stopped, through}
-use Rattle.flow.specs.PutAt.{PutAt, Putting}
-use Rattle.flow.specs.Sources.{Mirrored, sourceOf}
-use Rattle.flow.specs.Trade.{Traders}
+use Rattle.flow.specs.inner.Flowed.{stopped, through}
+use Rattle.flow.specs.inner.PutAt.{Putting}
+use Rattle.flow.specs.inner.Trade.{Traders}
 use Rattle.grid.proofs.Inside.{room}
 use Rattle.flow.proofs.Mirrored.{mirrored, around, immersed}
 use Rattle.flow.proofs.Poise.{few, liquid-inner, poised-bodied, poised-mass, poised-fills, placed}
@@ -35,17 +28,17 @@ use Rattle.flow.proofs.passing.flowing.Statement.{statement}
 use Rattle.flow.proofs.passing.flowing.Tie as tie
 
 abbrev Inv-loop : tie.InvT-loop
-Inv-loop flags parts mass fill parts2₀ mass2₀ marks₀ g off low from keep fair₀ still₀ c₀ parts2 mass2 marks fair still c =
+Inv-loop flags parts mass fill parts2₀ mass2₀ marks₀ g off low from keep fair₀ still₀ c₀ parts2 mass2 marks fair calm c =
     (c ≤ length flags) × (length parts2 ≡ length parts2₀) × (length mass2 ≡ length mass2₀) × (length marks ≡ length marks₀)
-    × Walked (d3q19 .weight) flags (partOf parts) mass fill off low g marks₀ (partOf parts2) mass2 marks fair still c
+    × Walked (d3q19 .weight) flags (partOf parts) mass fill off low g marks₀ (partOf parts2) mass2 marks fair calm c
 
 abbrev μ-loop : tie.MeasureT-loop
-μ-loop flags parts mass fill parts2₀ mass2₀ marks₀ g off low from keep fair₀ still₀ c₀ parts2 mass2 marks fair still c = length flags - c
+μ-loop flags parts mass fill parts2₀ mass2₀ marks₀ g off low from keep fair₀ still₀ c₀ parts2 mass2 marks fair calm c = length flags - c
 
 -- a cell that did not pass is too fast
-too-fast : {ok t : Bool} → ok ≡ not t → ok ≡ false → t ≡ true
-too-fast {t = true} e f = refl
-too-fast {t = false} e f = sym f ∙ e
+is-unsteady : {ok t : Bool} → ok ≡ not t → ok ≡ false → t ≡ true
+is-unsteady {t = true} e f = refl
+is-unsteady {t = false} e f = sym f ∙ e
 
 -- ---- inside the loop: the offsets, the cell, and what a function of one cell asks
 module _ (d : tie.In-loop Inv-loop μ-loop) where
@@ -68,7 +61,7 @@ module _ (d : tie.In-loop Inv-loop μ-loop) where
   poise = start .pre .poised
 
   walked : Walked (d3q19 .weight) (start .args .flags .now) (partOf (start .args .parts .now)) (start .args .mass .now) (start .args .fill .now) off low (start .args .g) (start .args .marks .now)
-      (partOf (d .before .loop .parts2)) (d .before .loop .mass2) (d .before .loop .marks) (d .before .loop .fair) (d .before .loop .still) cell
+      (partOf (d .before .loop .parts2)) (d .before .loop .mass2) (d .before .loop .marks) (d .before .loop .fair) (d .before .loop .calm) cell
   walked = d .before .loop .inv .4
 
   is-cell : cell < cellsOf (start .args .s)
@@ -154,7 +147,7 @@ returns c =
     let o = after-put-parts .put-parts in
     record {
       went = stopped (is-cell d) (walked-stopped (d3q19 .weight) (gridOf (t .args .s)) (t .args .g) _ _ _ _ (off d) (low d) _ (placed (t .args .s) (t .args .g) _ (poise d) (offs d)) _ _ _ _ _ _ (cell d) (is-cell d) (walked d)
-          (too-fast (o .ensures .told .ok) (not-true _ (c .if1 .taken))));
+          (is-unsteady (o .ensures .told .ok) (not-true _ (c .if1 .taken))));
       parts-kept = o .ensures .kept ∙ d .before .loop .inv .1 ∙ t .pre .parts-room;
       masses-kept = d .before .loop .inv .2 ∙ t .pre .masses-room;
       marks-kept = d .before .loop .inv .3 ∙ t .pre .marks-room;
@@ -201,7 +194,7 @@ loop-again c =
       simp length-set (l .inv .2),
       simp length-set (l .inv .3),
       walked-turn (d3q19 .weight) (t .args .flags .now) (partOf (t .args .parts .now)) (t .args .mass .now) (t .args .fill .now) (off d) (low d) (t .args .g) (t .args .marks .now)
-          (partOf (l .parts2)) (partOf (put .last .1 .1 .1 .0)) (l .mass2) (l .marks) (l .fair) (l .still) (l .c) (walked d) (put .result) (put .ensures .told) ok
+          (partOf (l .parts2)) (partOf (put .last .1 .1 .1 .0)) (l .mass2) (l .marks) (l .fair) (l .calm) (l .c) (walked d) (put .result) (put .ensures .told) ok
           (put-more _ (l .parts2) (put .last .1 .1 .1 .0) (l .c) (omega (arith, l .inv .1, t .pre .parts-room)) (put .ensures .parts ok))
           (gained .result) _ _ _ _ (mark .result) _ (getD-there (t .args .flags .now) (l .c) 0 3 (d .loop-test .taken))
           (omega (arith, l .inv .2, t .pre .masses-room)) (omega (arith, l .inv .3, t .pre .marks-room))
@@ -231,9 +224,9 @@ returns-2 c =
       went = through (moved-list (l .inv .1 ∙ t .pre .parts-room)
           (walked-moved (d3q19 .weight) (gridOf (t .args .s)) (t .args .g) (t .args .flags .now) (partOf (t .args .parts .now)) (t .args .mass .now) (t .args .fill .now)
           (after-offsets .offsets .result) (after-low-of .low-of .result) (cellsOf (t .args .s)) (placed (t .args .s) (t .args .g) _ p o)
-          (t .args .marks .now) (partOf (l .parts2)) (l .mass2) (l .marks) (l .fair) (l .still)
+          (t .args .marks .now) (partOf (l .parts2)) (l .mass2) (l .marks) (l .fair) (l .calm)
           (l .inv .2 ∙ t .pre .masses-room) (l .inv .3 ∙ t .pre .marks-room)
-          (subst (λ (n : ℕ). Walked (d3q19 .weight) (t .args .flags .now) (partOf (t .args .parts .now)) (t .args .mass .now) (t .args .fill .now) (after-offsets .offsets .result) (after-low-of .low-of .result) (t .args .g) (t .args .marks .now) (partOf (l .parts2)) (l .mass2) (l .marks) (l .fair) (l .still) n) e (l .inv .4))));
+          (subst (λ (n : ℕ). Walked (d3q19 .weight) (t .args .flags .now) (partOf (t .args .parts .now)) (t .args .mass .now) (t .args .fill .now) (after-offsets .offsets .result) (after-low-of .low-of .result) (t .args .g) (t .args .marks .now) (partOf (l .parts2)) (l .mass2) (l .marks) (l .fair) (l .calm) n) e (l .inv .4))));
       parts-kept = l .inv .1 ∙ t .pre .parts-room;
       masses-kept = l .inv .2 ∙ t .pre .masses-room;
       marks-kept = l .inv .3 ∙ t .pre .marks-room;

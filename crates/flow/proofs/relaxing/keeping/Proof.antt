@@ -1,21 +1,17 @@
 -- `flow::relaxing::keeping`: the tension that the turbulent mode asks for, or none, which keeps every p. Assumes nothing.
-use mathlib.Core.Path.{_≡_, ap, _∙_}
+use mathlib.Core.Path.{_≡_, _∙_}
 use mathlib.Core.Bool.{true}
-use native.Mathlib.Omega.{arith}
-use lib.IntN.{ℤ, pos, natAbs}
 use lib.Signed.{_≤ℤ_}
 use mir.Syntax.{w64}
 use mir.Val.{toZ, ofZ}
 use mir.Facts.{toZ-ofZ}
-use Rattle.whole.specs.Bounds.{abs-above}
-use Rattle.whole.specs.Order.{≤ℤ-trans}
-use Rattle.whole.specs.Casts.{index-asks}
-use Rattle.whole.specs.Machine.{w64-in}
+use Rattle.whole.specs.laws.Bounds.{abs-above}
+use Rattle.whole.specs.laws.Order.{≤ℤ-trans}
+use Rattle.whole.specs.laws.Casts.{index-asks}
+use Rattle.whole.specs.laws.Machine.{w64-in}
 use Rattle.lattice.specs.Cell.{relaxationGood}
-use Rattle.lattice.specs.declared.Settings.{Settings}
 use Rattle.lattice.proofs.Ranges.{relaxation-in}
 use Rattle.turbulence.proofs.Laws.{positive, keeps-none}
-use Rattle.grid.specs.Outcome.{settingsGood}
 use Rattle.flow.proofs.Collisions.{relaxation-of}
 use Rattle.flow.proofs.relaxing.keeping.Statement.{statement}
 use Rattle.flow.proofs.relaxing.keeping.Tie as tie

@@ -1,24 +1,24 @@
 -- `flow::streaming::arriving` is what arrives from one direction, by the neighbour's flag. What is rebuilt fits, since gas and own part are bounded. Assumes nothing.
 use mathlib.Core.Path.{_≡_, sym, ap, ap₂, _∙_, subst}
-use mathlib.Core.Bool.{Bool, true, _||_}
+use mathlib.Core.Bool.{Bool, _||_}
 use Prim.Native.Nat.{ℕ, _+_, _*_, _≤_, _<_}
 use native.Mathlib.Omega.{arith}
 use lib.IntN.{ℤ, pos, natAbs, _-ℤ_}
 use lib.Signed.{_≤ℤ_, ltZ}
 use lib.Dec.{eqb}
-use lib.ListN.{length, getD}
+use lib.ListN.{getD}
 use borrow.Author.Needs.{sfits-of, needs}
 use mir.Syntax.{w32, w64}
 use mir.Val.{toZ, ofZ}
 use mir.Facts.{toZ-ofZ}
-use Rattle.whole.specs.Parts.{parts-≤}
-use Rattle.whole.specs.Machine.{Val, Within, machine, v32, v64, same, does-fit, reads-as, within-by}
+use Rattle.whole.specs.laws.Parts.{parts-≤}
+use Rattle.whole.specs.laws.Machine.{Val, Within, machine, v32, v64, same, does-fit, reads-as, within-by}
 use Rattle.lattice.specs.Lattice.{V3, dot, d3q19, density, momentum}
-use Rattle.lattice.specs.Cell.{gas, isPositive}
-use Rattle.lattice.specs.Body.{vec}
+use Rattle.lattice.specs.Cell.{gasPair, isPositive}
+use Rattle.lattice.specs.inner.Held.{vec}
 use Rattle.lattice.proofs.Reading.{inside}
-use Rattle.grid.specs.Fill.{partOf}
-use Rattle.grid.specs.Sight.{Body}
+use Rattle.grid.specs.State.{partOf}
+use Rattle.grid.specs.inner.Sight.{Body}
 use Rattle.grid.proofs.Lists.{getD-there}
 use Rattle.flow.proofs.Arrivals.{arrives-wall, arrives-rebuilt, arrives-liquid}
 use Rattle.flow.proofs.Leans.{above-zero}
@@ -56,17 +56,17 @@ body s = s .pre .bodied .body (s .args .c) (s .pre .is-cell) (s .pre .is-liquid)
 along : (s : tie.Start) → s .args .d ≡ dot (d3q19 .e (s .args .i)) (j s)
 along s = s .pre .along ∙ ap (dot (d3q19 .e (s .args .i))) (s .pre .flows .momentum)
 
-gas-same : (w : ℕ) {r r′ d d′ : ℤ} {m m′ : V3} → r ≡ r′ → d ≡ d′ → m ≡ m′ → gas w r d (dot m m) ≡ gas w r′ d′ (dot m′ m′)
-gas-same w p q o t = gas w (p t) (q t) (dot (o t) (o t))
+gas-same : (w : ℕ) {r r′ d d′ : ℤ} {m m′ : V3} → r ≡ r′ → d ≡ d′ → m ≡ m′ → gasPair w r d (dot m m) ≡ gasPair w r′ d′ (dot m′ m′)
+gas-same w p q o t = gasPair w (p t) (q t) (dot (o t) (o t))
 
 -- what is rebuilt, and the own part
-whole-gas : (c : tie.After-rebuilt) →
+whole-gas : (c : tie.After-gas-pair) →
     let s = c .before .before .before .before .before .before in
-    c .rebuilt .result ≡ gas (d3q19 .weight (s .args .i)) (ρ s) (dot (d3q19 .e (s .args .i)) (j s)) (dot (j s) (j s))
+    c .gas-pair .result ≡ gasPair (d3q19 .weight (s .args .i)) (ρ s) (dot (d3q19 .e (s .args .i)) (j s)) (dot (j s) (j s))
 whole-gas c =
     let after-weight-of : tie.After-weight-of = search in let s : tie.Start = search in
-    c .rebuilt .ensures
-    ∙ ap (λ (z : ℤ). gas (natAbs z) (s .args .v .rho) (toZ w32 (ofZ w32 (s .args .d))) (dot (vec (s .args .v)) (vec (s .args .v))))
+    c .gas-pair .ensures
+    ∙ ap (λ (z : ℤ). gasPair (natAbs z) (s .args .v .rho) (toZ w32 (ofZ w32 (s .args .d))) (dot (vec (s .args .v)) (vec (s .args .v))))
     (toZ-ofZ (sfits-of {w = w64} (after-weight-of .weight-of .ok)) ∙ after-weight-of .weight-of .ensures)
     ∙ gas-same (d3q19 .weight (s .args .i)) (s .pre .flows .density) (toZ-ofZ (s .fits .d) ∙ along s) (s .pre .flows .momentum)
 
@@ -75,7 +75,7 @@ own-part : (c : tie.After-wide) →
     c .wide .result ≡ own s (s .args .i)
 own-part c = let after-wide-arg : tie.After-wide-arg = search in c .wide .ensures ∙ toZ-ofZ (sfits-of {w = w32} (after-wide-arg .wide-arg .given))
 
-abbrev gas-read : (c : tie.After-rebuilt) → Val (c .rebuilt .result)
+abbrev gas-read : (c : tie.After-gas-pair) → Val (c .gas-pair .result)
 gas-read c =
     let s : tie.Start = search in
     same (whole-gas c) (inside (gas-body (own s) (body s) light19 (s .args .i) (s .pre .some) (s .pre .most)))
@@ -109,8 +109,8 @@ returns c fills off low g e n =
 weight-of-requires : tie.Need-weight-of-requires
 weight-of-requires c κs = search needs
 
-rebuilt-requires : tie.Need-rebuilt-requires
-rebuilt-requires c κs =
+gas-pair-requires : tie.Need-gas-pair-requires
+gas-pair-requires c κs =
     let s : tie.Start = search in
     let w : Within (pos (d3q19 .weight (s .args .i))) 2 = record { abs = weight-low (s .args .i) (s .pre .some) (s .pre .most) } in (
       tame-body (own s) (body s) (s .args .v) (s .pre .flows .density) (s .pre .flows .momentum),
@@ -183,7 +183,7 @@ arriving-spec =
     shared-slice-copy-out-result
     returns
     weight-of-requires
-    rebuilt-requires
+    gas-pair-requires
     mul-wide
     add-wide
     mul-wide-2

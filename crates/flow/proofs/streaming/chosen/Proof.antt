@@ -1,14 +1,14 @@
 -- `flow::streaming::chosen` is the same either way: with liquid all around, every part comes straight from its source. Assumes nothing.
-use mathlib.Core.Path.{_≡_, refl, sym, ap, _∙_, subst}
+use mathlib.Core.Path.{_≡_, ap, _∙_}
 use mathlib.Core.List.{List}
 use Prim.Native.Nat.{ℕ, _+_, _*_, _-_, _<_}
 use native.Mathlib.Omega.{arith}
 use lib.IntN.{pos}
 use lib.ListN.{length, getD}
-use Rattle.whole.specs.Tab.{getD-tab, tab-cong}
+use Rattle.whole.specs.laws.Tab.{getD-tab, tab-cong}
 use Rattle.lattice.specs.Lattice.{d3q19}
-use Rattle.grid.specs.Fill.{partOf}
-use Rattle.flow.specs.Sources.{sourceOf}
+use Rattle.grid.specs.State.{partOf}
+use Rattle.flow.specs.inner.Sources.{sourceOf}
 use Rattle.flow.proofs.Arrivals.{source-low, at-source, streamed-straight}
 use borrow.Author.Needs.{needs}
 use Rattle.flow.proofs.streaming.chosen.Statement.{statement}

@@ -1,18 +1,13 @@
 -- `flow::streaming::leaning` is n·e of an interface cell's directions, and 0 of a fluid one's. Assumes nothing.
-use mathlib.Core.Path.{_≡_, refl, sym, ap, _∙_}
-use Prim.Native.Nat.{ℕ, zero, suc, _+_, _-_, _<_}
-use native.Mathlib.Omega.{arith}
-use lib.IntN.{ℤ, pos, natAbs}
-use lib.ListN.{getD, replicate, getD-replicate}
+use mathlib.Core.Path.{_≡_, sym, ap, _∙_}
+use Prim.Native.Nat.{_+_, _-_, _<_}
+use lib.IntN.{pos}
+use lib.ListN.{getD}
 use borrow.Author.Needs.{needs}
-use Rattle.whole.specs.Fold.{tab}
-use Rattle.whole.specs.Machine.{Within}
-use Rattle.whole.specs.Tab.{tab-cong}
-use Rattle.lattice.specs.Lattice.{V3, dot, d3q19}
-use Rattle.grid.specs.State.{byFlag}
-use Rattle.grid.specs.Passes.{normalAt, Sloping}
+use Rattle.whole.specs.laws.Tab.{tab-cong}
+use Rattle.lattice.specs.Lattice.{dot, d3q19}
+use Rattle.grid.specs.inner.Passes.{Sloping}
 use Rattle.grid.proofs.Lists.{getD-there}
-use Rattle.flow.specs.Sources.{leanAt}
 use Rattle.flow.proofs.Leans.{normal-low, even-lean, any-lean}
 use Rattle.flow.proofs.streaming.leaning.Statement.{statement}
 use Rattle.flow.proofs.streaming.leaning.Tie as tie

@@ -1,11 +1,11 @@
 -- `flow::streaming::sources` gives where each part that streams straight in lies: the mirrored offset is the opposite neighbour's. Assumes nothing.
 use mathlib.Core.Path.{_≡_, refl}
-use Prim.Native.Nat.{ℕ, _+_, _*_, _-_, _≤_, _<_}
+use Prim.Native.Nat.{_+_, _*_, _-_, _≤_, _<_}
 use native.Mathlib.Omega.{arith}
-use lib.ListN.{length, getD, replicate, length-set}
+use lib.ListN.{length, replicate, length-set}
 use borrow.Author.Needs.{needs}
-use Rattle.whole.specs.Tab.{Upto, upto-zero, upto-more, upto-all}
-use Rattle.flow.specs.Sources.{sourceOf}
+use Rattle.whole.specs.laws.Tab.{Upto, upto-zero, upto-more, upto-all}
+use Rattle.flow.specs.inner.Sources.{sourceOf}
 use Rattle.flow.proofs.Arrivals.{source-is}
 use Rattle.flow.proofs.streaming.sources.Statement.{statement}
 use Rattle.flow.proofs.streaming.sources.Tie as tie

@@ -1,26 +1,23 @@
 -- `flow::streaming::streamed` is what streams into a liquid cell. Each turn stores a pair: i is odd, so that its opposite is i + 1. Assumes nothing.
-use mathlib.Core.Path.{_≡_, refl, sym, ap, _∙_, subst}
-use mathlib.Core.Bool.{true}
+use mathlib.Core.Path.{_≡_, refl, sym, ap, _∙_}
 use mathlib.Core.List.{List, []}
 use Prim.Native.Nat.{ℕ, _+_, _*_, _-_, _%_, _≤_, _<_}
 use native.Mathlib.Nat.{add-zero}
 use native.Mathlib.Omega.{arith}
 use lib.IntN.{ℤ, pos}
-use lib.ListN.{length, getD, set, replicate, length-set}
+use lib.ListN.{length, getD, replicate, length-set}
 use borrow.Author.Needs.{sfits-of, needs}
-use mir.Syntax.{w32, w64}
+use mir.Syntax.{w32}
 use mir.Facts.{toZ-ofZ}
-use Rattle.whole.specs.Machine.{Within}
-use Rattle.whole.specs.Tab.{Upto, upto-zero, upto-more, upto-all, getD-tab}
+use Rattle.whole.specs.laws.Tab.{Upto, upto-zero, upto-more, upto-all, getD-tab}
 use Rattle.lattice.specs.Lattice.{dot, d3q19}
-use Rattle.lattice.specs.Body.{vec}
+use Rattle.lattice.specs.inner.Held.{vec}
 use Rattle.lattice.specs.Cell.{isPositive}
 use Rattle.lattice.specs.declared.Settings.{Settings}
-use Rattle.grid.specs.Fill.{partOf}
-use Rattle.grid.specs.State.{Scene}
+use Rattle.grid.specs.State.{partOf, Scene}
 use Rattle.grid.specs.Step.{leansTo, streamed}
-use Rattle.grid.specs.Sight.{Body, boxSight}
-use Rattle.flow.specs.Sources.{Flows, Beside}
+use Rattle.grid.specs.inner.Sight.{Body, boxSight}
+use Rattle.flow.specs.inner.Sources.{Flows}
 use Rattle.flow.proofs.Arrivals.{streamed-rest, streamed-odd, streamed-even}
 use Rattle.flow.proofs.Leans.{leans-is}
 use Rattle.flow.proofs.Spans.{bounded-own, density-own, momentum-own, tame-body}

@@ -1,13 +1,13 @@
 -- `flow::streaming::streamed_open` reads nineteen parts at given places: each turn stores one more. Assumes nothing.
 use mathlib.Core.Path.{_≡_, refl}
-use Prim.Native.Nat.{ℕ, _+_, _*_, _-_, _≤_, _<_}
+use Prim.Native.Nat.{_+_, _*_, _-_, _≤_, _<_}
 use native.Mathlib.Omega.{arith}
 use lib.IntN.{pos}
 use lib.ListN.{length, getD, replicate, length-set}
 use borrow.Author.Needs.{sfits-of, needs}
 use mir.Syntax.{w32}
 use mir.Facts.{toZ-ofZ}
-use Rattle.whole.specs.Tab.{Upto, upto-zero, upto-more, upto-all}
+use Rattle.whole.specs.laws.Tab.{Upto, upto-zero, upto-more, upto-all}
 use Rattle.flow.proofs.streaming.streamed_open.Statement.{statement}
 use Rattle.flow.proofs.streaming.streamed_open.Tie as tie
 

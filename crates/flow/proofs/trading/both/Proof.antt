@@ -2,8 +2,8 @@
 use borrow.Author.Needs.{needs}
 use Prim.Native.Nat.{_≤_}
 use native.Mathlib.Omega.{arith}
-use Rattle.whole.specs.Machine.{machine, does-fit, reads-as}
-use Rattle.whole.specs.Casts.{n64}
+use Rattle.whole.specs.laws.Machine.{machine, does-fit, reads-as}
+use Rattle.whole.specs.laws.Casts.{n64}
 use Rattle.flow.proofs.trading.both.Statement.{statement}
 use Rattle.flow.proofs.trading.both.Tie as tie
 

@@ -1,7 +1,7 @@
 -- `flow::trading::difference`: a difference of two numbers of 32 bits fits 64. Assumes nothing.
 use borrow.Author.Needs.{needs}
 use mir.Syntax.{w32}
-use Rattle.whole.specs.Machine.{machine, any, same, does-fit, reads-as}
+use Rattle.whole.specs.laws.Machine.{machine, any, same, does-fit, reads-as}
 use Rattle.flow.proofs.trading.difference.Statement.{statement}
 use Rattle.flow.proofs.trading.difference.Tie as tie
 

@@ -5,9 +5,9 @@ use mathlib.Core.Bool.{cond}
 use lib.IntN.{ℤ}
 use mir.Syntax.{w32}
 use mir.Facts.{toZ-ofZ}
-use Rattle.whole.specs.Machine.{machine, any, same, within-by}
+use Rattle.whole.specs.laws.Machine.{machine, any, same, within-by}
 use Rattle.lattice.specs.Cell.{over, under}
-use Rattle.flow.specs.Trade.{markFor}
+use Rattle.flow.specs.inner.Trade.{markFor}
 use Rattle.flow.proofs.Held.{held64}
 use Rattle.flow.proofs.Trades.{by-other}
 use Rattle.flow.proofs.trading.new_mark.Statement.{statement}

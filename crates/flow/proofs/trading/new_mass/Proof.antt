@@ -3,14 +3,14 @@ use borrow.Author.Needs.{needs}
 use mathlib.Core.Path.{_≡_, sym, _∙_}
 use lib.ListN.{getD}
 use mir.Facts.{toZ-ofZ}
-use Rattle.whole.specs.Machine.{Val, machine, does-fit, reads-as}
+use Rattle.whole.specs.laws.Machine.{Val, machine, does-fit, reads-as}
 use Rattle.lattice.specs.Lattice.{d3q19}
 use Rattle.lattice.proofs.Reading.{inside}
-use Rattle.grid.specs.Fill.{partOf}
+use Rattle.grid.specs.State.{partOf}
 use Rattle.grid.specs.Step.{tradedMass}
-use Rattle.grid.specs.Sight.{boxSight}
+use Rattle.grid.specs.inner.Sight.{boxSight}
 use Rattle.grid.proofs.Lists.{getD-there}
-use Rattle.flow.specs.Trade.{tradingOf}
+use Rattle.flow.specs.inner.Trade.{tradingOf}
 use Rattle.flow.proofs.Trades.{by-other, mass-within}
 use Rattle.flow.proofs.trading.new_mass.Statement.{statement}
 use Rattle.flow.proofs.trading.new_mass.Tie as tie

@@ -7,10 +7,10 @@ use lib.IntN.{ℤ, pos, _-ℤ_, natAbs}
 use lib.ListN.{getD}
 use mir.Syntax.{w64}
 use mir.Val.{toZ, ofZ}
-use Rattle.whole.specs.Parts.{parts-≤}
+use Rattle.whole.specs.laws.Parts.{parts-≤}
 use Rattle.lattice.specs.Cell.{exchange}
-use Rattle.grid.specs.Fill.{partOf}
-use Rattle.flow.specs.Trade.{apart}
+use Rattle.grid.specs.State.{partOf}
+use Rattle.flow.specs.inner.Trade.{apart}
 use Rattle.flow.proofs.Held.{held32, held64, apart-in}
 use Rattle.flow.proofs.Trades.{passed-fluid, passed-interface, passed-neither}
 use Rattle.flow.proofs.trading.traded.Statement.{statement}

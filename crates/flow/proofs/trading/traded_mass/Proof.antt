@@ -7,10 +7,10 @@ use lib.IntN.{pos}
 use lib.ListN.{getD}
 use mir.Syntax.{w64}
 use mir.Val.{toZ}
-use Rattle.whole.specs.Machine.{Val, machine, known, same, does-fit, reads-as}
+use Rattle.whole.specs.laws.Machine.{Val, machine, known, same, does-fit, reads-as}
 use Rattle.lattice.specs.Lattice.{d3q19}
-use Rattle.grid.specs.Fill.{partOf}
-use Rattle.flow.specs.Trade.{tradingOf}
+use Rattle.grid.specs.State.{partOf}
+use Rattle.flow.specs.inner.Trade.{tradingOf}
 use Rattle.flow.proofs.Held.{held32, held64}
 use Rattle.flow.proofs.Trades.{gain, gained, gained-none, gained-all, first-is, second-is, gained-pair, gain-within, gained-within}
 use Rattle.flow.proofs.trading.traded_mass.Statement.{statement}

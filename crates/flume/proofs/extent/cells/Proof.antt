@@ -5,7 +5,7 @@ use native.Mathlib.Nat.{mul-le-mul}
 use native.Mathlib.Omega.{arith}
 use borrow.Author.Tests.{leb-true}
 use lib.Dec.{leb}
-use Rattle.whole.specs.Bools.{and-left, and-right}
+use Rattle.whole.specs.laws.Bools.{and-left, and-right}
 use Rattle.flume.specs.Flume.{flumeSideGood, flumeSidesGood, flumeCells}
 use Rattle.flume.proofs.extent.cells.Statement.{statement}
 use Rattle.flume.proofs.extent.cells.Tie as tie

@@ -10,12 +10,12 @@ use lib.IntN.{ℤ, pos, _+ℤ_}
 use lib.ListN.{length, getD}
 use mir.Syntax.{w64}
 use mir.Val.{toZ, ofZ}
-use Rattle.whole.specs.Machine.{Val, does-fit, reads-as, v+, v64, v32}
+use Rattle.whole.specs.laws.Machine.{Val, does-fit, reads-as, v+, v64, v32}
 use Rattle.grid.proofs.Ranges.{Ranged, over-gap, ranged-first, ranged-more, ranged-keep, ranged-all}
-use Rattle.excess.specs.Gifts.{gatheredAt, receivedAt}
+use Rattle.excess.specs.inner.Gifts.{gatheredAt, receivedAt}
 use Rattle.excess.proofs.Takes.{taking, took, kept, marked-still, giving-still, received-still, received-in, in-range}
 use Rattle.excess.proofs.Readings.{told, told64, held-in}
-use Rattle.nine.specs.Cells.{partOf9}
+use Rattle.nine.specs.inner.Cells.{partOf9}
 use Rattle.flumeexcess.proofs.giving.gather9.Statement.{statement}
 use Rattle.flumeexcess.proofs.giving.gather9.Tie as tie
 

@@ -4,9 +4,9 @@ use mathlib.Core.Path.{sym, subst, _∙_}
 use Prim.Native.Nat.{_-_}
 use lib.IntN.{ℤ, pos}
 use lib.Signed.{_<ℤ_}
-use Rattle.whole.specs.Machine.{Within}
-use Rattle.nine.specs.Cells.{partOf9}
-use Rattle.excess.specs.Gifts.{weightAt}
+use Rattle.whole.specs.laws.Machine.{Within}
+use Rattle.nine.specs.inner.Cells.{partOf9}
+use Rattle.excess.specs.inner.Gifts.{weightAt}
 use Rattle.excess.proofs.Leans.{weights-fit, weight-in, weight-some, dirs-at}
 use Rattle.excess.proofs.Sent.{excess-in, share-told}
 use Rattle.excess.proofs.Readings.{told64}

@@ -1,7 +1,7 @@
 -- `flumeexcess::giving::gift_from9`: a cell with no mark gives nothing. Assumes nothing.
 use borrow.Author.Needs.{needs}
 use mathlib.Core.Path.{_∙_}
-use Rattle.nine.specs.Cells.{partOf9}
+use Rattle.nine.specs.inner.Cells.{partOf9}
 use Rattle.excess.proofs.Sent.{from-none, from-some}
 use Rattle.excess.proofs.Readings.{told64}
 use Rattle.flumeexcess.proofs.giving.gift_from9.Statement.{statement}

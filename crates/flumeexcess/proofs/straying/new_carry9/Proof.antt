@@ -10,12 +10,12 @@ use mir.Syntax.{w64}
 use mir.Val.{toZ, ofZ}
 use mir.Facts.{toZ-ofZ}
 use Rattle.whole.specs.Fold.{sum}
-use Rattle.whole.specs.Machine.{Val, Within, within-by, does-fit, reads-as, v+, v64}
+use Rattle.whole.specs.laws.Machine.{Val, Within, within-by, does-fit, reads-as, v+, v64}
 use Rattle.grid.proofs.Ranges.{over-gap}
-use Rattle.excess.specs.Gifts.{strayAt}
+use Rattle.excess.specs.inner.Gifts.{strayAt}
 use Rattle.excess.proofs.Strays.{stray-some, stray-in, strays-in, strays-more, strays-keep}
 use Rattle.excess.proofs.Readings.{told64, held-in}
-use Rattle.nine.specs.Cells.{partOf9}
+use Rattle.nine.specs.inner.Cells.{partOf9}
 use Rattle.flumeexcess.proofs.straying.new_carry9.Statement.{statement}
 use Rattle.flumeexcess.proofs.straying.new_carry9.Tie as tie
 

@@ -7,12 +7,13 @@ use lib.IntN.{ℤ, pos}
 use lib.ListN.{length, getD, replicate, getD-replicate}
 use borrow.Author.Tests.{not-false}
 use Rattle.whole.specs.Fold.{tab, all}
-use Rattle.whole.specs.Search.{all-at}
-use Rattle.whole.specs.Tab.{getD-tab}
-use Rattle.lattice.specs.Body.{partsOf, eqZ}
+use Rattle.whole.specs.laws.Search.{all-at}
+use Rattle.whole.specs.laws.Tab.{getD-tab}
+use Rattle.lattice.specs.inner.Held.{partsOf}
+use Rattle.lattice.specs.Body.{eqZ}
 use Rattle.lattice.proofs.Equal.{eqZ-true}
-use Rattle.flume.specs.Spread.{wide}
-use Rattle.nine.specs.Cells.{partOf9, pasted9}
+use Rattle.flume.specs.inner.Spread.{wide}
+use Rattle.nine.specs.inner.Cells.{partOf9, pasted9}
 use Rattle.nine.proofs.Pasted.{pasted-same}
 use Rattle.flumeflow.proofs.Nines.{part-at, place-low}
 use borrow.Author.Needs.{needs}

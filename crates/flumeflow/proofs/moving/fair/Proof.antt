@@ -1,14 +1,12 @@
 -- `flumeflow::moving::fair`: both tests together are the rule of a liquid cell's body, whose density is known. Assumes nothing.
 use mathlib.Core.Path.{_≡_, sym, ap, ap₂, _∙_, subst}
 use mathlib.Core.Bool.{_&&_}
-use lib.IntN.{ℤ}
 use mir.Facts.{toZ-ofZ}
-use Rattle.whole.specs.Machine.{Within}
+use Rattle.whole.specs.laws.Machine.{Within}
 use Rattle.lattice.specs.declared.Flow.{Flow}
-use Rattle.lattice.specs.Body.{vec}
+use Rattle.lattice.specs.inner.Held.{vec}
 use Rattle.lattice.proofs.Bodies.{flow-x, flow-y, flow-z, body-is}
 use borrow.Author.Needs.{needs}
-use Rattle.flumeflow.specs.PutAt.{atDensity}
 use Rattle.flumeflow.proofs.moving.fair.Statement.{statement}
 use Rattle.flumeflow.proofs.moving.fair.Tie as tie
 

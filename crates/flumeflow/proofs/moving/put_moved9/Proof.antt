@@ -1,7 +1,7 @@
 -- `flumeflow::moving::put_moved9` does stages 3 and 4 of a liquid cell: it refuses as the definition does, and else pastes the collided parts.
 -- Assumes nothing.
 use mathlib.Core.Path.{_≡_, refl, sym, ap, _∙_, subst}
-use mathlib.Core.Bool.{true, false, false≢true}
+use mathlib.Core.Bool.{false≢true}
 use mathlib.Core.List.{List}
 use native.Mathlib.Omega.{arith}
 use lib.IntN.{ℤ}
@@ -12,11 +12,12 @@ use mir.Val.{toZ, ofZ}
 use mir.Facts.{toZ-ofZ}
 use Rattle.whole.specs.Fold.{tab}
 use Rattle.lattice.specs.Cell.{relaxationGood}
-use Rattle.lattice.specs.Body.{partsOf, Bounded, vec, collidedPart}
-use Rattle.flow.specs.Relaxed.{relaxedBy}
-use Rattle.flow.proofs.Collisions.{loosened, gravity-of, relaxation-of, flow-rho, flow-x, flow-y, flow-z, pulled-x, pulled-y, pulled-z, told-refused, told-accepted, moved}
-use Rattle.flume.specs.Spread.{spreadLattice}
-use Rattle.nine.specs.Cells.{partOf9, pasted9}
+use Rattle.lattice.specs.inner.Held.{partsOf, Bounded, vec}
+use Rattle.lattice.specs.Body.{collidedPart}
+use Rattle.flow.specs.inner.Relaxed.{relaxedBy}
+use Rattle.flow.proofs.Collisions.{loosened, gravity-of, flow-rho, flow-x, flow-y, flow-z, pulled-x, pulled-y, pulled-z, told-refused, told-accepted, moved}
+use Rattle.flume.specs.inner.Spread.{spreadLattice}
+use Rattle.nine.specs.inner.Cells.{partOf9, pasted9}
 use Rattle.nine.proofs.Pasted.{length-pasted9}
 use Rattle.nine.proofs.Places.{quiet-collided}
 use Rattle.flumeflow.proofs.Nines.{density-made}

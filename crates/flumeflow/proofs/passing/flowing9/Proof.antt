@@ -11,37 +11,37 @@ use mir.Syntax.{w32}
 use mir.Facts.{toZ-ofZ}
 use Rattle.whole.specs.Fold.{tab}
 use Rattle.grid.specs.State.{lent, liquid}
-use Rattle.grid.specs.Passes.{Amid}
-use Rattle.grid.specs.Sight.{Around}
+use Rattle.grid.specs.inner.Passes.{Amid}
+use Rattle.grid.specs.inner.Sight.{Around}
 use Rattle.grid.proofs.Lists.{getD-there}
 use Rattle.flow.proofs.Walked.{Walked, walked-first, walked-turn, walked-stopped, walked-moved}
 use Rattle.flume.specs.Flume.{flumeCells, flumeGrid}
-use Rattle.flume.specs.Offsets.{flumeLow, flumeOffset}
-use Rattle.flume.specs.Spread.{spreadLattice, spreadGrid}
-use Rattle.nine.specs.Cells.{partOf9}
-use Rattle.flumegrid.specs.Ready.{FlumePoised}
+use Rattle.flume.specs.inner.Offsets.{flumeLow, flumeOffset}
+use Rattle.flume.specs.inner.Spread.{spreadLattice, spreadGrid}
+use Rattle.nine.specs.inner.Cells.{partOf9}
+use Rattle.flumegrid.specs.inner.Ready.{FlumePoised}
 use Rattle.flumegrid.proofs.GoodSides.{few}
 use Rattle.flumegrid.proofs.Offsets.{low-few}
-use Rattle.flumeflow.specs.Seen.{Traders9}
-use Rattle.flumeflow.specs.PutAt.{Putting9}
-use Rattle.flumeflow.specs.Flowed.{alongSettings, stopped, through}
+use Rattle.flumeflow.specs.inner.Seen.{Traders9}
+use Rattle.flumeflow.specs.inner.PutAt.{Putting9}
+use Rattle.flumeflow.specs.inner.Flowed.{alongSettings, stopped, through}
 use Rattle.flumeflow.proofs.Poise.{settings-good, traders, liquid-inner, mirrored, placed, around, immersed}
 use Rattle.flumeflow.proofs.Puts.{put-more}
 use Rattle.flumeflow.proofs.passing.flowing9.Statement.{statement}
 use Rattle.flumeflow.proofs.passing.flowing9.Tie as tie
 
 abbrev Inv-loop : tie.InvT-loop
-Inv-loop flags parts mass fill parts2₀ mass2₀ marks₀ g off low from keep fair₀ still₀ c₀ parts2 mass2 marks fair still c =
+Inv-loop flags parts mass fill parts2₀ mass2₀ marks₀ g off low from keep fair₀ still₀ c₀ parts2 mass2 marks fair calm c =
     (c ≤ length flags) × (length parts2 ≡ length parts2₀) × (length mass2 ≡ length mass2₀) × (length marks ≡ length marks₀)
-    × Walked (spreadLattice .weight) flags (partOf9 parts) mass fill off low g marks₀ (partOf9 parts2) mass2 marks fair still c
+    × Walked (spreadLattice .weight) flags (partOf9 parts) mass fill off low g marks₀ (partOf9 parts2) mass2 marks fair calm c
 
 abbrev μ-loop : tie.MeasureT-loop
-μ-loop flags parts mass fill parts2₀ mass2₀ marks₀ g off low from keep fair₀ still₀ c₀ parts2 mass2 marks fair still c = length flags - c
+μ-loop flags parts mass fill parts2₀ mass2₀ marks₀ g off low from keep fair₀ still₀ c₀ parts2 mass2 marks fair calm c = length flags - c
 
 -- a cell that did not pass is too fast
-too-fast : {ok t : Bool} → ok ≡ not t → ok ≡ false → t ≡ true
-too-fast {t = true} e f = refl
-too-fast {t = false} e f = sym f ∙ e
+is-unsteady : {ok t : Bool} → ok ≡ not t → ok ≡ false → t ≡ true
+is-unsteady {t = true} e f = refl
+is-unsteady {t = false} e f = sym f ∙ e
 
 -- ---- inside the loop: the offsets, the cell, and what a function of one cell asks
 module _ (d : tie.In-loop Inv-loop μ-loop) where
@@ -67,7 +67,7 @@ module _ (d : tie.In-loop Inv-loop μ-loop) where
   poise = start .pre .poised
 
   walked : Walked (spreadLattice .weight) (start .args .flags .now) (partOf9 (start .args .parts .now)) (start .args .mass .now) (start .args .fill .now) off low (start .args .g) (start .args .marks .now)
-      (partOf9 (d .before .loop .parts2)) (d .before .loop .mass2) (d .before .loop .marks) (d .before .loop .fair) (d .before .loop .still) cell
+      (partOf9 (d .before .loop .parts2)) (d .before .loop .mass2) (d .before .loop .marks) (d .before .loop .fair) (d .before .loop .calm) cell
   walked = d .before .loop .inv .4
 
   is-cell : cell < flumeCells (start .args .s)
@@ -144,7 +144,7 @@ returns c =
     let o = after-put-parts9 .put-parts9 in
     record {
       went = stopped (is-cell d) (walked-stopped (spreadLattice .weight) (spreadGrid (flumeGrid (t .args .s))) (t .args .g) _ _ _ _ (off d) (low d) _ (placed-all d) _ _ _ _ _ _ (cell d) (is-cell d) (walked d)
-          (too-fast (o .ensures .told .ok) (not-true _ (c .if1 .taken))));
+          (is-unsteady (o .ensures .told .ok) (not-true _ (c .if1 .taken))));
       parts-kept = o .ensures .kept ∙ d .before .loop .inv .1 ∙ t .pre .parts-room;
       masses-kept = d .before .loop .inv .2 ∙ t .pre .masses-room;
       marks-kept = d .before .loop .inv .3 ∙ t .pre .marks-room;
@@ -191,7 +191,7 @@ loop-again c =
       simp length-set (l .inv .2),
       simp length-set (l .inv .3),
       walked-turn (spreadLattice .weight) (t .args .flags .now) (partOf9 (t .args .parts .now)) (t .args .mass .now) (t .args .fill .now) (off d) (low d) (t .args .g) (t .args .marks .now)
-          (partOf9 (l .parts2)) (partOf9 (put .last .1 .1 .1 .0)) (l .mass2) (l .marks) (l .fair) (l .still) (l .c) (walked d) (put .result) (put .ensures .told) ok
+          (partOf9 (l .parts2)) (partOf9 (put .last .1 .1 .1 .0)) (l .mass2) (l .marks) (l .fair) (l .calm) (l .c) (walked d) (put .result) (put .ensures .told) ok
           (put-more (t .args .flags .now) (t .args .parts .now) (t .args .fill .now) (off d) (low d) (t .args .g) (l .parts2) (put .last .1 .1 .1 .0) (l .c) (omega (arith, l .inv .1, t .pre .parts-room)) (put .ensures .parts ok))
           (gained .result) _ _ _ _ (mark .result) _ (getD-there (t .args .flags .now) (l .c) 0 3 (d .loop-test .taken))
           (omega (arith, l .inv .2, t .pre .masses-room)) (omega (arith, l .inv .3, t .pre .marks-room))
@@ -219,9 +219,9 @@ returns-2 c =
       went = through
           (walked-moved (spreadLattice .weight) (spreadGrid (flumeGrid (t .args .s))) (t .args .g) (t .args .flags .now) (partOf9 (t .args .parts .now)) (t .args .mass .now) (t .args .fill .now)
           (after-offsets .offsets .result) (after-low-of .low-of .result) (flumeCells (t .args .s)) (λ j h l. placed (t .args .s) _ _ (after-offsets .offsets .ensures) (after-low-of .low-of .ensures) j (liquid-inner (t .args .s) _ _ _ _ _ p j h l))
-          (t .args .marks .now) (partOf9 (l .parts2)) (l .mass2) (l .marks) (l .fair) (l .still)
+          (t .args .marks .now) (partOf9 (l .parts2)) (l .mass2) (l .marks) (l .fair) (l .calm)
           (l .inv .2 ∙ t .pre .masses-room) (l .inv .3 ∙ t .pre .marks-room)
-          (subst (λ (n : ℕ). Walked (spreadLattice .weight) (t .args .flags .now) (partOf9 (t .args .parts .now)) (t .args .mass .now) (t .args .fill .now) (after-offsets .offsets .result) (after-low-of .low-of .result) (t .args .g) (t .args .marks .now) (partOf9 (l .parts2)) (l .mass2) (l .marks) (l .fair) (l .still) n) e (l .inv .4)));
+          (subst (λ (n : ℕ). Walked (spreadLattice .weight) (t .args .flags .now) (partOf9 (t .args .parts .now)) (t .args .mass .now) (t .args .fill .now) (after-offsets .offsets .result) (after-low-of .low-of .result) (t .args .g) (t .args .marks .now) (partOf9 (l .parts2)) (l .mass2) (l .marks) (l .fair) (l .calm) n) e (l .inv .4)));
       parts-kept = l .inv .1 ∙ t .pre .parts-room;
       masses-kept = l .inv .2 ∙ t .pre .masses-room;
       marks-kept = l .inv .3 ∙ t .pre .marks-room;

@@ -11,19 +11,19 @@ use lib.ListN.{getD}
 use mir.Syntax.{w32, w64}
 use mir.Val.{toZ, ofZ}
 use mir.Facts.{toZ-ofZ}
-use Rattle.whole.specs.Parts.{parts-≤}
-use Rattle.whole.specs.Machine.{Val, machine, v32, v64, same, does-fit, reads-as, within-by}
+use Rattle.whole.specs.laws.Parts.{parts-≤}
+use Rattle.whole.specs.laws.Machine.{Val, machine, v32, v64, same, does-fit, reads-as, within-by}
 use Rattle.lattice.specs.Lattice.{V3, dot, d3q19, density, momentum}
-use Rattle.lattice.specs.Cell.{gas, isPositive}
-use Rattle.lattice.specs.Body.{vec}
+use Rattle.lattice.specs.Cell.{gasPair, isPositive}
+use Rattle.lattice.specs.inner.Held.{vec}
 use Rattle.lattice.proofs.Reading.{inside}
-use Rattle.grid.specs.Sight.{Body}
+use Rattle.grid.specs.inner.Sight.{Body}
 use Rattle.grid.proofs.Lists.{getD-there}
 use Rattle.flow.proofs.Arrivals.{arrives-wall, arrives-rebuilt, arrives-liquid}
 use Rattle.flow.proofs.Leans.{above-zero}
 use Rattle.flow.proofs.Spans.{gas-body, along-body, tame-body}
-use Rattle.flume.specs.Spread.{spreadLattice}
-use Rattle.nine.specs.Cells.{partOf9}
+use Rattle.flume.specs.inner.Spread.{spreadLattice}
+use Rattle.nine.specs.inner.Cells.{partOf9}
 use Rattle.nine.proofs.Weighed.{weight-in}
 use Rattle.flumeflow.proofs.Nines.{light9, part-at}
 use borrow.Author.Needs.{sfits-of, needs}
@@ -64,17 +64,17 @@ own-is s = sym (part-at (s .args .parts .now) (s .args .c) (s .args .k) (s .pre 
 along : (s : tie.Start) → s .args .d ≡ dot (d3q19 .e (s .args .i)) (j s)
 along s = s .pre .along ∙ ap (dot (d3q19 .e (s .args .i))) (s .pre .flows .momentum)
 
-gas-same : (w : ℕ) {r r′ d d′ : ℤ} {m m′ : V3} → r ≡ r′ → d ≡ d′ → m ≡ m′ → gas w r d (dot m m) ≡ gas w r′ d′ (dot m′ m′)
-gas-same w p q o t = gas w (p t) (q t) (dot (o t) (o t))
+gas-same : (w : ℕ) {r r′ d d′ : ℤ} {m m′ : V3} → r ≡ r′ → d ≡ d′ → m ≡ m′ → gasPair w r d (dot m m) ≡ gasPair w r′ d′ (dot m′ m′)
+gas-same w p q o t = gasPair w (p t) (q t) (dot (o t) (o t))
 
 -- what is rebuilt, and the own part
-whole-gas : (c : tie.After-rebuilt) →
+whole-gas : (c : tie.After-gas-pair) →
     let s = c .before .before .before .before .before .before in
-    c .rebuilt .result ≡ gas (spreadLattice .weight (s .args .i)) (ρ s) (dot (d3q19 .e (s .args .i)) (j s)) (dot (j s) (j s))
+    c .gas-pair .result ≡ gasPair (spreadLattice .weight (s .args .i)) (ρ s) (dot (d3q19 .e (s .args .i)) (j s)) (dot (j s) (j s))
 whole-gas c =
     let after-weight9 : tie.After-weight9 = search in let s : tie.Start = search in
-    c .rebuilt .ensures
-    ∙ ap (λ (z : ℤ). gas (natAbs z) (s .args .v .rho) (toZ w32 (ofZ w32 (s .args .d))) (dot (vec (s .args .v)) (vec (s .args .v))))
+    c .gas-pair .ensures
+    ∙ ap (λ (z : ℤ). gasPair (natAbs z) (s .args .v .rho) (toZ w32 (ofZ w32 (s .args .d))) (dot (vec (s .args .v)) (vec (s .args .v))))
     (toZ-ofZ (sfits-of {w = w64} (after-weight9 .weight9 .ok)) ∙ after-weight9 .weight9 .ensures)
     ∙ gas-same (spreadLattice .weight (s .args .i)) (s .pre .flows .density) (toZ-ofZ (s .fits .d) ∙ along s) (s .pre .flows .momentum)
 
@@ -85,7 +85,7 @@ own-part c =
     let after-wide-arg : tie.After-wide-arg = search in let s : tie.Start = search in
     c .wide .ensures ∙ toZ-ofZ (sfits-of {w = w32} (after-wide-arg .wide-arg .given)) ∙ own-is s
 
-abbrev gas-read : (c : tie.After-rebuilt) → Val (c .rebuilt .result)
+abbrev gas-read : (c : tie.After-gas-pair) → Val (c .gas-pair .result)
 gas-read c =
     let s : tie.Start = search in
     same (whole-gas c) (inside (gas-body (own s) (body s) light9 (s .args .i) (s .pre .some) (s .pre .low)))
@@ -120,8 +120,8 @@ returns c fills off low g e n =
 weight9-requires : tie.Need-weight9-requires
 weight9-requires c κs = search needs
 
-rebuilt-requires : tie.Need-rebuilt-requires
-rebuilt-requires c κs =
+gas-pair-requires : tie.Need-gas-pair-requires
+gas-pair-requires c κs =
     let s : tie.Start = search in (
       tame-body (own s) (body s) (s .args .v) (s .pre .flows .density) (s .pre .flows .momentum),
       subst (λ (z : ℤ). pos 0 ≤ℤ z) (sym (toZ-ofZ (sfits-of {w = w64} (c .weight9 .ok)) ∙ c .weight9 .ensures)) (parts-≤ (omega arith)),
@@ -194,7 +194,7 @@ arriving9-spec =
     shared-slice-copy-out-result
     returns
     weight9-requires
-    rebuilt-requires
+    gas-pair-requires
     mul-wide
     add-wide
     mul-wide-2

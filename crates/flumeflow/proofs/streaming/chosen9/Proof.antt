@@ -5,12 +5,12 @@ use Prim.Native.Nat.{ℕ, _+_, _*_, _-_, _<_}
 use native.Mathlib.Omega.{arith}
 use lib.IntN.{pos}
 use lib.ListN.{getD}
-use Rattle.whole.specs.Tab.{getD-tab}
+use Rattle.whole.specs.laws.Tab.{getD-tab}
 use Rattle.lattice.specs.Lattice.{pairOpp}
 use Rattle.flow.proofs.Arrivals.{streamed-straight, opposite-low}
-use Rattle.flume.specs.Spread.{wide, spreadLattice}
-use Rattle.nine.specs.Cells.{partOf9}
-use Rattle.flumeflow.specs.Seen.{sourceOf9}
+use Rattle.flume.specs.inner.Spread.{wide, spreadLattice}
+use Rattle.nine.specs.inner.Cells.{partOf9}
+use Rattle.flumeflow.specs.inner.Seen.{sourceOf9}
 use Rattle.flumeflow.proofs.Nines.{part-at, place-low, at-source, streamed-spread}
 use borrow.Author.Needs.{needs}
 use Rattle.flumeflow.proofs.streaming.chosen9.Statement.{statement}

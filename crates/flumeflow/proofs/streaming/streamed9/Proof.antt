@@ -10,21 +10,21 @@ use lib.ListN.{getD, replicate}
 use mir.Syntax.{w32}
 use mir.Facts.{toZ-ofZ}
 use Rattle.whole.specs.Fold.{tab}
-use Rattle.whole.specs.Tab.{getD-tab}
+use Rattle.whole.specs.laws.Tab.{getD-tab}
 use Rattle.lattice.specs.Lattice.{dot, d3q19}
-use Rattle.lattice.specs.Body.{vec}
+use Rattle.lattice.specs.inner.Held.{vec}
 use Rattle.lattice.specs.Cell.{isPositive}
 use Rattle.grid.specs.State.{Scene}
 use Rattle.grid.specs.Step.{leansTo, arrives, streamed}
-use Rattle.grid.specs.Sight.{Body}
-use Rattle.flow.specs.Sources.{Flows}
+use Rattle.grid.specs.inner.Sight.{Body}
+use Rattle.flow.specs.inner.Sources.{Flows}
 use Rattle.flow.proofs.Arrivals.{streamed-rest, streamed-odd, streamed-even}
 use Rattle.flow.proofs.Leans.{leans-is}
 use Rattle.flow.proofs.Spans.{bounded-own, density-own, momentum-own, tame-body}
-use Rattle.flume.specs.Spread.{wide, spreadLattice}
-use Rattle.nine.specs.Cells.{partOf9}
+use Rattle.flume.specs.inner.Spread.{wide, spreadLattice}
+use Rattle.nine.specs.inner.Cells.{partOf9}
 use Rattle.nine.proofs.Places.{Filled, filled-zero, filled-more, filled-all}
-use Rattle.flumeflow.specs.Seen.{sight9}
+use Rattle.flumeflow.specs.inner.Seen.{sight9}
 use Rattle.flumeflow.proofs.Nines.{Paired, paired, part-at, streamed-spread, filled-pair}
 use borrow.Author.Needs.{sfits-of, needs}
 use Rattle.lattice.specs.declared.Settings.{Settings}

@@ -2,12 +2,12 @@
 use mathlib.Core.Path.{_≡_, sym, _∙_}
 use lib.ListN.{getD}
 use mir.Facts.{toZ-ofZ}
-use Rattle.whole.specs.Machine.{Val, machine, does-fit, reads-as}
+use Rattle.whole.specs.laws.Machine.{Val, machine, does-fit, reads-as}
 use Rattle.lattice.proofs.Reading.{inside}
 use Rattle.grid.specs.Step.{tradedMass}
 use Rattle.grid.proofs.Lists.{getD-there}
 use Rattle.flow.proofs.Trades.{by-other}
-use Rattle.flumeflow.specs.Seen.{sight9, trading9}
+use Rattle.flumeflow.specs.inner.Seen.{sight9, trading9}
 use Rattle.flumeflow.proofs.Gains.{mass-within}
 use borrow.Author.Needs.{needs}
 use Rattle.flumeflow.proofs.trading.new_mass9.Statement.{statement}

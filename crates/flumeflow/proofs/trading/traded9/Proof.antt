@@ -6,13 +6,13 @@ use lib.IntN.{ℤ, pos, _-ℤ_, natAbs}
 use lib.ListN.{getD}
 use mir.Syntax.{w64}
 use mir.Val.{toZ, ofZ}
-use Rattle.whole.specs.Parts.{parts-≤}
+use Rattle.whole.specs.laws.Parts.{parts-≤}
 use Rattle.lattice.specs.Cell.{exchange}
-use Rattle.flow.specs.Trade.{apart}
+use Rattle.flow.specs.inner.Trade.{apart}
 use Rattle.flow.proofs.Held.{held32, held64, apart-in}
 use Rattle.flow.proofs.Trades.{passed-fluid, passed-interface, passed-neither}
-use Rattle.flume.specs.Spread.{wide}
-use Rattle.nine.specs.Cells.{partOf9}
+use Rattle.flume.specs.inner.Spread.{wide}
+use Rattle.nine.specs.inner.Cells.{partOf9}
 use Rattle.flumeflow.proofs.Nines.{part-at}
 use borrow.Author.Needs.{needs}
 use Rattle.flumeflow.proofs.trading.traded9.Statement.{statement}

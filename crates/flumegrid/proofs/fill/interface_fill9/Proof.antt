@@ -10,7 +10,7 @@ use mir.Val.{toZ, ofZ}
 use mir.Facts.{toZ-ofZ}
 use Rattle.lattice.specs.Lattice.{d3q19, density}
 use Rattle.lattice.specs.Cell.{fillOf}
-use Rattle.nine.specs.Cells.{partOf9}
+use Rattle.nine.specs.inner.Cells.{partOf9}
 use Rattle.grid.proofs.Arrays.{density-is, bounded-is}
 use Rattle.flumegrid.proofs.fill.interface_fill9.Statement.{statement}
 use Rattle.flumegrid.proofs.fill.interface_fill9.Tie as tie

@@ -5,7 +5,7 @@ use mathlib.Core.Path.{_≡_, refl}
 use mathlib.Core.Bool.{Bool, true, false, not, _&&_, _||_}
 use native.Mathlib.Omega.{arith}
 use lib.Dec.{eqb}
-use Rattle.flumegrid.specs.Layer.{edge}
+use Rattle.flumegrid.specs.inner.Layer.{edge}
 use Rattle.flumegrid.proofs.layer.bad_flag.Statement.{statement}
 use Rattle.flumegrid.proofs.layer.bad_flag.Tie as tie
 

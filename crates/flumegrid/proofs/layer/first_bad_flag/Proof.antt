@@ -6,7 +6,7 @@ use Prim.Native.Nat.{ℕ, _+_, _-_, _*_, _≤_, _<_}
 use native.Mathlib.Omega.{arith}
 use native.Mathlib.Nat.{not-suc-le-zero}
 use Rattle.flume.specs.Flume.{flumeCells}
-use Rattle.flumegrid.specs.Layer.{badAt, Row}
+use Rattle.flumegrid.specs.inner.Layer.{badAt, Row}
 use Rattle.flumegrid.proofs.GoodSides.{few}
 use Rattle.flumegrid.proofs.Rows.{found, none-found, row-room, passed}
 use Rattle.flumegrid.proofs.layer.first_bad_flag.Statement.{statement}

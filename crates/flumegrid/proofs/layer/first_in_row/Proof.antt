@@ -6,7 +6,7 @@ use mathlib.Core.Bool.{false}
 use Prim.Native.Nat.{ℕ, _+_, _-_, _≤_, _<_}
 use native.Mathlib.Omega.{arith}
 use native.Mathlib.Nat.{not-suc-le-zero}
-use Rattle.flumegrid.specs.Layer.{badAt}
+use Rattle.flumegrid.specs.inner.Layer.{badAt}
 use Rattle.flumegrid.proofs.GoodSides.{few}
 use Rattle.flumegrid.proofs.Rows.{tested, row-cell}
 use Rattle.flumegrid.proofs.layer.first_in_row.Statement.{statement}

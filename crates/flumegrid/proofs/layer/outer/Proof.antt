@@ -1,7 +1,7 @@
 -- `flumegrid::layer::outer` asks whether a coordinate is at either end. Assumes nothing.
 use borrow.Author.Needs.{needs}
 use native.Mathlib.Numerals.{add-one}
-use Rattle.flumegrid.specs.Layer.{edge}
+use Rattle.flumegrid.specs.inner.Layer.{edge}
 use Rattle.flumegrid.proofs.layer.outer.Statement.{statement}
 use Rattle.flumegrid.proofs.layer.outer.Tie as tie
 

@@ -1,7 +1,7 @@
 -- `flumegrid::neighbours::low_of` is the cell at (1, 1). Assumes nothing.
 use borrow.Author.Needs.{needs}
 use native.Mathlib.Omega.{arith}
-use Rattle.flume.specs.Offsets.{flumeLow}
+use Rattle.flume.specs.inner.Offsets.{flumeLow}
 use Rattle.flumegrid.proofs.neighbours.low_of.Statement.{statement}
 use Rattle.flumegrid.proofs.neighbours.low_of.Tie as tie
 

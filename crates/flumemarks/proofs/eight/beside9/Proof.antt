@@ -3,8 +3,8 @@ use borrow.Author.Needs.{needs}
 use mathlib.Core.Path.{refl}
 use native.Mathlib.Omega.{arith}
 use Rattle.whole.specs.Fold.{any}
-use Rattle.flume.specs.Spread.{wide}
-use Rattle.flumemarks.specs.Eight.{besideEight}
+use Rattle.flume.specs.inner.Spread.{wide}
+use Rattle.flumemarks.specs.inner.Eight.{besideEight}
 use Rattle.flumemarks.proofs.eight.beside9.Statement.{statement}
 use Rattle.flumemarks.proofs.eight.beside9.Tie as tie
 

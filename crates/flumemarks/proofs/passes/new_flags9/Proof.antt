@@ -7,11 +7,11 @@ use Prim.Native.Nat.{ℕ, _-_, _≤_, _<_}
 use native.Mathlib.Omega.{arith}
 use lib.Dec.{eqb}
 use lib.ListN.{length, getD}
-use Rattle.grid.specs.Passes.{Amid, turnedAt}
+use Rattle.grid.specs.inner.Passes.{Amid, turnedAt}
 use Rattle.grid.proofs.Ranges.{Ranged, ranged-first, ranged-more}
 use Rattle.grid.proofs.Inside.{reach-by}
 use Rattle.grid.specs.Step.{flagAfter}
-use Rattle.flow.proofs.Marking.{turned}
+use Rattle.conversion.proofs.Marking.{turned}
 use Rattle.flumemarks.proofs.Alike.{turned-same}
 use Rattle.flumemarks.proofs.passes.new_flags9.Statement.{statement}
 use Rattle.flumemarks.proofs.passes.new_flags9.Tie as tie

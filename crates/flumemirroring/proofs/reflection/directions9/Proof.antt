@@ -1,5 +1,4 @@
 -- `flumemirroring::reflection::directions9` is the table of its axis. Assumes nothing.
-use native.Mathlib.Omega.{arith}
 use Rattle.lattice.specs.Lattice.{d2q9}
 use Rattle.mirroring.proofs.Reflected.{by-axis}
 use Rattle.flumemirroring.proofs.Reflected.{table-x, table-z, or-z}

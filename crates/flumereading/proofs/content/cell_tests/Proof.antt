@@ -1,7 +1,7 @@
 -- `flumereading::content::cell_tests`: the flags as a part of the record pass to test 5, the numbers behind them to test 6. Assumes nothing.
 use borrow.Author.Needs.{needs}
 use mathlib.Core.Path.{_≡_, sym, ap, ap₂, _∙_}
-use mathlib.Core.Bool.{Bool, true, not}
+use mathlib.Core.Bool.{Bool, not}
 use mathlib.Core.List.{List}
 use Prim.Native.Nat.{ℕ, suc, _+_, _*_, _≤_, _<_}
 use native.Mathlib.Nat.{le-trans, le-of-eq}
@@ -25,7 +25,7 @@ use Rattle.grid.proofs.Checks.{stop}
 use Rattle.record.specs.Places.{massesFrom, partsFrom}
 use Rattle.flumerecord.specs.Layout.{flumeCounts}
 use Rattle.flumerecord.specs.Reading.{flumeSidesIn, flumeCarryIn, flumeCellsIn, flumeFlagsIn, flumeFlagIn, flumeInterfacesIn, flumeStateIn}
-use Rattle.record.specs.Passes.{fairOf, fairHeld}
+use Rattle.record.specs.inner.Passes.{fairOf, fairHeld}
 use Rattle.record.specs.Bytes.{i32At}
 use Rattle.record.specs.Layout.{interfaces, liquids}
 use Rattle.record.specs.Reading.{massRead, partRead}

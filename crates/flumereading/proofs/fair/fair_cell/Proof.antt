@@ -2,11 +2,9 @@
 use borrow.Author.Needs.{needs}
 use mathlib.Core.Path.{_≡_, sym, ap, _∙_, subst}
 use mathlib.Core.Bool.{cond}
-use mathlib.Core.List.{List}
 use Prim.Native.Nat.{ℕ, _+_, _*_, _≤_}
 use native.Mathlib.Omega.{arith}
 use lib.Dec.{eqb}
-use lib.IntN.{ℤ}
 use lib.ListN.{length}
 use borrow.Author.Tests.{not-true, not-false}
 use denote.Ref.{now}
@@ -14,7 +12,7 @@ use mir.Syntax.{w32, w64}
 use mir.ValLaws.{toZ-ofZ}
 use Rattle.lattice.specs.Lattice.{d2q9}
 use Rattle.lattice.specs.Cell.{massGood}
-use Rattle.lattice.specs.Body.{partsOf, bodyGood}
+use Rattle.lattice.specs.Body.{bodyGood}
 use Rattle.record.specs.Bytes.{i32At}
 use Rattle.reading.proofs.Fairness.{fair-dry, fair-not, fair-fluid, fair-interface}
 use Rattle.flumereading.proofs.Nine.{nine-body}

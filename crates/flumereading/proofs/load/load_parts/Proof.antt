@@ -1,5 +1,5 @@
 -- `flumereading::load::load_parts` stores part after part; the place goes on as the count of liquid cells does. Assumes nothing.
-use mathlib.Core.Path.{_≡_, refl, sym, ap, ap₂, _∙_, subst}
+use mathlib.Core.Path.{_≡_, refl, ap, ap₂, _∙_, subst}
 use mathlib.Core.Bool.{Bool, true, false, cond}
 use mathlib.Core.List.{List}
 use Prim.Native.Nat.{ℕ, _+_, _*_, _-_, _/_, _%_, _≤_, _<_}
@@ -7,16 +7,14 @@ use native.Mathlib.Omega.{arith}
 use lib.Dec.{eqb}
 use lib.IntN.{ℤ, pos}
 use lib.ListN.{length, getD, length-set}
-use borrow.Author.Needs.{needs}
 use borrow.Author.Tests.{eqb-true, eqb-false}
 use denote.Ref.{now}
 use mir.Syntax.{w32}
 use mir.Val.{toZ, ofZ}
 use mir.ValLaws.{toZ-ofZ}
-use Rattle.whole.specs.Fold.{tab, count}
-use Rattle.whole.specs.Tab.{Upto, upto-zero, upto-more, upto-all}
-use Rattle.grid.specs.State.{byFlag, liquid}
-use Rattle.grid.specs.Passes.{flagOf}
+use Rattle.whole.specs.Fold.{count}
+use Rattle.whole.specs.laws.Tab.{Upto, upto-zero, upto-more, upto-all}
+use Rattle.grid.specs.State.{byFlag, liquid, flagOf}
 use Rattle.grid.proofs.Lists.{getD-there}
 use Rattle.record.specs.Bytes.{i32At}
 use Rattle.record.specs.Layout.{liquids}

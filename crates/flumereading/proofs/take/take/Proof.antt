@@ -1,16 +1,14 @@
 -- `flumereading::take::take`: the passes leave the state of the record, and behind them the carry is written. Assumes nothing.
 use borrow.Author.Needs.{needs}
-use mathlib.Core.Path.{_≡_, sym, ap, _∙_, subst}
+use mathlib.Core.Path.{_≡_, sym, ap, _∙_}
 use mathlib.Core.List.{List, [], _∷_}
 use Prim.Native.Nat.{ℕ, _+_, _*_, _-_, _≤_, _<_}
 use native.Mathlib.Omega.{arith}
 use lib.IntN.{ℤ}
-use lib.ListN.{length, take, drop, set, length-set}
+use lib.ListN.{length, take, drop, set}
 use denote.Ref.{now}
 use mir.Syntax.{w64}
-use mir.Val.{toZ, ofZ}
 use mir.ValLaws.{toZ-ofZ}
-use Rattle.flume.specs.Flume.{flumeCells}
 use Rattle.grid.specs.State.{lentOf}
 use Rattle.flumegrid.proofs.GoodSides.{few}
 use Rattle.record.specs.Places.{massesFrom, partsFrom}

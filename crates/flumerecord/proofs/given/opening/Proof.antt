@@ -12,7 +12,7 @@ use Rattle.flume.specs.Flume.{flumeSidesGood, flumeCells}
 use Rattle.grid.specs.Outcome.{orRefuse}
 use Rattle.record.specs.Reading.{whole}
 use Rattle.flumerecord.specs.Reading.{flumeSidesIn, flumeCellsIn, flumeSlicesFit}
-use Rattle.record.specs.Passes.{Held}
+use Rattle.record.specs.Bytes.{Held}
 use Rattle.record.proofs.Answers.{stopped, went-on, holds, or-pass, or-fail}
 use Rattle.flumegrid.proofs.GoodSides.{few}
 use Rattle.flumerecord.proofs.given.opening.Statement.{statement}

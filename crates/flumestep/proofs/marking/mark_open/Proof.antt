@@ -6,10 +6,10 @@ use mathlib.Core.List.{List}
 use Prim.Native.Nat.{ℕ}
 use lib.ListN.{length}
 use Rattle.whole.specs.Fold.{tab}
-use Rattle.grid.specs.Passes.{Reaching, openedBy}
+use Rattle.grid.specs.inner.Passes.{Reaching, openedBy}
 use Rattle.flume.specs.declared.FlumeSides.{FlumeSides}
 use Rattle.flume.specs.Flume.{flumeSidesGood, flumeCells}
-use Rattle.flume.specs.Offsets.{flumeLow, flumeOffset}
+use Rattle.flume.specs.inner.Offsets.{flumeLow, flumeOffset}
 use Rattle.flumegrid.proofs.Offsets.{reaching}
 use Rattle.flumemarks.proofs.Alike.{idling}
 use Rattle.flumestep.proofs.marking.mark_open.Statement.{statement}

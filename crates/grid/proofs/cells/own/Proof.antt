@@ -1,13 +1,13 @@
 -- `grid::cells::own` reads the nineteen parts of cell c, in order: each turn stores one more. Assumes nothing.
 use mathlib.Core.Path.{_≡_, refl}
-use Prim.Native.Nat.{ℕ, _+_, _*_, _-_, _≤_, _<_}
+use Prim.Native.Nat.{_+_, _*_, _-_, _≤_, _<_}
 use native.Mathlib.Omega.{arith}
 use lib.IntN.{pos}
 use lib.ListN.{length, getD, replicate, length-set}
 use borrow.Author.Needs.{sfits-of, needs}
 use mir.Syntax.{w32}
 use mir.Facts.{toZ-ofZ}
-use Rattle.whole.specs.Tab.{Upto, upto-zero, upto-more, upto-all}
+use Rattle.whole.specs.laws.Tab.{Upto, upto-zero, upto-more, upto-all}
 use Rattle.grid.proofs.cells.own.Statement.{statement}
 use Rattle.grid.proofs.cells.own.Tie as tie
 

@@ -1,10 +1,10 @@
 -- `grid::cells::paste` writes nineteen parts from a place on and leaves the rest: each turn copies one more. Assumes nothing.
-use mathlib.Core.Path.{_≡_, refl, sym, ap, _∙_}
-use Prim.Native.Nat.{ℕ, _+_, _*_, _-_, _≤_, _<_}
+use mathlib.Core.Path.{_≡_, refl, _∙_}
+use Prim.Native.Nat.{_+_, _*_, _-_, _≤_, _<_}
 use native.Mathlib.Numerals.{add-one}
 use native.Mathlib.Omega.{arith}
 use lib.IntN.{pos}
-use lib.ListN.{length, getD, length-set}
+use lib.ListN.{length, length-set}
 use lib.Seq.{paste, paste-zero, paste-suc}
 use borrow.Kind.Array.{eSInt, good-length}
 use borrow.Author.Needs.{sfits-of, needs}

@@ -10,7 +10,7 @@ use mir.Val.{toZ, ofZ}
 use mir.Facts.{toZ-ofZ}
 use Rattle.lattice.specs.Lattice.{d3q19, density}
 use Rattle.lattice.specs.Cell.{fillOf}
-use Rattle.grid.specs.Fill.{partOf}
+use Rattle.grid.specs.State.{partOf}
 use Rattle.grid.proofs.Arrays.{density-is, bounded-is}
 use Rattle.grid.proofs.fill.interface_fill.Statement.{statement}
 use Rattle.grid.proofs.fill.interface_fill.Tie as tie

@@ -6,9 +6,9 @@ use mathlib.Core.Bool.{Bool, false, _&&_}
 use Prim.Native.Nat.{ℕ, _-_, _≤_, _<_}
 use native.Mathlib.Omega.{arith}
 use lib.Dec.{eqb}
-use lib.ListN.{length, getD}
-use Rattle.whole.specs.Bools.{or-false}
-use Rattle.grid.specs.Passes.{openAt}
+use lib.ListN.{getD}
+use Rattle.whole.specs.laws.Bools.{or-false}
+use Rattle.grid.specs.inner.Passes.{openAt}
 use Rattle.grid.proofs.Inside.{reach-by}
 use Rattle.grid.proofs.Open.{none-inside}
 use Rattle.grid.proofs.fluid.any_open.Statement.{statement}

@@ -5,7 +5,7 @@ use borrow.Author.Count.{below-more}
 use borrow.Author.Tests.{ne-eqb}
 use mathlib.Core.Path.{_≡_}
 use mathlib.Core.Logic.{⊎-elim}
-use mathlib.Core.Bool.{Bool, false}
+use mathlib.Core.Bool.{false}
 use mathlib.Core.List.{List}
 use Prim.Native.Nat.{ℕ, suc, _+_, _-_, _≤_, _<_}
 use native.Mathlib.Omega.{arith}
@@ -13,7 +13,7 @@ use native.Mathlib.Decide.{decLt}
 use native.Mathlib.Nat.{not-suc-le-zero}
 use lib.Dec.{eqb}
 use lib.ListN.{length, getD}
-use Rattle.grid.specs.Passes.{Amid, openAt}
+use Rattle.grid.specs.inner.Passes.{Amid, openAt}
 use Rattle.grid.proofs.Open.{dry, shut, wet, found, none-found}
 use Rattle.grid.proofs.fluid.lowest_open.Statement.{statement}
 use Rattle.grid.proofs.fluid.lowest_open.Tie as tie

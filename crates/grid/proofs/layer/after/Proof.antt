@@ -1,7 +1,7 @@
 -- `grid::layer::after` is the next place: along the row, then to the next row, then to the next plane. Assumes nothing.
 use borrow.Author.Needs.{needs}
 use borrow.Author.Tests.{lt-ltb, le-ltb}
-use Rattle.grid.specs.Passes.{placeAfter}
+use Rattle.grid.specs.inner.Passes.{placeAfter}
 use Rattle.grid.proofs.layer.after.Statement.{statement}
 use Rattle.grid.proofs.layer.after.Tie as tie
 

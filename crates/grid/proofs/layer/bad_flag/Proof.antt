@@ -5,7 +5,7 @@ use mathlib.Core.Path.{_≡_, refl}
 use mathlib.Core.Bool.{Bool, true, false, not, _&&_, _||_}
 use native.Mathlib.Omega.{arith}
 use lib.Dec.{eqb}
-use Rattle.grid.specs.Passes.{outerAt}
+use Rattle.grid.specs.inner.Passes.{outerAt}
 use Rattle.grid.proofs.layer.bad_flag.Statement.{statement}
 use Rattle.grid.proofs.layer.bad_flag.Tie as tie
 

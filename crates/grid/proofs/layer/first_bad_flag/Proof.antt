@@ -1,5 +1,4 @@
 -- `grid::layer::first_bad_flag` is test 4's place. The loop walks row by row; no cell passed breaks the rule. Assumes nothing.
-use borrow.Author.Needs.{needs}
 use mathlib.Core.Path.{_≡_, refl}
 use mathlib.Core.Bool.{false}
 use Prim.Native.Nat.{ℕ, _+_, _-_, _≤_, _<_}
@@ -8,7 +7,7 @@ use native.Mathlib.Nat.{not-suc-le-zero}
 use lib.ListN.{length}
 use Rattle.grid.specs.declared.layer.Place.{Place}
 use Rattle.grid.specs.Grid.{cellsOf}
-use Rattle.grid.specs.Passes.{RowAt}
+use Rattle.grid.specs.inner.Passes.{RowAt}
 use Rattle.grid.proofs.GoodSides.{good-sides}
 use Rattle.grid.proofs.Coordinates.{stands-first}
 use Rattle.grid.proofs.Rows.{bad, found, none-found, row-place, row-room, row-next, passed}

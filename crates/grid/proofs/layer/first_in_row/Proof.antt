@@ -8,7 +8,7 @@ use native.Mathlib.Omega.{arith}
 use native.Mathlib.Nat.{not-suc-le-zero}
 use lib.Dec.{ltb, eqb}
 use lib.ListN.{getD}
-use Rattle.grid.specs.Passes.{outerAt}
+use Rattle.grid.specs.inner.Passes.{outerAt}
 use Rattle.grid.proofs.GoodSides.{good-sides}
 use Rattle.grid.proofs.Rows.{bad, here, along, row-stands, row-place, row-room}
 use Rattle.grid.proofs.layer.first_in_row.Statement.{statement}

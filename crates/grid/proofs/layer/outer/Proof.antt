@@ -1,7 +1,7 @@
 -- `grid::layer::outer` asks whether a coordinate is at either end. Assumes nothing.
 use borrow.Author.Needs.{needs}
 use native.Mathlib.Numerals.{add-one}
-use Rattle.grid.specs.Passes.{outerAt}
+use Rattle.grid.specs.inner.Passes.{outerAt}
 use Rattle.grid.proofs.layer.outer.Statement.{statement}
 use Rattle.grid.proofs.layer.outer.Tie as tie
 

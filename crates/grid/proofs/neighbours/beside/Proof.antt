@@ -8,7 +8,7 @@ use native.Mathlib.Omega.{arith}
 use lib.Dec.{eqb}
 use lib.ListN.{getD}
 use Rattle.whole.specs.Fold.{any}
-use Rattle.grid.specs.Passes.{besideAt}
+use Rattle.grid.specs.inner.Passes.{besideAt}
 use Rattle.grid.proofs.neighbours.beside.Statement.{statement}
 use Rattle.grid.proofs.neighbours.beside.Tie as tie
 

@@ -1,6 +1,6 @@
 -- `grid::neighbours::low_of` is the cell at (1, 1, 1). Assumes nothing.
 use borrow.Author.Needs.{needs}
-use Rattle.grid.specs.Passes.{lowOf}
+use Rattle.grid.specs.inner.Passes.{lowOf}
 use Rattle.grid.proofs.neighbours.low_of.Statement.{statement}
 use Rattle.grid.proofs.neighbours.low_of.Tie as tie
 use Rattle.grid.proofs.neighbours.low_of.Reads as reads

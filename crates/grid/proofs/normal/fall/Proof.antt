@@ -5,8 +5,8 @@ use Prim.Native.Nat.{ℕ, _≤_, _<_}
 use native.Mathlib.Omega.{arith}
 use lib.IntN.{pos, _-ℤ_}
 use lib.ListN.{length, getD}
-use Rattle.whole.specs.Machine.{does-fit, reads-as, v+, vneg, v32}
-use Rattle.whole.specs.Casts.{n32}
+use Rattle.whole.specs.laws.Machine.{does-fit, reads-as, v+, vneg, v32}
+use Rattle.whole.specs.laws.Casts.{n32}
 use Rattle.grid.proofs.Slopes.{seen-in, fill-fits}
 use Rattle.grid.proofs.normal.fall.Statement.{statement}
 use Rattle.grid.proofs.normal.fall.Tie as tie

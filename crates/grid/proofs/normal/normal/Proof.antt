@@ -4,7 +4,7 @@ use mathlib.Core.Path.{_∙_}
 use native.Mathlib.Omega.{arith}
 use mir.Syntax.{w32}
 use mir.Facts.{toZ-ofZ}
-use Rattle.grid.specs.Passes.{normalAt}
+use Rattle.grid.specs.inner.Passes.{normalAt}
 use Rattle.grid.proofs.Slopes.{falls, vector}
 use Rattle.grid.proofs.normal.normal.Statement.{statement}
 use Rattle.grid.proofs.normal.normal.Tie as tie

@@ -4,7 +4,7 @@ use mathlib.Core.Path.{_≡_, ap, _∙_}
 use Prim.Native.Nat.{ℕ, _+_, _-_, _≤_}
 use native.Mathlib.Omega.{arith}
 use lib.ListN.{length, getD}
-use Rattle.grid.specs.Passes.{Unmarked}
+use Rattle.grid.specs.inner.Passes.{Unmarked}
 use Rattle.grid.proofs.Ranges.{unmarked-more}
 use Rattle.grid.proofs.seeking.next_marked.Statement.{statement}
 use Rattle.grid.proofs.seeking.next_marked.Tie as tie

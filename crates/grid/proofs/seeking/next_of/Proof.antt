@@ -1,10 +1,10 @@
 -- `grid::seeking::next_of`: no cell that was passed is of the kind. Assumes nothing.
 use borrow.Author.Needs.{needs}
-use mathlib.Core.Path.{_≡_, sym, ap, _∙_}
+use mathlib.Core.Path.{_≡_, ap, _∙_}
 use Prim.Native.Nat.{ℕ, _+_, _-_, _≤_, _<_}
 use native.Mathlib.Omega.{arith}
 use lib.ListN.{length, getD}
-use Rattle.grid.specs.Passes.{Lacking}
+use Rattle.grid.specs.inner.Passes.{Lacking}
 use Rattle.grid.proofs.Ranges.{lacking-more}
 use Rattle.grid.proofs.seeking.next_of.Statement.{statement}
 use Rattle.grid.proofs.seeking.next_of.Tie as tie

@@ -3,12 +3,12 @@ use borrow.Author.Needs.{needs}
 use borrow.Author.Tests.{eq-eqb, not-false}
 use mathlib.Core.Path.{_≡_, sym, ap, _∙_}
 use mathlib.Core.Bool.{not, false≢true}
-use Prim.Native.Nat.{ℕ, _+_, _-_, _≤_}
+use Prim.Native.Nat.{_+_, _-_, _≤_}
 use native.Mathlib.Omega.{arith}
 use lib.Dec.{eqb}
 use lib.ListN.{length, getD}
-use Rattle.whole.specs.Search.{all-at}
-use Rattle.grid.specs.Passes.{Lacking}
+use Rattle.whole.specs.laws.Search.{all-at}
+use Rattle.grid.specs.inner.Passes.{Lacking}
 use Rattle.grid.proofs.Ranges.{lacking-first, lacking-more}
 use Rattle.grid.proofs.seeking.past_lacking.Statement.{statement}
 use Rattle.grid.proofs.seeking.past_lacking.Tie as tie

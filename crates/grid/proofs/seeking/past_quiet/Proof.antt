@@ -2,12 +2,12 @@
 use borrow.Author.Needs.{needs}
 use borrow.Author.Tests.{eqb-true, not-false}
 use mathlib.Core.Path.{_≡_, sym, _∙_}
-use Prim.Native.Nat.{ℕ, _+_, _-_, _≤_}
+use Prim.Native.Nat.{_+_, _-_, _≤_}
 use native.Mathlib.Omega.{arith}
 use lib.Dec.{eqb}
 use lib.ListN.{length, getD}
-use Rattle.whole.specs.Search.{all-at}
-use Rattle.grid.specs.Passes.{Unmarked}
+use Rattle.whole.specs.laws.Search.{all-at}
+use Rattle.grid.specs.inner.Passes.{Unmarked}
 use Rattle.grid.proofs.Ranges.{unmarked-first, unmarked-more}
 use Rattle.grid.proofs.seeking.past_quiet.Statement.{statement}
 use Rattle.grid.proofs.seeking.past_quiet.Tie as tie

@@ -5,7 +5,7 @@ use lib.IntN.{ℤ}
 use mir.Syntax.{w64}
 use mir.Val.{toZ, ofZ}
 use mir.Facts.{toZ-ofZ}
-use Rattle.gridstep.specs.Playing.{totalBy}
+use Rattle.gridstep.specs.inner.Playing.{totalBy}
 use Rattle.gridstep.proofs.counting.counts.Statement.{statement}
 use Rattle.gridstep.proofs.counting.counts.Tie as tie
 

@@ -1,16 +1,16 @@
 -- `gridstep::counting::mass_sum` adds up the masses passed. Assumes nothing.
 use borrow.Author.Needs.{needs, sfits-of}
 use mathlib.Core.Path.{_≡_, refl, sym, ap, _∙_}
-use Prim.Native.Nat.{ℕ, _+_, _*_, _-_, _≤_}
+use Prim.Native.Nat.{_+_, _*_, _-_, _≤_}
 use native.Mathlib.Omega.{arith}
 use lib.IntN.{ℤ, pos, natAbs, _+ℤ_}
 use lib.ListN.{length, getD}
 use mir.Syntax.{w32, w64}
 use mir.Val.{toZ, ofZ}
 use mir.Facts.{toZ-ofZ}
-use Rattle.whole.specs.Bounds.{abs-add}
+use Rattle.whole.specs.laws.Bounds.{abs-add}
 use Rattle.whole.specs.Fold.{sum}
-use Rattle.whole.specs.Machine.{Val, known, does-fit, reads-as, same, v+, v64}
+use Rattle.whole.specs.laws.Machine.{Val, known, does-fit, reads-as, same, v+, v64}
 use Rattle.gridstep.specs.Counts.{massSum}
 use Rattle.gridstep.proofs.Addends.{massIn, mass-more, abs-mag}
 use Rattle.gridstep.proofs.counting.mass_sum.Statement.{statement}

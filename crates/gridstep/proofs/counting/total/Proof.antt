@@ -8,9 +8,9 @@ use lib.IntN.{ℤ, natAbs, _+ℤ_}
 use mir.Syntax.{w64}
 use mir.Val.{toZ, ofZ}
 use mir.Facts.{toZ-ofZ}
-use Rattle.whole.specs.Machine.{Val, known, does-fit, reads-as, same, v+, v64}
+use Rattle.whole.specs.laws.Machine.{Val, known, does-fit, reads-as, same, v+, v64}
 use Rattle.lattice.specs.Cell.{carryGood}
-use Rattle.gridstep.specs.Playing.{totalBy}
+use Rattle.gridstep.specs.inner.Playing.{totalBy}
 use Rattle.gridstep.proofs.counting.total.Statement.{statement}
 use Rattle.gridstep.proofs.counting.total.Tie as tie
 

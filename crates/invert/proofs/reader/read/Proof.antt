@@ -10,9 +10,7 @@ use mir.Facts.{toZ-ofZ}
 use Rattle.grid.specs.Grid.{cellsOf}
 use Rattle.grid.specs.State.{Lent, lent}
 use Rattle.grid.specs.Outcome.{accepted}
-use Rattle.record.specs.declared.Head.{Head}
 use Rattle.index.specs.Index.{Index, index}
-use Rattle.invert.specs.declared.testing.Lengths.{Lengths}
 use Rattle.invert.specs.Outcome.{countOf, readHead, lengthsOf}
 use Rattle.invert.proofs.Tested.{Taken, head-taken, Fit, fit, edge-fits}
 use Rattle.invert.proofs.Filled.{read-refused, read-accepted}

@@ -6,7 +6,7 @@ use native.Mathlib.Nat.{mod-le, div-le-self}
 use native.Mathlib.Omega.{arith}
 use borrow.Author.Tests.{lt-ltb, le-ltb}
 use Rattle.grid.specs.Grid.{atEnd}
-use Rattle.invert.proofs.Spread.{Plane, plane, wall-x, wall-y, wall-z, wall-k}
+use Rattle.invert.proofs.Spread.{plane, wall-x, wall-y, wall-z, wall-k}
 use Rattle.invert.proofs.walls.cell_wall.Statement.{statement}
 use Rattle.invert.proofs.walls.cell_wall.Tie as tie
 

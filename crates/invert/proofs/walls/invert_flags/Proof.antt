@@ -1,14 +1,13 @@
 -- `heights::walls::invert_flags`: the layer, then all cells. Assumes nothing.
-use mathlib.Core.Path.{_≡_, sym, ap, _∙_}
+use mathlib.Core.Path.{_≡_, ap, _∙_}
 use mathlib.Core.List.{List}
 use Prim.Native.Nat.{ℕ, _≤_}
-use native.Mathlib.Omega.{arith}
 use lib.ListN.{drop}
 use denote.Ref.{now}
 use Rattle.whole.specs.Fold.{tab}
 use Rattle.grid.specs.Grid.{cellsOf}
 use Rattle.grid.proofs.GoodSides.{good-sides}
-use Rattle.invert.specs.Walls.{wallBy}
+use Rattle.invert.specs.inner.Walls.{wallBy}
 use Rattle.invert.proofs.Inverts.{invert-is, layer-fits}
 use borrow.Author.Needs.{needs}
 use Rattle.invert.proofs.walls.invert_flags.Statement.{statement}

@@ -1,10 +1,7 @@
 -- `heights::walls::layer`: row by row, the highest first. Assumes nothing.
-use borrow.Author.Needs.{needs}
-use mathlib.Core.Path.{_≡_, sym, ap, _∙_}
-use Prim.Native.Nat.{ℕ, _+_, _-_, _*_, _≤_}
-use native.Mathlib.Nat.{mul-le-mul}
+use mathlib.Core.Path.{_≡_, _∙_}
+use Prim.Native.Nat.{_+_, _-_, _*_, _≤_}
 use native.Mathlib.Omega.{arith}
-use denote.Ref.{now}
 use Rattle.invert.proofs.Heights.{Stacking, stack-begin, stack-long, stack-more, stack-end, base-fits}
 use Rattle.invert.proofs.walls.layer.Statement.{statement}
 use Rattle.invert.proofs.walls.layer.Tie as tie

@@ -1,14 +1,10 @@
 -- `heights::walls::spread`: from the last cell down. Assumes nothing.
 use Rattle.invert.proofs.Spread.{cells-few}
-use mathlib.Core.Path.{_≡_, sym, ap, _∙_}
-use Prim.Native.Nat.{ℕ, _-_, _*_, _%_, _≤_}
+use mathlib.Core.Path.{_≡_, _∙_}
+use Prim.Native.Nat.{_-_, _*_, _%_, _≤_}
 use native.Mathlib.Nat.{mod-le}
 use native.Mathlib.Omega.{arith}
-use lib.ListN.{length}
-use denote.Ref.{now}
-use Rattle.grid.specs.Grid.{cellsOf}
-use Rattle.grid.proofs.GoodSides.{good-sides}
-use Rattle.invert.proofs.Spread.{Plane, plane, Spreading, spread-begin, spread-more, spread-end}
+use Rattle.invert.proofs.Spread.{plane, Spreading, spread-begin, spread-more, spread-end}
 use Rattle.invert.proofs.walls.spread.Statement.{statement}
 use Rattle.invert.proofs.walls.spread.Tie as tie
 

@@ -1,13 +1,12 @@
 -- `heights::walls::walls_at`: the number there, and its column. Assumes nothing.
-use Prim.Native.Nat.{ℕ, _-_, _≤_}
+use Prim.Native.Nat.{_-_, _≤_}
 use lib.ListN.{take, drop}
 use Rattle.heights.specs.Number.{numberOf}
-use mathlib.Core.Path.{_≡_, sym, ap, _∙_}
+use mathlib.Core.Path.{_≡_, ap, _∙_}
 use native.Mathlib.Omega.{arith}
-use lib.IntN.{ℤ}
 use mir.Facts.{toZ-ofZ}
 use Rattle.invert.specs.Invert.{orZero}
-use Rattle.invert.specs.Walls.{heightOf}
+use Rattle.invert.specs.inner.Walls.{heightOf}
 use Rattle.invert.proofs.Heights.{height-le}
 use borrow.Author.Needs.{needs}
 use Rattle.invert.proofs.walls.walls_at.Statement.{statement}

@@ -1,15 +1,13 @@
 -- `heights::walls::walls_of`: the lowest cell that is not wall. Assumes nothing.
 use mir.Syntax.{w64}
-use mir.Val.{toZ, ofZ}
-use Rattle.invert.specs.Walls.{heightOf}
+use mir.Val.{toZ}
+use Rattle.invert.specs.inner.Walls.{heightOf}
 use borrow.Author.Needs.{needs}
 use borrow.Author.Tests.{not-true, not-false}
 use mathlib.Core.Path.{_≡_, sym, ap, _∙_}
-use lib.IntN.{ℤ}
-use Prim.Native.Nat.{ℕ, _-_, _≤_, _<_}
+use Prim.Native.Nat.{_-_, _≤_, _<_}
 use native.Mathlib.Omega.{arith}
 use mir.Facts.{toZ-ofZ}
-use Rattle.invert.specs.Invert.{solidAt}
 use Rattle.invert.proofs.Heights.{Rising, rise-more, rise-stop, rise-end}
 use Rattle.invert.proofs.walls.walls_of.Statement.{statement}
 use Rattle.invert.proofs.walls.walls_of.Tie as tie

@@ -1,6 +1,6 @@
 -- `lattice::directions::dots`: each sum fits, and the array is the table's e·v, by one computed test over the nineteen forms. Assumes nothing.
 use mathlib.Core.Path.{_∙_}
-use Rattle.whole.specs.Machine.{does-fit}
+use Rattle.whole.specs.laws.Machine.{does-fit}
 use Rattle.lattice.proofs.Reading.{reading, list-as, vnil, vcons}
 use Rattle.lattice.proofs.Table.{dots-right}
 use Rattle.lattice.proofs.directions.dots.Statement.{statement}

@@ -7,11 +7,11 @@ use lib.Signed.{_<ℤ_, nonNeg, quotZ}
 use mir.Syntax.{w32, w64}
 use mir.Val.{Fits, toZ, ofZ}
 use mir.Facts.{sfits-lit}
-use Rattle.whole.specs.Parts.{abs-parts, one-zero, <-parts}
-use Rattle.whole.specs.Bounds.{divisor}
-use Rattle.whole.specs.Order.{leZ-true, leZ-false}
-use Rattle.whole.specs.Machine.{Within, machine, w64-in, does-fit, reads-as}
-use Rattle.whole.specs.Tests.{le-test}
+use Rattle.whole.specs.laws.Parts.{abs-parts, one-zero, <-parts}
+use Rattle.whole.specs.laws.Bounds.{divisor}
+use Rattle.whole.specs.laws.Order.{leZ-true, leZ-false}
+use Rattle.whole.specs.laws.Machine.{Within, machine, w64-in, does-fit, reads-as}
+use Rattle.whole.specs.laws.Tests.{le-test}
 use Rattle.lattice.specs.Cell.{fillOf}
 use Rattle.lattice.proofs.Fills.{no-mass, all-mass, some-mass, fill-most}
 use Rattle.lattice.proofs.fill.part_fill.Statement.{statement}

@@ -2,8 +2,8 @@
 -- Assumes nothing.
 use borrow.Author.Needs.{needs}
 use mathlib.Core.Path.{sym}
-use Rattle.whole.specs.Machine.{Within, does-fit}
-use Rattle.whole.specs.Tests.{flags, flag-as}
+use Rattle.whole.specs.laws.Machine.{Within, does-fit}
+use Rattle.whole.specs.laws.Tests.{flags, flag-as}
 use Rattle.lattice.specs.Cell.{gravityGood}
 use Rattle.lattice.proofs.Ranges.{strong-x, strong-y, strong-z, large, little}
 use Rattle.lattice.proofs.Reading.{reading}

@@ -8,10 +8,10 @@ use lib.IntN.{ℤ, pos, natAbs, _+ℤ_}
 use mir.Syntax.{w32}
 use mir.Val.{toZ, ofZ}
 use Rattle.whole.specs.Fold.{sum}
-use Rattle.whole.specs.Bounds.{abs-add}
-use Rattle.whole.specs.Machine.{known, does-fit, reads-as}
+use Rattle.whole.specs.laws.Bounds.{abs-add}
+use Rattle.whole.specs.laws.Machine.{known, does-fit, reads-as}
 use Rattle.lattice.specs.Lattice.{density, d3q19}
-use Rattle.lattice.specs.Body.{partsOf}
+use Rattle.lattice.specs.inner.Held.{partsOf}
 use Rattle.lattice.proofs.Pairs.{sum-one, sum-pair}
 use Rattle.lattice.proofs.Reading.{reading}
 use Rattle.lattice.proofs.moments.density.Statement.{statement}

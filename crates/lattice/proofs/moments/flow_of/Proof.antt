@@ -4,8 +4,8 @@ use mathlib.Core.Path.{_≡_, _∙_}
 use Prim.Native.Nat.{ℕ, _<_}
 use lib.Dec.{lit<}
 use lib.IntN.{ℤ}
-use Rattle.whole.specs.Machine.{Val, machine, same, does-fit, reads-as}
-use Rattle.lattice.specs.Body.{partsOf}
+use Rattle.whole.specs.laws.Machine.{Val, machine, same, does-fit, reads-as}
+use Rattle.lattice.specs.inner.Held.{partsOf}
 use Rattle.lattice.proofs.Momentum.{pair, pair-in, density-in, x-pairs, y-pairs, z-pairs, same-vector}
 use Rattle.lattice.proofs.Reading.{inside}
 use Rattle.lattice.proofs.moments.flow_of.Statement.{statement}

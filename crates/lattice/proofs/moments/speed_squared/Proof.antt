@@ -1,6 +1,6 @@
 -- `lattice::moments::speed_squared`: the squares and their sums fit. Assumes nothing.
 use borrow.Author.Needs.{needs}
-use Rattle.whole.specs.Machine.{Val, machine, same, v*, v32, does-fit, reads-as}
+use Rattle.whole.specs.laws.Machine.{Val, machine, same, v*, v32, does-fit, reads-as}
 use Rattle.lattice.proofs.Reading.{inside}
 use Rattle.lattice.proofs.moments.speed_squared.Statement.{statement}
 use Rattle.lattice.proofs.moments.speed_squared.Tie as tie

@@ -4,11 +4,11 @@ use mathlib.Core.Bool.{true}
 use lib.IntN.{pos}
 use lib.Signed.{leZ}
 use mir.Syntax.{w32}
-use Rattle.whole.specs.Order.{ltZ-true, ltZ-false, ≤-leZ, <-leZ}
-use Rattle.whole.specs.Machine.{machine, any, same, does-fit}
-use Rattle.whole.specs.Tests.{flags, flag-as, clean}
+use Rattle.whole.specs.laws.Order.{ltZ-true, ltZ-false, ≤-leZ, <-leZ}
+use Rattle.whole.specs.laws.Machine.{machine, any, same, does-fit}
+use Rattle.whole.specs.laws.Tests.{flags, flag-as, clean}
 use Rattle.lattice.specs.Cell.{dense, slow}
-use Rattle.lattice.specs.Body.{steadyFlow}
+use Rattle.lattice.specs.inner.Held.{steadyFlow}
 use Rattle.lattice.proofs.Reading.{reading}
 use borrow.Author.Needs.{needs}
 use Rattle.lattice.proofs.moments.steady.Statement.{statement}

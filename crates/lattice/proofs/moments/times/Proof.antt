@@ -1,5 +1,5 @@
 -- `lattice::moments::times`: a product of two numbers of 32 bits fits 64. Assumes nothing.
-use Rattle.whole.specs.Machine.{machine, same, does-fit, reads-as}
+use Rattle.whole.specs.laws.Machine.{machine, same, does-fit, reads-as}
 use Rattle.lattice.proofs.Reading.{whole32}
 use borrow.Author.Needs.{needs}
 use Rattle.lattice.proofs.moments.times.Statement.{statement}

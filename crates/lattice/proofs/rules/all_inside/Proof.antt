@@ -7,7 +7,7 @@ use borrow.Author.Needs.{needs}
 use mir.Syntax.{w32}
 use mir.Facts.{toZ-ofZ}
 use Rattle.whole.specs.Fold.{all}
-use Rattle.lattice.specs.Body.{partsOf}
+use Rattle.lattice.specs.inner.Held.{partsOf}
 use Rattle.lattice.proofs.Pairs.{all-one, all-pair}
 use Rattle.lattice.specs.Cell.{partGood}
 use Rattle.lattice.proofs.rules.all_inside.Statement.{statement}

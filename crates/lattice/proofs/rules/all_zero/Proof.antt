@@ -7,7 +7,8 @@ use borrow.Author.Needs.{needs}
 use lib.IntN.{pos}
 use mir.Syntax.{w32}
 use Rattle.whole.specs.Fold.{all}
-use Rattle.lattice.specs.Body.{partsOf, eqZ}
+use Rattle.lattice.specs.inner.Held.{partsOf}
+use Rattle.lattice.specs.Body.{eqZ}
 use Rattle.lattice.proofs.Pairs.{all-one, all-pair}
 use Rattle.lattice.proofs.Equal.{bits-eqZ}
 use mir.Facts.{sfits-lit}

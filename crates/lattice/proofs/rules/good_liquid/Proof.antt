@@ -8,10 +8,11 @@ use borrow.Author.Tests.{eq-eqb, ne-eqb, not-true, not-false}
 use mir.Syntax.{w32, w64}
 use mir.Val.{toZ, ofZ}
 use Rattle.whole.specs.Fold.{all}
-use Rattle.whole.specs.Machine.{same, machine, within-by, reads-as}
+use Rattle.whole.specs.laws.Machine.{same, machine, within-by, reads-as}
 use Rattle.lattice.specs.Lattice.{d3q19}
 use Rattle.lattice.specs.Cell.{partGood, massGood, fillOf}
-use Rattle.lattice.specs.Body.{partsOf, Tame, steadyFlow, bodyGood, goodFluid, goodInterface, eqZ}
+use Rattle.lattice.specs.inner.Held.{partsOf, Tame, steadyFlow, goodFluid, goodInterface}
+use Rattle.lattice.specs.Body.{bodyGood, eqZ}
 use Rattle.lattice.proofs.Bodies.{inside-bounded, flow-x, flow-y, flow-z, body-is, no-parts, broken, dense-positive}
 use Rattle.lattice.proofs.Equal.{bits-eqZ}
 use Rattle.lattice.proofs.Reading.{reading, whole32}

@@ -3,7 +3,7 @@ use mathlib.Core.Path.{_≡_, _∙_, sym, subst}
 use Prim.Native.Nat.{ℕ, _+_, _*_, _/_, _%_, _≤_, _<_}
 use native.Mathlib.Omega.{arith}
 use Rattle.grid.specs.Grid.{cellsOf}
-use Rattle.mirroring.specs.Between.{cellIn}
+use Rattle.mirroring.specs.inner.Between.{cellIn}
 use Rattle.mirroring.proofs.Reflected.{number-is, column-low, row-low, plane-low, cell-low, on-the-way}
 use Rattle.mirroring.proofs.reflection.cell_in.Statement.{statement}
 use Rattle.mirroring.proofs.reflection.cell_in.Tie as tie

@@ -1,13 +1,13 @@
 -- `mirroring::reflection::fetch` writes one part more in each turn, those before stay. Assumes nothing.
 use borrow.Author.Needs.{sfits-of, needs}
-use mathlib.Core.Path.{_≡_, refl}
-use Prim.Native.Nat.{ℕ, _+_, _-_, _≤_, _<_}
+use mathlib.Core.Path.{_≡_}
+use Prim.Native.Nat.{_+_, _-_, _≤_, _<_}
 use native.Mathlib.Omega.{arith}
 use lib.IntN.{pos}
-use lib.ListN.{length, getD}
+use lib.ListN.{getD}
 use mir.Syntax.{w32}
 use mir.Facts.{toZ-ofZ}
-use Rattle.mirroring.specs.Between.{Fetched}
+use Rattle.mirroring.specs.inner.Between.{Fetched}
 use Rattle.mirroring.proofs.Made.{fetched-none, fetched-more}
 use Rattle.mirroring.proofs.reflection.fetch.Statement.{statement}
 use Rattle.mirroring.proofs.reflection.fetch.Tie as tie

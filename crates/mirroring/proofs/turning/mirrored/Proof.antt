@@ -6,7 +6,7 @@ use Rattle.grid.specs.declared.Answer.the-variants.{Done}
 use Rattle.grid.specs.State.{Lent, lent}
 use Rattle.index.specs.Index.{index}
 use Rattle.index.specs.Held.{Held, held}
-use Rattle.index.specs.Laid.{Room}
+use Rattle.index.specs.inner.Laid.{Room}
 use Rattle.mirroring.specs.Outcome.{mirrorAnswer}
 use Rattle.mirroring.proofs.Answers.{Accepted, accepted, refused, done}
 use Rattle.mirroring.proofs.turning.mirrored.Statement.{statement}

@@ -6,13 +6,13 @@ use Prim.Native.Nat.{ℕ, suc, _+_, _*_, _-_, _≤_, _<_}
 use native.Mathlib.Nat.{mul-le-mul}
 use native.Mathlib.Numerals.{add-one}
 use native.Mathlib.Omega.{arith}
-use lib.IntN.{ℤ, pos}
-use lib.ListN.{length, getD}
+use lib.IntN.{ℤ}
+use lib.ListN.{length}
 use mir.Syntax.{w32}
 use mir.Facts.{toZ-ofZ}
 use Rattle.grid.specs.Grid.{cellsOf}
 use Rattle.grid.specs.State.{Lent, lent}
-use Rattle.mirroring.specs.Between.{Celled, Directed}
+use Rattle.mirroring.specs.inner.Between.{Directed}
 use Rattle.mirroring.proofs.Made.{Made, made-none, made-more, made-all, parts-inside}
 use Rattle.mirroring.proofs.turning.turn.Statement.{statement}
 use Rattle.mirroring.proofs.turning.turn.Tie as tie

@@ -11,9 +11,9 @@ use lib.Seq.{paste, paste-zero, paste-suc, take-all}
 use borrow.Author.Needs.{sfits-of, needs}
 use mir.Syntax.{w32}
 use mir.Facts.{toZ-ofZ}
-use Rattle.whole.specs.Tab.{length-tab, getD-tab}
-use Rattle.flume.specs.Spread.{wide}
-use Rattle.nine.specs.Cells.{nineOf, pasted9}
+use Rattle.whole.specs.laws.Tab.{length-tab, getD-tab}
+use Rattle.flume.specs.inner.Spread.{wide}
+use Rattle.nine.specs.inner.Cells.{nineOf, pasted9}
 use Rattle.nine.proofs.cells.paste9.Statement.{statement}
 use Rattle.nine.proofs.cells.paste9.Tie as tie
 

@@ -1,13 +1,13 @@
 -- `nine::cells::quieted` copies the nine parts to their places: each turn stores one more, and the idle ones are 0 in both. Assumes nothing.
-use mathlib.Core.Path.{_≡_, sym, ap, _∙_}
+use mathlib.Core.Path.{_≡_, ap, _∙_}
 use Prim.Native.Nat.{ℕ, _+_, _-_, _≤_, _<_}
 use native.Mathlib.Omega.{arith}
 use lib.IntN.{pos}
-use lib.ListN.{length, getD}
+use lib.ListN.{getD}
 use borrow.Author.Needs.{sfits-of, needs}
 use mir.Syntax.{w32}
 use mir.Facts.{toZ-ofZ}
-use Rattle.flume.specs.Spread.{wide}
+use Rattle.flume.specs.inner.Spread.{wide}
 use Rattle.nine.proofs.Places.{Filled, filled-zero, filled-more, quiet-all}
 use Rattle.nine.proofs.cells.quieted.Statement.{statement}
 use Rattle.nine.proofs.cells.quieted.Tie as tie

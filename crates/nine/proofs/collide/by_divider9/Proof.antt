@@ -10,18 +10,19 @@ use lib.IntN.{ℤ, pos, negℤ, _+ℤ_, _-ℤ_, _*ℤ_}
 use mir.Syntax.{w32, w64}
 use mir.Val.{toZ, ofZ}
 use mir.Facts.{toZ-ofZ}
-use Rattle.whole.specs.Tab.{getD-tab}
-use Rattle.whole.specs.Machine.{Within, machine, known, same, v32, v64, within-by, does-fit, reads-as}
+use Rattle.whole.specs.laws.Tab.{getD-tab}
+use Rattle.whole.specs.laws.Machine.{Within, machine, known, same, v32, v64, within-by, does-fit, reads-as}
 use Rattle.lattice.specs.Lattice.{dot, d3q19}
-use Rattle.lattice.specs.Body.{partsOf, vec, relaxedDir}
+use Rattle.lattice.specs.inner.Held.{partsOf, vec}
+use Rattle.lattice.specs.Body.{relaxedDir}
 use Rattle.lattice.proofs.Reading.{reading, inside}
 use Rattle.lattice.proofs.Table.{dot-opposite, dot-in}
 use Rattle.lattice.proofs.Tame.{widest}
 use Rattle.collision.specs.declared.collide.Common.{Common}
-use Rattle.collision.specs.Post.{Ready, grown, Paired}
+use Rattle.collision.specs.inner.Post.{Ready, grown, Paired}
 use Rattle.collision.proofs.Collision.{ready, formed, turned, formed-is}
 use Rattle.collision.proofs.Turns.{Done, Waiting, eighteen, begun, more, waiting-more, all-done}
-use Rattle.flume.specs.Spread.{spreadLattice}
+use Rattle.flume.specs.inner.Spread.{spreadLattice}
 use Rattle.nine.proofs.Weighed.{weight-in, weight-opposite}
 use Rattle.nine.proofs.collide.by_divider9.Statement.{statement}
 use Rattle.nine.proofs.collide.by_divider9.Tie as tie

@@ -10,16 +10,17 @@ use lib.IntN.{ℤ, pos, _+ℤ_, _-ℤ_}
 use mir.Syntax.{w32, w64}
 use mir.Val.{toZ, ofZ}
 use mir.Facts.{toZ-ofZ}
-use Rattle.whole.specs.Machine.{Within, known, v32, within-by, does-fit, reads-as}
-use Rattle.lattice.specs.Body.{partsOf, Bounded, vec, relaxedDir}
+use Rattle.whole.specs.laws.Machine.{Within, known, v32, within-by, does-fit, reads-as}
+use Rattle.lattice.specs.inner.Held.{partsOf, Bounded, vec}
+use Rattle.lattice.specs.Body.{relaxedDir}
 use Rattle.lattice.proofs.Ranges.{relaxation-in}
 use Rattle.lattice.proofs.Reading.{reading, inside}
 use Rattle.lattice.proofs.Tame.{steady-tame}
-use Rattle.collision.specs.Estimate.{landed}
+use Rattle.collision.specs.inner.Estimate.{landed}
 use Rattle.collision.proofs.Landed.{room, slack}
 use Rattle.collision.proofs.Turns.{Done, eighteen, begun, more, all-done}
-use Rattle.flume.specs.Spread.{spreadLattice}
-use Rattle.nine.specs.Ends.{EndsNine}
+use Rattle.flume.specs.inner.Spread.{spreadLattice}
+use Rattle.nine.specs.inner.Ends.{EndsNine}
 use Rattle.nine.proofs.Lands.{lands}
 use Rattle.nine.proofs.collide.collided9.Statement.{statement}
 use Rattle.nine.proofs.collide.collided9.Tie as tie

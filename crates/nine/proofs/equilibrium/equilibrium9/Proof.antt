@@ -1,14 +1,13 @@
 -- `nine::equilibrium::equilibrium9`: no parts at all are in range, and what they become is the definition's. Assumes nothing.
 use mathlib.Core.Path.{_≡_, refl, _∙_, subst, sym}
-use mathlib.Core.List.{List}
 use Prim.Native.Nat.{ℕ, zero, suc}
 use native.Mathlib.Omega.{arith}
-use lib.ListN.{getD, replicate}
+use lib.ListN.{replicate}
 use lib.IntN.{ℤ, pos}
-use Rattle.whole.specs.Machine.{Within}
-use Rattle.lattice.specs.Body.{partsOf, vec}
+use Rattle.whole.specs.laws.Machine.{Within}
+use Rattle.lattice.specs.inner.Held.{partsOf, vec}
 use Rattle.collision.proofs.Stillness.{stilled}
-use Rattle.flume.specs.Spread.{spreadLattice}
+use Rattle.flume.specs.inner.Spread.{spreadLattice}
 use Rattle.nine.proofs.equilibrium.equilibrium9.Statement.{statement}
 use Rattle.nine.proofs.equilibrium.equilibrium9.Tie as tie
 

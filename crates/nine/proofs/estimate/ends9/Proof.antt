@@ -12,17 +12,16 @@ use lib.ListN.{getD}
 use mir.Syntax.{w32, w64}
 use mir.Val.{Fits, toZ, ofZ}
 use mir.Facts.{toZ-ofZ}
-use Rattle.whole.specs.Bounds.{abs-neg}
-use Rattle.whole.specs.Machine.{v32, v64, same, reads-as}
-use Rattle.lattice.specs.Lattice.{d3q19, open-lattice}
+use Rattle.whole.specs.laws.Bounds.{abs-neg}
+use Rattle.whole.specs.laws.Machine.{v32, v64, same, reads-as}
 use Rattle.lattice.proofs.Reading.{inside}
-use Rattle.collision.specs.Estimate.{RatesAre, Near, speed, odd, even, energy}
+use Rattle.collision.specs.inner.Estimate.{RatesAre, speed, odd, even, energy}
 use Rattle.collision.proofs.Dots.{dot1, dot2, dot5, dot6, dot15, dot16, dot17, dot18}
 use Rattle.collision.proofs.Each.{each18}
 use Rattle.collision.proofs.Rates.{Fair, calm-of, axis-x, axis-z, base-in, joined, turned}
 use Rattle.collision.proofs.Ends.{asks-axis, axis-is, asks-crossed, crossed-is, axis-to, axis-fro, diagonal-to, diagonal-fro, near}
-use Rattle.flume.specs.Spread.{narrow, idle, spreadLattice}
-use Rattle.nine.specs.Ends.{Told}
+use Rattle.flume.specs.inner.Spread.{narrow, idle, spreadLattice}
+use Rattle.nine.specs.inner.Ends.{Told}
 use Rattle.nine.proofs.Doubled.{near-twice, twice-most}
 use Rattle.nine.proofs.Weighed.{along-x, along-z, diagonal}
 use Rattle.nine.proofs.estimate.ends9.Statement.{statement}

@@ -1,6 +1,5 @@
 -- `nine::weights::weight9` is the flume's weight at each place. Assumes nothing.
 use mathlib.Core.Path.{ap, sym}
-use native.Mathlib.Omega.{arith}
 use lib.IntN.{pos}
 use Rattle.nine.proofs.Weighed.{along-x, idle-y, along-z, idle-rest, diagonal}
 use Rattle.nine.proofs.weights.weight9.Statement.{statement}

@@ -8,7 +8,7 @@ use native.Mathlib.Nat.{not-suc-le-zero}
 use native.Mathlib.Omega.{arith}
 use lib.Dec.{eqb}
 use denote.Ref.{now}
-use Rattle.whole.specs.Search.{first-is, first-all}
+use Rattle.whole.specs.laws.Search.{first-is, first-all}
 use Rattle.profile.specs.Profile.{broken, survey}
 use Rattle.profile.proofs.testing.first_broken.Statement.{statement}
 use Rattle.profile.proofs.testing.first_broken.Tie as tie

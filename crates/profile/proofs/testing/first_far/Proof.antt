@@ -9,7 +9,7 @@ use native.Mathlib.Nat.{not-suc-le-zero}
 use native.Mathlib.Omega.{arith}
 use lib.Dec.{eqb}
 use denote.Ref.{now}
-use Rattle.whole.specs.Search.{first-is, first-all}
+use Rattle.whole.specs.laws.Search.{first-is, first-all}
 use Rattle.tunnel.specs.Place.{refusalNumber}
 use Rattle.profile.specs.Profile.{far}
 use Rattle.profile.proofs.testing.first_far.Statement.{statement}

@@ -5,7 +5,7 @@ use mathlib.Core.Path.{_≡_, sym, ap, _∙_}
 use mir.Syntax.{w64}
 use mir.ValLaws.{toZ-ofZ}
 use denote.Ref.{now}
-use Rattle.tunnel.specs.Place.{placeOf, refusalNumber}
+use Rattle.tunnel.specs.Place.{placingOf, refusalNumber}
 use Rattle.tunnel.specs.Depth.{depthOf}
 use Rattle.profile.specs.Outcome.{openAnswer}
 use Rattle.profile.proofs.testing.opened.Statement.{statement}
@@ -73,7 +73,7 @@ refusal-number-requires c κs = search needs
 abbrev start : tie.After-refusal-number → tie.Start
 start c = entry (c .before .before .before .before .before .before .before .before .before)
 
-origin-is : (c : tie.After-refusal-number) → (let f = start c .args .f in refusalNumber (placeOf (f .sides) (f .edge) (f .origin) (f .origin)) ≡ c .refusal-number .result)
+origin-is : (c : tie.After-refusal-number) → (let f = start c .args .f in refusalNumber (placingOf (f .sides) (f .edge) (f .origin) (f .origin)) ≡ c .refusal-number .result)
 origin-is c =
     let e = toZ-ofZ w64 (start c .args .f .edge) (record { sfits = c .before .before .struct-told .given .1 .0 .1 }) in
     sym (c .refusal-number .ensures ∙ ap refusalNumber (rw e at (c .before .place .ensures)))

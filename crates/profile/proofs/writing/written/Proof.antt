@@ -7,7 +7,7 @@ use lib.Ieee.{Float}
 use Rattle.tunnel.specs.Exact.{Parts}
 use Rattle.profile.specs.declared.writing.Best.{Best}
 use Rattle.profile.specs.Profile.{Survey, survey, depthAt}
-use Rattle.profile.specs.Lines.{IsBest, LinesTo}
+use Rattle.profile.specs.inner.Lines.{IsBest, LinesTo}
 use Rattle.profile.proofs.Deepest.{best-none, best-more, best-is}
 use Rattle.profile.proofs.Written.{value-parts, number-of, lines-none, lines-more, lines-kinds, lines-depths}
 use Rattle.profile.proofs.writing.written.Statement.{statement}

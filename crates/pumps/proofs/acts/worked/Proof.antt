@@ -8,8 +8,8 @@ use mir.Syntax.{w32, w64}
 use mir.Facts.{toZ-ofZ}
 use Rattle.lattice.specs.Lattice.{d3q19, density}
 use Rattle.lattice.specs.Cell.{fillOf}
-use Rattle.grid.specs.Fill.{partOf}
-use Rattle.pumps.specs.Acts.{EffectIs}
+use Rattle.grid.specs.State.{partOf}
+use Rattle.pumps.specs.inner.Working.{EffectIs}
 use Rattle.pumps.proofs.Amounts.{held}
 use Rattle.pumps.proofs.Working.{work-none, work-done}
 use Rattle.pumps.proofs.acts.worked.Statement.{statement}

@@ -8,7 +8,7 @@ use lib.Signed.{leZ}
 use mir.Syntax.{w64}
 use mir.Val.{SFits, toZ, ofZ}
 use mir.Facts.{toZ-ofZ}
-use Rattle.whole.specs.Machine.{Within, known, v+, does-fit}
+use Rattle.whole.specs.laws.Machine.{Within, known, v+, does-fit}
 use Rattle.pumps.specs.Acts.{amountGood, movedOf, massOf}
 use Rattle.pumps.proofs.Amounts.{held}
 use Rattle.pumps.proofs.Effects.{lt-not-le, mass-in, bad-amount, bad-mass, bad-total, all-good, moved-in, no-effect}

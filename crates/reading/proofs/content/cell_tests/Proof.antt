@@ -1,7 +1,7 @@
 -- `reading::content::cell_tests`: the flags as a part of the record pass to test 5, the numbers behind them to test 6. Assumes nothing.
 use borrow.Author.Needs.{needs}
 use mathlib.Core.Path.{_≡_, sym, ap, ap₂, _∙_}
-use mathlib.Core.Bool.{Bool, true, not}
+use mathlib.Core.Bool.{Bool, not}
 use mathlib.Core.List.{List}
 use Prim.Native.Nat.{ℕ, suc, _+_, _*_, _≤_, _<_}
 use native.Mathlib.Nat.{le-trans, le-of-eq}
@@ -25,7 +25,7 @@ use Rattle.grid.proofs.Checks.{stop}
 use Rattle.pumps.specs.Three.{totalsGood}
 use Rattle.record.specs.Places.{counts, massesFrom, partsFrom}
 use Rattle.record.specs.Reading.{sidesIn, totalsIn, flagsAt, carryIn, pouredIn, takenIn, cellsIn, flagsIn, flagIn, interfacesIn, stateIn}
-use Rattle.record.specs.Passes.{fairAt}
+use Rattle.record.specs.inner.Passes.{fairAt}
 use Rattle.record.proofs.Gathered.{interfaces-most}
 use Rattle.record.proofs.FlagPart.{totals-few, flags-are, length-flags, interfaces-are, liquids-are, bad-flag-is, bad-fluid-is}
 use Rattle.reading.proofs.Fairness.{cell-fair, bad-cell, bad-carry, none-bad}

@@ -14,7 +14,8 @@ use mir.Syntax.{w32, w64}
 use mir.ValLaws.{toZ-ofZ}
 use Rattle.lattice.specs.Lattice.{d3q19}
 use Rattle.lattice.specs.Cell.{massGood}
-use Rattle.lattice.specs.Body.{partsOf, bodyGood}
+use Rattle.lattice.specs.inner.Held.{partsOf}
+use Rattle.lattice.specs.Body.{bodyGood}
 use Rattle.record.specs.Bytes.{i32At}
 use Rattle.reading.proofs.Fairness.{body-tab, fair-dry, fair-not, fair-fluid, fair-interface}
 use Rattle.reading.proofs.fair.fair_cell.Statement.{statement}

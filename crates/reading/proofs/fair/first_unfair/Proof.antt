@@ -1,22 +1,21 @@
 -- `reading::fair::first_unfair`: every cell passed keeps its rules, and the places advance as the counts do. Assumes nothing.
-use mathlib.Core.Path.{_≡_, sym, ap, _∙_, subst}
-use mathlib.Core.Bool.{Bool, true, false, not, cond}
+use mathlib.Core.Path.{_≡_, sym, ap, _∙_}
+use mathlib.Core.Bool.{Bool, true, not, cond}
 use Prim.Native.Nat.{ℕ, _+_, _*_, _-_, _≤_, _<_}
 use native.Mathlib.Nat.{not-suc-le-zero}
 use native.Mathlib.Omega.{arith}
 use lib.Dec.{eqb}
 use lib.ListN.{length, getD}
 use borrow.Author.Needs.{needs}
-use borrow.Author.Tests.{not-true, not-false}
+use borrow.Author.Tests.{not-false}
 use denote.Ref.{now}
 use borrow.Author.Count.{below-more}
-use Rattle.whole.specs.Fold.{count, first}
-use Rattle.whole.specs.Search.{first-is, first-all}
+use Rattle.whole.specs.Fold.{count}
+use Rattle.whole.specs.laws.Search.{first-is, first-all}
 use Rattle.lattice.specs.Lattice.{d3q19}
-use Rattle.grid.specs.State.{liquid}
-use Rattle.grid.specs.Passes.{flagOf}
+use Rattle.grid.specs.State.{liquid, flagOf}
 use Rattle.record.specs.Layout.{interfaces, liquids}
-use Rattle.record.specs.Passes.{fairAt}
+use Rattle.record.specs.inner.Passes.{fairAt}
 use Rattle.record.proofs.Gathered.{interfaces-more, interfaces-le, liquids-more, liquids-le}
 use Rattle.reading.proofs.Fairness.{fair-at}
 use Rattle.reading.proofs.fair.first_unfair.Statement.{statement}

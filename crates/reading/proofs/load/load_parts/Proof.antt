@@ -9,9 +9,8 @@ use lib.ListN.{length, getD}
 use borrow.Author.Needs.{needs}
 use denote.Ref.{now}
 use Rattle.whole.specs.Fold.{tab, count}
-use Rattle.whole.specs.Tab.{tab-cong, length-tab}
-use Rattle.grid.specs.State.{byFlag, liquid}
-use Rattle.grid.specs.Passes.{flagOf}
+use Rattle.whole.specs.laws.Tab.{tab-cong, length-tab}
+use Rattle.grid.specs.State.{byFlag, liquid, flagOf}
 use Rattle.grid.proofs.Blocks.{Blocks, blocks-zero, blocks-more, blocks-all, length-pasted}
 use Rattle.record.specs.Bytes.{i32At}
 use Rattle.record.specs.Layout.{liquids}

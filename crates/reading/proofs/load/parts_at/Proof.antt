@@ -1,13 +1,13 @@
 -- `reading::load::parts_at` reads part after part, four bytes each. Assumes nothing.
 use mathlib.Core.Path.{_≡_, refl, _∙_}
-use Prim.Native.Nat.{ℕ, _+_, _*_, _-_, _≤_, _<_}
+use Prim.Native.Nat.{_+_, _*_, _-_, _≤_, _<_}
 use native.Mathlib.Omega.{arith}
 use lib.IntN.{pos}
 use lib.ListN.{length, replicate, length-set}
 use borrow.Author.Needs.{needs}
 use mir.Syntax.{w32}
 use mir.ValLaws.{toZ-ofZ}
-use Rattle.whole.specs.Tab.{Upto, upto-zero, upto-more, upto-all}
+use Rattle.whole.specs.laws.Tab.{Upto, upto-zero, upto-more, upto-all}
 use Rattle.record.specs.Bytes.{i32At}
 use Rattle.reading.proofs.load.parts_at.Statement.{statement}
 use Rattle.reading.proofs.load.parts_at.Tie as tie

@@ -4,7 +4,6 @@ use mathlib.Core.Path.{_≡_, sym, ap, _∙_}
 use mathlib.Core.Bool.{true}
 use mathlib.Core.List.{[]}
 use Prim.Native.Nat.{ℕ, _*_}
-use native.Mathlib.Omega.{arith}
 use lib.ListN.{length}
 use borrow.Author.Tests.{not-true, not-false}
 use denote.Ref.{now}
@@ -13,9 +12,9 @@ use Rattle.grid.specs.declared.Answer.the-variants.{Done}
 use Rattle.grid.specs.Grid.{sidesGood, cellsOf}
 use Rattle.grid.specs.State.{Lent, lent}
 use Rattle.grid.specs.Outcome.{accepted}
-use Rattle.grid.proofs.Accepted.{accepted-done, done-accepted}
+use Rattle.grid.proofs.Accepted.{accepted-done}
 use Rattle.record.specs.Reading.{cellsIn, shapeAnswer, contentAnswer, readAnswer}
-use Rattle.record.specs.Passes.{Sound}
+use Rattle.record.specs.inner.Passes.{Sound}
 use Rattle.record.proofs.Answers.{Chain, chain-stops, chain-ok}
 use Rattle.record.proofs.Shaped.{chain-shape, sound, fitting}
 use Rattle.reading.proofs.ReadBy.{read-refused, read-accepted, Fitting, fits}

@@ -5,7 +5,7 @@ use Prim.Native.Nat.{ℕ, _+_, _-_, _≤_}
 use native.Mathlib.Omega.{arith}
 use lib.ListN.{length}
 use Rattle.whole.specs.Fold.{count}
-use Rattle.grid.specs.Passes.{flagOf}
+use Rattle.grid.specs.State.{flagOf}
 use Rattle.record.specs.Layout.{interfaces}
 use Rattle.record.proofs.Gathered.{interfaces-more, interfaces-most}
 use Rattle.record.proofs.count.interface_cells.Statement.{statement}

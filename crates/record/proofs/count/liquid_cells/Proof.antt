@@ -5,7 +5,7 @@ use Prim.Native.Nat.{ℕ, _+_, _-_, _≤_}
 use native.Mathlib.Omega.{arith}
 use lib.ListN.{length}
 use Rattle.whole.specs.Fold.{count}
-use Rattle.grid.specs.Passes.{flagOf}
+use Rattle.grid.specs.State.{flagOf}
 use Rattle.record.specs.Layout.{liquids}
 use Rattle.record.proofs.Gathered.{liquids-more, liquids-most}
 use Rattle.record.proofs.count.liquid_cells.Statement.{statement}

@@ -1,6 +1,6 @@
 -- `record::flags::span`: an accepted head with good sides has its flags where the record's own count says, if they fit. Assumes nothing.
 use borrow.Author.Needs.{needs}
-use mathlib.Core.Path.{_≡_, refl, sym, ap, ap₂, _∙_}
+use mathlib.Core.Path.{_≡_, refl, sym, ap₂, _∙_}
 use mathlib.Core.Bool.{true}
 use Prim.Native.Nat.{ℕ, _+_}
 use native.Mathlib.Omega.{arith}
@@ -10,7 +10,6 @@ use denote.Ref.{now}
 use Rattle.grid.specs.Grid.{sidesGood, cellsOf}
 use Rattle.grid.specs.Outcome.{accepted}
 use Rattle.grid.proofs.GoodSides.{good-sides}
-use Rattle.record.specs.declared.Span.{Span}
 use Rattle.record.specs.Reading.{flagsAt}
 use Rattle.record.proofs.FlagPart.{totals-few}
 use Rattle.record.proofs.flags.span.Statement.{statement}

@@ -12,7 +12,7 @@ use Rattle.grid.specs.Grid.{sidesGood, cellsOf}
 use Rattle.grid.specs.Outcome.{orRefuse}
 use Rattle.grid.proofs.GoodSides.{good-sides}
 use Rattle.record.specs.Reading.{sidesIn, cellsIn, whole, slicesFit}
-use Rattle.record.specs.Passes.{Held}
+use Rattle.record.specs.Bytes.{Held}
 use Rattle.record.proofs.Answers.{stopped, went-on, holds, or-pass, or-fail}
 use Rattle.record.proofs.given.opening.Statement.{statement}
 use Rattle.record.proofs.given.opening.Tie as tie

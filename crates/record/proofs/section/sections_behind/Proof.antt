@@ -1,7 +1,7 @@
 -- `record::section::sections_behind`: a section that is refused answers, else the next one is tested. Assumes nothing.
 use borrow.Author.Needs.{needs}
 use denote.Ref.{now}
-use mathlib.Core.Path.{_≡_, sym, ap, _∙_}
+use mathlib.Core.Path.{_≡_, sym, _∙_}
 use Prim.Native.Nat.{_≤_}
 use native.Mathlib.Omega.{arith}
 use Rattle.grid.specs.declared.Answer.{Answer}

@@ -1,5 +1,5 @@
 -- `spelling::spell::metres_length`: the sign, the whole metres, and four bytes. Assumes nothing.
-use mathlib.Core.Path.{_≡_, sym, ap, _∙_}
+use mathlib.Core.Path.{_≡_, ap, _∙_}
 use Prim.Native.Nat.{ℕ, _/_}
 use native.Mathlib.Omega.{arith}
 use lib.IntN.{ℤ, natAbs}

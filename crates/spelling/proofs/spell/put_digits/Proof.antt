@@ -1,9 +1,7 @@
 -- `spelling::spell::put_digits`: the digits from the last on. Assumes nothing.
-use borrow.Author.Needs.{needs}
-use mathlib.Core.Path.{_≡_, refl, sym, ap, _∙_}
+use mathlib.Core.Path.{_≡_, sym, ap, _∙_}
 use Prim.Native.Nat.{ℕ, _+_, _-_, _≤_}
 use native.Mathlib.Omega.{arith}
-use Rattle.spelling.specs.Spelling.{digitsOf}
 use Rattle.spelling.proofs.Widths.{length-digits}
 use Rattle.spelling.proofs.Putting.{Backwards, back-begin, back-more, back-end, back-long}
 use Rattle.spelling.proofs.spell.put_digits.Statement.{statement}

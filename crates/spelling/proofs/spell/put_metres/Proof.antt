@@ -1,5 +1,5 @@
 -- `spelling::spell::put_metres`: the sign, the whole metres, the point, three digits. Assumes nothing.
-use mathlib.Core.Path.{_≡_, sym, ap, _∙_}
+use mathlib.Core.Path.{_≡_, ap, _∙_}
 use Prim.Native.Nat.{ℕ, _/_}
 use native.Mathlib.Omega.{arith}
 use lib.IntN.{ℤ, natAbs}

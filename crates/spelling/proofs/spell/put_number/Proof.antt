@@ -1,5 +1,5 @@
 -- `spelling::spell::put_number`: as many digits as it has. Assumes nothing.
-use mathlib.Core.Path.{_≡_, sym, ap, _∙_}
+use mathlib.Core.Path.{_≡_, _∙_}
 use native.Mathlib.Omega.{arith}
 use Rattle.spelling.proofs.Putting.{put-as, spell-is, spell-long}
 use borrow.Author.Needs.{needs}

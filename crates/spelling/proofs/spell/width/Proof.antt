@@ -1,7 +1,6 @@
 -- `spelling::spell::width`: a digit fewer at each turn. Assumes nothing.
-use borrow.Author.Needs.{needs}
 use mathlib.Core.Path.{_≡_}
-use Prim.Native.Nat.{ℕ, _≤_, _<_}
+use Prim.Native.Nat.{_≤_, _<_}
 use native.Mathlib.Omega.{arith}
 use Rattle.spelling.proofs.Putting.{Narrow, narrow-begin, narrow-room, narrow-more, narrow-end}
 use Rattle.spelling.proofs.spell.width.Statement.{statement}

@@ -2,10 +2,8 @@
 use borrow.Author.Needs.{needs}
 use mathlib.Core.Path.{refl, _≡_, sym, _∙_}
 use Rattle.grid.specs.declared.Answer.the-variants.{Done}
-use Rattle.grid.specs.Grid.{cellsOf}
 use Rattle.grid.specs.State.{Lent, lent}
-use Rattle.grid.specs.Between.{Sized}
-use Rattle.grid.specs.Halfway.{Stepping}
+use Rattle.grid.specs.inner.Halfway.{Stepping}
 use Rattle.grid.specs.Outcome.{entryAnswer}
 use Rattle.step.proofs.Entrance.{refused, may-step, stepped}
 use Rattle.step.proofs.stepping.step.Statement.{statement}
@@ -58,8 +56,8 @@ returns c = let t : tie.Start = search in let after-entered : tie.After-entered 
 enum-told : tie.Need-enum-told
 enum-told c = search needs
 
-stepped-requires : tie.Need-stepped-requires
-stepped-requires c κs = may (search)
+advanced-requires : tie.Need-advanced-requires
+advanced-requires c κs = may (search)
 
 same-length-7 : tie.Need-same-length-7
 same-length-7 c = let after-flags2 : tie.After-flags2 = search in after-flags2 .flags2 .given
@@ -80,7 +78,7 @@ same-length-12 : tie.Need-same-length-12
 same-length-12 c = let after-marks : tie.After-marks = search in after-marks .marks .given
 
 returns-2 : tie.Need-returns-2
-returns-2 c = let after-stepped : tie.After-stepped = search in let d : tie.After-enum-told = search in stepped (w d .args .s) (w d .args .g) (first (w d)) (second (w d)) (w d .args .marks .now) (passed d) (after-stepped .stepped .ensures)
+returns-2 c = let after-advanced : tie.After-advanced = search in let d : tie.After-enum-told = search in stepped (w d .args .s) (w d .args .g) (first (w d)) (second (w d)) (w d .args .marks .now) (passed d) (after-advanced .advanced .ensures)
 
 pub step-spec : {M : Type 1} → statement M
 step-spec =
@@ -96,7 +94,7 @@ step-spec =
     same-length-6
     returns
     enum-told
-    stepped-requires
+    advanced-requires
     same-length-7
     same-length-8
     same-length-9

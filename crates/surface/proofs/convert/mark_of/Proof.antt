@@ -3,8 +3,8 @@ use mathlib.Core.Path.{_≡_, sym, _∙_, ap}
 use mathlib.Core.Bool.{Bool, false}
 use lib.IntN.{ℤ, pos, negℤ, _-ℤ_, _*ℤ_, +ℤ-idl}
 use lib.Signed.{ltZ}
-use Rattle.whole.specs.Machine.{machine, w64-in, does-fit}
-use Rattle.whole.specs.Tests.{flags, clean}
+use Rattle.whole.specs.laws.Machine.{machine, w64-in, does-fit}
+use Rattle.whole.specs.laws.Tests.{flags, clean}
 use Rattle.lattice.specs.Cell.{over, under}
 use Rattle.surface.proofs.convert.mark_of.Statement.{statement}
 use Rattle.surface.proofs.convert.mark_of.Tie as tie

@@ -8,10 +8,10 @@ use borrow.Author.Count.{below-more}
 use lib.IntN.{pos}
 use mir.Syntax.{w64}
 use mir.Facts.{sfits-lit}
-use Rattle.whole.specs.Order.{ltZ-true, ltZ-false}
-use Rattle.whole.specs.Tests.{lt-test}
+use Rattle.whole.specs.laws.Order.{ltZ-true, ltZ-false}
+use Rattle.whole.specs.laws.Tests.{lt-test}
 use Rattle.lattice.specs.Cell.{isPositive}
-use Rattle.lattice.specs.Body.{partsOf}
+use Rattle.lattice.specs.inner.Held.{partsOf}
 use Rattle.surface.proofs.Weights.{is-positive-yes, is-positive-no, lowest-is, lowest-none}
 use Rattle.surface.proofs.excess.first.Statement.{statement}
 use Rattle.surface.proofs.excess.first.Tie as tie

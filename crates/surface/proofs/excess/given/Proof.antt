@@ -7,9 +7,9 @@ use mir.Syntax.{w64}
 use mir.Val.{toZ, ofZ}
 use mir.Facts.{toZ-ofZ}
 use Rattle.whole.specs.Fold.{dirs}
-use Rattle.whole.specs.Machine.{same, v64, within-by, does-fit, reads-as}
+use Rattle.whole.specs.laws.Machine.{same, v64, within-by, does-fit, reads-as}
 use Rattle.lattice.specs.Cell.{cutShare, remainder, lowestDir, share}
-use Rattle.lattice.specs.Body.{partsOf}
+use Rattle.lattice.specs.inner.Held.{partsOf}
 use Rattle.lattice.proofs.Reading.{reading, inside}
 use Rattle.surface.proofs.Weights.{total-in}
 use borrow.Author.Needs.{needs}
@@ -19,27 +19,27 @@ use Rattle.surface.proofs.excess.given.Tie as tie
 total-requires : tie.Need-total-requires
 total-requires c κs = search needs
 
-mul-share : tie.Need-mul-share
-mul-share c = search needs
+mul-cut-share : tie.Need-mul-cut-share
+mul-cut-share c = search needs
 
-array-copy-out-share : tie.Need-array-copy-out-share
-array-copy-out-share c = search needs
+array-copy-out-cut-share : tie.Need-array-copy-out-cut-share
+array-copy-out-cut-share c = search needs
 
 -- the total weight, as it is handed on
 whole-weight : (c : tie.After-total) → toZ w64 (ofZ w64 (c .total .result)) ≡ dirs 18 (partsOf (c .before .args .t2))
 whole-weight c = reads-as (v64 (same (c .total .ensures) (inside (total-in (c .before .args .t2) (c .before .pre .1))))) tt
 
 -- the cut share of direction i
-cut-is : (c : tie.After-share) → c .share .result ≡ cutShare 18 (c .before .before .before .args .e) (partsOf (c .before .before .before .args .t2)) (c .before .before .before .args .i)
+cut-is : (c : tie.After-cut-share) → c .cut-share .result ≡ cutShare 18 (c .before .before .before .args .e) (partsOf (c .before .before .before .args .t2)) (c .before .before .before .args .i)
 unfolding cutShare
 cut-is c =
     let s = c .before .before .before in
     let hw = s .pre .1 .at (s .args .i) (s .pre .3) (s .pre .4) in
     let e : toZ w64 (ofZ w64 (partsOf (s .args .t2) (s .args .i))) ≡ partsOf (s .args .t2) (s .args .i) = reads-as (search reading depth 20) tt in
-    rw (toZ-ofZ (s .fits .e), e, whole-weight (c .before .before)) at (c .share .ensures .0)
+    rw (toZ-ofZ (s .fits .e), e, whole-weight (c .before .before)) at (c .cut-share .ensures .0)
 
-share-requires : tie.Need-share-requires
-share-requires c κs =
+cut-share-requires : tie.Need-cut-share-requires
+cut-share-requires c κs =
     let s = c .before .before in
     let he = s .pre .0 in
     let hw = s .pre .1 .at (s .args .i) (s .pre .3) (s .pre .4) in
@@ -56,7 +56,7 @@ remainder-requires c κs =
 
 add-result : tie.Need-add-result
 add-result c =
-    let x = c .before .before .before .share .ensures .1 in
+    let x = c .before .before .before .cut-share .ensures .1 in
     let y = c .remainder .ensures .1 in
     does-fit (search reading depth 20) tt
 
@@ -64,9 +64,9 @@ returns : tie.Need-returns
 unfolding share
 returns c =
     let s = c .before .before .before .before .before .before in
-    let x = c .before .before .before .share .ensures .1 in
+    let x = c .before .before .before .cut-share .ensures .1 in
     let y = c .remainder .ensures .1 in
-    let e : toZ w64 (ofZ w64 (toZ w64 (ofZ w64 (c .before .before .before .share .result)) +ℤ toZ w64 (ofZ w64 (c .remainder .result)))) ≡ c .before .before .before .share .result +ℤ c .remainder .result =
+    let e : toZ w64 (ofZ w64 (toZ w64 (ofZ w64 (c .before .before .before .cut-share .result)) +ℤ toZ w64 (ofZ w64 (c .remainder .result)))) ≡ c .before .before .before .cut-share .result +ℤ c .remainder .result =
     reads-as (search reading depth 20) tt in
     let r : c .remainder .result ≡ remainder 18 (s .args .e) (partsOf (s .args .t2)) = rw (toZ-ofZ (s .fits .e)) at (c .remainder .ensures .0) in
     rw (eq-eqb (s .args .i) (lowestDir 18 (partsOf (s .args .t2))) (sym (c .before .if1 .taken) ∙ c .before .before .first .ensures)) (e ∙ ap₂ _+ℤ_ (cut-is (c .before .before .before)) r)
@@ -75,8 +75,8 @@ returns-2 : tie.Need-returns-2
 unfolding share
 returns-2 c =
     let s = c .before .before .before .before .before in
-    let x = c .before .before .share .ensures .1 in
-    let e : toZ w64 (ofZ w64 (c .before .before .share .result)) ≡ c .before .before .share .result = reads-as (search reading depth 20) tt in
+    let x = c .before .before .cut-share .ensures .1 in
+    let e : toZ w64 (ofZ w64 (c .before .before .cut-share .result)) ≡ c .before .before .cut-share .result = reads-as (search reading depth 20) tt in
     rw (ne-eqb (s .args .i) (lowestDir 18 (partsOf (s .args .t2))) (λ k. c .if1 .left (c .before .first .ensures ∙ sym k)))
     (e ∙ cut-is (c .before .before) ∙ sym (+ℤ-idr (cutShare 18 (s .args .e) (partsOf (s .args .t2)) (s .args .i))))
 
@@ -85,9 +85,9 @@ given-spec =
     tie.close
     (tie.spec
     total-requires
-    mul-share
-    array-copy-out-share
-    share-requires
+    mul-cut-share
+    array-copy-out-cut-share
+    cut-share-requires
     first-requires
     remainder-requires
     add-result

@@ -10,11 +10,11 @@ use mir.Syntax.{w64}
 use mir.Val.{toZ, ofZ}
 use mir.Facts.{toZ-ofZ}
 use Rattle.whole.specs.Fold.{sum, dirs}
-use Rattle.whole.specs.Bounds.{abs-sub}
-use Rattle.whole.specs.Ring.{ring-by, quotes}
-use Rattle.whole.specs.Machine.{known, within-by, does-fit, reads-as}
+use Rattle.whole.specs.laws.Bounds.{abs-sub}
+use Rattle.whole.specs.laws.Ring.{ring-by, quotes}
+use Rattle.whole.specs.laws.Machine.{known, within-by, does-fit, reads-as}
 use Rattle.lattice.specs.Cell.{remainder, cutShare}
-use Rattle.lattice.specs.Body.{partsOf}
+use Rattle.lattice.specs.inner.Held.{partsOf}
 use Rattle.lattice.proofs.Pairs.{off-rest, off-one, off-next, off-dirs}
 use Rattle.lattice.proofs.Reading.{reading}
 use Rattle.surface.proofs.excess.remainder.Statement.{statement}
@@ -41,14 +41,14 @@ loop-holds c =
     let e : toZ w64 (ofZ w64 x) ≡ x = toZ-ofZ (c .fits .e) in
     (omega arith, omega arith, sym (ap (λ (z : ℤ). toZ w64 (ofZ w64 x) -ℤ z) (off-one _) ∙ +ℤ-idr (toZ w64 (ofZ w64 x))), rw e (omega (arith, h .abs)))
 
-mul-share : tie.Need-mul-share Inv-loop μ-loop
-mul-share c = search needs
+mul-cut-share : tie.Need-mul-cut-share Inv-loop μ-loop
+mul-cut-share c = search needs
 
-array-copy-out-share : tie.Need-array-copy-out-share Inv-loop μ-loop
-array-copy-out-share c = search needs
+array-copy-out-cut-share : tie.Need-array-copy-out-cut-share Inv-loop μ-loop
+array-copy-out-cut-share c = search needs
 
-share-requires : tie.Need-share-requires Inv-loop μ-loop
-share-requires c κs =
+cut-share-requires : tie.Need-cut-share-requires Inv-loop μ-loop
+cut-share-requires c κs =
     let s = c .before .before .before in
     let i = c .before .before .loop .i in
     let he = s .pre .0 in
@@ -57,7 +57,7 @@ share-requires c κs =
 
 sub-r : tie.Need-sub-r Inv-loop μ-loop
 sub-r c =
-    let x = c .share .ensures .1 in
+    let x = c .cut-share .ensures .1 in
     let r = known (toZ w64 (c .before .before .before .loop .r)) 90000000000000000 (omega arith) in
     does-fit (search reading depth 20) tt
 
@@ -71,15 +71,15 @@ loop-again : tie.Need-loop-again Inv-loop μ-loop
 loop-again c =
     let s = c .before .before .before .before in
     let l = c .before .before .before .loop in
-    let n = c .share .result in
-    let x = c .share .ensures .1 in
+    let n = c .cut-share .result in
+    let x = c .cut-share .ensures .1 in
     let r = known (toZ w64 (l .r)) 90000000000000000 (omega arith) in
     let er : toZ w64 (ofZ w64 (toZ w64 (l .r) -ℤ toZ w64 (ofZ w64 n))) ≡ toZ w64 (l .r) -ℤ n = reads-as (search reading depth 20) tt in
     let E = toZ w64 (ofZ w64 (s .args .e)) in
     let F = part E (toZ w64 (ofZ w64 (s .args .t))) (s .args .t2) in
     let hw = s .pre .1 .at (l .i) (omega arith) (omega arith) in
     let ew : toZ w64 (ofZ w64 (partsOf (s .args .t2) (l .i))) ≡ partsOf (s .args .t2) (l .i) = reads-as (search reading depth 20) tt in
-    let en : n ≡ F (l .i) = rw ew at (c .share .ensures .0) in (
+    let en : n ≡ F (l .i) = rw ew at (c .cut-share .ensures .0) in (
       omega arith,
       omega arith,
       er ∙ ap₂ _-ℤ_ (l .inv .2) en ∙ taken E (sum (l .i) (off-rest F)) (F (l .i)) ∙ ap (λ (z : ℤ). E -ℤ z) (sym (off-next (l .i) F (omega arith))),
@@ -105,9 +105,9 @@ remainder-spec =
     Inv-loop
     μ-loop
     loop-holds
-    mul-share
-    array-copy-out-share
-    share-requires
+    mul-cut-share
+    array-copy-out-cut-share
+    cut-share-requires
     sub-r
     add-i
     loop-less

@@ -8,9 +8,9 @@ use lib.IntN.{ℤ, pos, natAbs, _+ℤ_}
 use mir.Syntax.{w64}
 use mir.Val.{toZ, ofZ}
 use Rattle.whole.specs.Fold.{sum}
-use Rattle.whole.specs.Bounds.{abs-add}
-use Rattle.whole.specs.Machine.{known, does-fit, reads-as}
-use Rattle.lattice.specs.Body.{partsOf}
+use Rattle.whole.specs.laws.Bounds.{abs-add}
+use Rattle.whole.specs.laws.Machine.{known, does-fit, reads-as}
+use Rattle.lattice.specs.inner.Held.{partsOf}
 use Rattle.lattice.proofs.Pairs.{off-rest, off-one, off-next, off-dirs}
 use Rattle.lattice.proofs.Reading.{reading}
 use Rattle.surface.proofs.excess.total.Statement.{statement}

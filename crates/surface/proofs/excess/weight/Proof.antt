@@ -3,9 +3,9 @@ use borrow.Author.Tests.{eq-eqb, ne-eqb}
 use lib.IntN.{pos}
 use mir.Syntax.{w32}
 use mir.Facts.{sfits-lit}
-use Rattle.whole.specs.Order.{ltZ-true, ltZ-false}
-use Rattle.whole.specs.Machine.{machine, same, reads-as}
-use Rattle.whole.specs.Tests.{lt-test}
+use Rattle.whole.specs.laws.Order.{ltZ-true, ltZ-false}
+use Rattle.whole.specs.laws.Machine.{machine, same, reads-as}
+use Rattle.whole.specs.laws.Tests.{lt-test}
 use Rattle.lattice.proofs.Reading.{whole32}
 use Rattle.surface.proofs.Weights.{positive-yes, positive-no}
 use borrow.Author.Needs.{needs}

@@ -3,7 +3,7 @@ use mathlib.Core.Path.{sym, _∙_, ap}
 use lib.Dec.{lit<}
 use lib.IntN.{ℤ, pos, _*ℤ_}
 use lib.Signed.{quotZ, yes-nonNeg, pos-natAbs}
-use Rattle.whole.specs.Machine.{machine, w64-in, does-fit, reads-as}
+use Rattle.whole.specs.laws.Machine.{machine, w64-in, does-fit, reads-as}
 use Rattle.lattice.specs.Cell.{exchange}
 use Rattle.surface.proofs.exchange.exchange.Statement.{statement}
 use Rattle.surface.proofs.exchange.exchange.Tie as tie

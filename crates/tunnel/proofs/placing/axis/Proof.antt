@@ -9,8 +9,8 @@ use lib.Signed.{ltZ, natAbs-le}
 use mir.Syntax.{w64}
 use mir.Val.{toZ, ofZ}
 use mir.ValLaws.{toZ-ofZ}
-use Rattle.whole.specs.Bounds.{abs-sub}
-use Rattle.whole.specs.Machine.{machine, w64-in, does-fit, reads-as}
+use Rattle.whole.specs.laws.Bounds.{abs-sub}
+use Rattle.whole.specs.laws.Machine.{machine, w64-in, does-fit, reads-as}
 use Rattle.tunnel.proofs.Axes.{near, edge-some, zero-up, axis-below, axis-from}
 use Rattle.tunnel.proofs.placing.axis.Statement.{statement}
 use Rattle.tunnel.proofs.placing.axis.Tie as tie

@@ -7,7 +7,7 @@ use mir.Syntax.{w64}
 use mir.ValLaws.{toZ-ofZ}
 use Rattle.lattice.specs.Cell.{edgeGood}
 use Rattle.grid.specs.Grid.{sidesGood}
-use Rattle.tunnel.specs.Place.{pointGood, placeOf}
+use Rattle.tunnel.specs.Place.{pointGood, placingOf}
 use Rattle.tunnel.proofs.placing.place.Statement.{statement}
 use Rattle.tunnel.proofs.placing.place.Tie as tie
 
@@ -32,21 +32,21 @@ good-sides-requires : tie.Need-good-sides-requires
 good-sides-requires c κs = search needs
 
 returns : tie.Need-returns
-unfolding placeOf
+unfolding placingOf
 returns c = simp (sym (c .before .good-sides .ensures) ∙ not-true _ (c .if1 .taken))
 
 good-edge-requires : tie.Need-good-edge-requires
 good-edge-requires c κs = search needs
 
 returns-2 : tie.Need-returns-2
-unfolding placeOf
+unfolding placingOf
 returns-2 c = simp (sides (c .before .before), sym (edge-is (c .before)) ∙ not-true _ (c .if2 .taken))
 
 good-point-requires : tie.Need-good-point-requires
 good-point-requires c κs = search needs
 
 returns-3 : tie.Need-returns-3
-unfolding placeOf
+unfolding placingOf
 returns-3 c =
     let d = c .before .before in
     simp (sides (d .before .before), edge d, sym (c .before .good-point .ensures) ∙ not-true _ (c .if3 .taken))
@@ -55,7 +55,7 @@ good-point-requires-2 : tie.Need-good-point-requires-2
 good-point-requires-2 c κs = search needs
 
 returns-4 : tie.Need-returns-4
-unfolding placeOf
+unfolding placingOf
 returns-4 c =
     let d = c .before .before in
     simp (sides (d .before .before .before .before), edge (d .before .before), origin d, sym (c .before .good-point2 .ensures) ∙ not-true _ (c .if4 .taken))
@@ -67,7 +67,7 @@ found-requires c κs =
     (sides (d .before .before .before .before), (rw (toZ-ofZ w64 (s .args .edge) (s .fits .edge)) (edge (d .before .before)), (origin d, point c)))
 
 returns-5 : tie.Need-returns-5
-unfolding placeOf
+unfolding placingOf
 returns-5 c =
     let d = c .before .before .before in
     let s = d .before .before .before .before .before .before in

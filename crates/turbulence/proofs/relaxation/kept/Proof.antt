@@ -2,7 +2,7 @@
 use Prim.Native.Nat.{_+_, _*_, _/_, _≤_}
 use native.Mathlib.Nat.{div-add-mod}
 use native.Mathlib.Omega.{arith}
-use Rattle.turbulence.specs.Post.{Keeps}
+use Rattle.turbulence.specs.inner.Post.{Keeps}
 use Rattle.turbulence.proofs.Own.{own-keeps}
 use Rattle.turbulence.proofs.relaxation.kept.Statement.{statement}
 use Rattle.turbulence.proofs.relaxation.kept.Tie as tie

@@ -5,14 +5,13 @@ use lib.Dec.{lit<}
 use lib.IntN.{ℤ, _+ℤ_, _-ℤ_}
 use mir.Syntax.{w32}
 use mir.Val.{toZ, ofZ}
-use Rattle.whole.specs.Machine.{Within, v32, within-by, does-fit, reads-as, as-read}
-use Rattle.lattice.specs.declared.Flow.{Flow}
+use Rattle.whole.specs.laws.Machine.{Within, v32, within-by, does-fit, reads-as, as-read}
 use Rattle.lattice.specs.Lattice.{d3q19}
-use Rattle.lattice.specs.Body.{partsOf, vec, Tame}
+use Rattle.lattice.specs.inner.Held.{partsOf, vec, Tame}
 use Rattle.lattice.proofs.Reading.{reading, inside}
 use Rattle.lattice.proofs.Tame.{steady-tame}
 use Rattle.turbulence.specs.Turbulence.{beyond}
-use Rattle.turbulence.specs.Post.{Apt, both}
+use Rattle.turbulence.specs.inner.Post.{Apt, both}
 use Rattle.turbulence.proofs.Nines.{x-apt, x-pair, y-apt, y-pair, z-apt, z-pair, xy-apt, xy-pair, yx-apt, yx-pair, yz-apt, yz-pair, zy-apt, zy-pair, xz-apt, xz-pair, zx-apt, zx-pair, entry}
 use Rattle.turbulence.proofs.stress.beyond.Statement.{statement}
 use Rattle.turbulence.proofs.stress.beyond.Tie as tie
@@ -80,14 +79,14 @@ zx-xz c = c .before .before .before .before
 abbrev zx-shared : tie.After-slack9 → tie.After-shared-of
 zx-shared c = xz-shared (zx-xz c)
 
-still-pair-requires : tie.Need-still-pair-requires
-still-pair-requires c κs =
+equilibrium-pair-requires : tie.Need-equilibrium-pair-requires
+equilibrium-pair-requires c κs =
     let u = c .before in
     let t = tame (u .before) in let x = t .x in let y = t .y in let z = t .z in
     (as-read (λ (z : ℤ). Apt z (u .shared-of .result)) (search reading depth 20) tt (x-apt (u .before .args .v) (u .before .pre .1) (u .shared-of .result) (u .shared-of .ensures)), lit< tt)
 
 slack-requires : tie.Need-slack-requires
-slack-requires c κs = let u = c .before .before in (u .before .pre .0, lit< tt, within-by (v32 (inside (c .still-pair .ensures .1))) tt)
+slack-requires c κs = let u = c .before .before in (u .before .pre .0, lit< tt, within-by (v32 (inside (c .equilibrium-pair .ensures .1))) tt)
 
 x-is : (c : tie.After-slack)
     → (c .slack .result ≡ both (beyond d3q19 (x-shared c .before .args .v .rho) (vec (x-shared c .before .args .v)) (partsOf (x-shared c .before .args .f))) 0) × Within (c .slack .result) 8388608
@@ -95,20 +94,20 @@ x-is c =
     let u = x-shared c in
     let t = tame (u .before) in let x = t .x in let y = t .y in let z = t .z in
     let v = u .before .args .v in
-    let p = c .before .still-pair in (
+    let p = c .before .equilibrium-pair in (
       entry v (u .before .pre .1) (u .shared-of .result) (u .shared-of .ensures) d3q19 (u .before .args .f) 0 6 (v .x) (stored (v .x))
           (x-pair v (u .before .pre .1) (u .shared-of .result) (u .shared-of .ensures)) (p .ensures .0) (p .ensures .1) (c .slack .ensures .0) (reads-as (search reading depth 20) tt),
       c .slack .ensures .1,
     )
 
-still-pair-requires-2 : tie.Need-still-pair-requires-2
-still-pair-requires-2 c κs =
+equilibrium-pair-requires-2 : tie.Need-equilibrium-pair-requires-2
+equilibrium-pair-requires-2 c κs =
     let u = x-shared (c .before) in
     let t = tame (u .before) in let x = t .x in let y = t .y in let z = t .z in
     (as-read (λ (z : ℤ). Apt z (u .shared-of .result)) (search reading depth 20) tt (y-apt (u .before .args .v) (u .before .pre .1) (u .shared-of .result) (u .shared-of .ensures)), lit< tt)
 
 slack-requires-2 : tie.Need-slack-requires-2
-slack-requires-2 c κs = let u = x-shared (c .before .before) in (u .before .pre .0, lit< tt, within-by (v32 (inside (c .still-pair2 .ensures .1))) tt)
+slack-requires-2 c κs = let u = x-shared (c .before .before) in (u .before .pre .0, lit< tt, within-by (v32 (inside (c .equilibrium-pair2 .ensures .1))) tt)
 
 y-is : (c : tie.After-slack2)
     → (c .slack2 .result ≡ both (beyond d3q19 (y-shared c .before .args .v .rho) (vec (y-shared c .before .args .v)) (partsOf (y-shared c .before .args .f))) 1) × Within (c .slack2 .result) 8388608
@@ -116,20 +115,20 @@ y-is c =
     let u = y-shared c in
     let t = tame (u .before) in let x = t .x in let y = t .y in let z = t .z in
     let v = u .before .args .v in
-    let p = c .before .still-pair2 in (
+    let p = c .before .equilibrium-pair2 in (
       entry v (u .before .pre .1) (u .shared-of .result) (u .shared-of .ensures) d3q19 (u .before .args .f) 1 6 (v .y) (stored (v .y))
           (y-pair v (u .before .pre .1) (u .shared-of .result) (u .shared-of .ensures)) (p .ensures .0) (p .ensures .1) (c .slack2 .ensures .0) (reads-as (search reading depth 20) tt),
       c .slack2 .ensures .1,
     )
 
-still-pair-requires-3 : tie.Need-still-pair-requires-3
-still-pair-requires-3 c κs =
+equilibrium-pair-requires-3 : tie.Need-equilibrium-pair-requires-3
+equilibrium-pair-requires-3 c κs =
     let u = y-shared (c .before) in
     let t = tame (u .before) in let x = t .x in let y = t .y in let z = t .z in
     (as-read (λ (z : ℤ). Apt z (u .shared-of .result)) (search reading depth 20) tt (z-apt (u .before .args .v) (u .before .pre .1) (u .shared-of .result) (u .shared-of .ensures)), lit< tt)
 
 slack-requires-3 : tie.Need-slack-requires-3
-slack-requires-3 c κs = let u = y-shared (c .before .before) in (u .before .pre .0, lit< tt, within-by (v32 (inside (c .still-pair3 .ensures .1))) tt)
+slack-requires-3 c κs = let u = y-shared (c .before .before) in (u .before .pre .0, lit< tt, within-by (v32 (inside (c .equilibrium-pair3 .ensures .1))) tt)
 
 z-is : (c : tie.After-slack3)
     → (c .slack3 .result ≡ both (beyond d3q19 (z-shared c .before .args .v .rho) (vec (z-shared c .before .args .v)) (partsOf (z-shared c .before .args .f))) 2) × Within (c .slack3 .result) 8388608
@@ -137,26 +136,26 @@ z-is c =
     let u = z-shared c in
     let t = tame (u .before) in let x = t .x in let y = t .y in let z = t .z in
     let v = u .before .args .v in
-    let p = c .before .still-pair3 in (
+    let p = c .before .equilibrium-pair3 in (
       entry v (u .before .pre .1) (u .shared-of .result) (u .shared-of .ensures) d3q19 (u .before .args .f) 2 6 (v .z) (stored (v .z))
           (z-pair v (u .before .pre .1) (u .shared-of .result) (u .shared-of .ensures)) (p .ensures .0) (p .ensures .1) (c .slack3 .ensures .0) (reads-as (search reading depth 20) tt),
       c .slack3 .ensures .1,
     )
 
-add-still-pair : tie.Need-add-still-pair
-add-still-pair c =
+add-equilibrium-pair : tie.Need-add-equilibrium-pair
+add-equilibrium-pair c =
     let u = z-shared (c .before .before) in
     let t = tame (u .before) in let x = t .x in let y = t .y in let z = t .z in
     does-fit (search reading depth 20) tt
 
-still-pair-requires-4 : tie.Need-still-pair-requires-4
-still-pair-requires-4 c κs =
+equilibrium-pair-requires-4 : tie.Need-equilibrium-pair-requires-4
+equilibrium-pair-requires-4 c κs =
     let u = z-shared (c .before .before) in
     let t = tame (u .before) in let x = t .x in let y = t .y in let z = t .z in
     (as-read (λ (z : ℤ). Apt z (u .shared-of .result)) (search reading depth 20) tt (xy-apt (u .before .args .v) (u .before .pre .1) (u .shared-of .result) (u .shared-of .ensures)), lit< tt)
 
 slack-requires-4 : tie.Need-slack-requires-4
-slack-requires-4 c κs = let u = z-shared (c .before .before .before) in (u .before .pre .0, lit< tt, within-by (v32 (inside (c .still-pair4 .ensures .1))) tt)
+slack-requires-4 c κs = let u = z-shared (c .before .before .before) in (u .before .pre .0, lit< tt, within-by (v32 (inside (c .equilibrium-pair4 .ensures .1))) tt)
 
 xy-is : (c : tie.After-slack4)
     → (c .slack4 .result ≡ both (beyond d3q19 (xy-shared c .before .args .v .rho) (vec (xy-shared c .before .args .v)) (partsOf (xy-shared c .before .args .f))) 3) × Within (c .slack4 .result) 8388608
@@ -164,26 +163,26 @@ xy-is c =
     let u = xy-shared c in
     let t = tame (u .before) in let x = t .x in let y = t .y in let z = t .z in
     let v = u .before .args .v in
-    let p = c .before .still-pair4 in (
+    let p = c .before .equilibrium-pair4 in (
       entry v (u .before .pre .1) (u .shared-of .result) (u .shared-of .ensures) d3q19 (u .before .args .f) 3 12 (v .x +ℤ v .y) (stored (stored (v .x) +ℤ stored (v .y)))
           (xy-pair v (u .before .pre .1) (u .shared-of .result) (u .shared-of .ensures)) (p .ensures .0) (p .ensures .1) (c .slack4 .ensures .0) (reads-as (search reading depth 20) tt),
       c .slack4 .ensures .1,
     )
 
-sub-still-pair : tie.Need-sub-still-pair
-sub-still-pair c =
+sub-equilibrium-pair : tie.Need-sub-equilibrium-pair
+sub-equilibrium-pair c =
     let u = xy-shared (c .before .before) in
     let t = tame (u .before) in let x = t .x in let y = t .y in let z = t .z in
     does-fit (search reading depth 20) tt
 
-still-pair-requires-5 : tie.Need-still-pair-requires-5
-still-pair-requires-5 c κs =
+equilibrium-pair-requires-5 : tie.Need-equilibrium-pair-requires-5
+equilibrium-pair-requires-5 c κs =
     let u = xy-shared (c .before .before) in
     let t = tame (u .before) in let x = t .x in let y = t .y in let z = t .z in
     (as-read (λ (z : ℤ). Apt z (u .shared-of .result)) (search reading depth 20) tt (yx-apt (u .before .args .v) (u .before .pre .1) (u .shared-of .result) (u .shared-of .ensures)), lit< tt)
 
 slack-requires-5 : tie.Need-slack-requires-5
-slack-requires-5 c κs = let u = xy-shared (c .before .before .before) in (u .before .pre .0, lit< tt, within-by (v32 (inside (c .still-pair5 .ensures .1))) tt)
+slack-requires-5 c κs = let u = xy-shared (c .before .before .before) in (u .before .pre .0, lit< tt, within-by (v32 (inside (c .equilibrium-pair5 .ensures .1))) tt)
 
 yx-is : (c : tie.After-slack5)
     → (c .slack5 .result ≡ both (beyond d3q19 (yx-shared c .before .args .v .rho) (vec (yx-shared c .before .args .v)) (partsOf (yx-shared c .before .args .f))) 4) × Within (c .slack5 .result) 8388608
@@ -191,26 +190,26 @@ yx-is c =
     let u = yx-shared c in
     let t = tame (u .before) in let x = t .x in let y = t .y in let z = t .z in
     let v = u .before .args .v in
-    let p = c .before .still-pair5 in (
+    let p = c .before .equilibrium-pair5 in (
       entry v (u .before .pre .1) (u .shared-of .result) (u .shared-of .ensures) d3q19 (u .before .args .f) 4 12 (v .x -ℤ v .y) (stored (stored (v .x) -ℤ stored (v .y)))
           (yx-pair v (u .before .pre .1) (u .shared-of .result) (u .shared-of .ensures)) (p .ensures .0) (p .ensures .1) (c .slack5 .ensures .0) (reads-as (search reading depth 20) tt),
       c .slack5 .ensures .1,
     )
 
-add-still-pair-2 : tie.Need-add-still-pair-2
-add-still-pair-2 c =
+add-equilibrium-pair-2 : tie.Need-add-equilibrium-pair-2
+add-equilibrium-pair-2 c =
     let u = yx-shared (c .before .before) in
     let t = tame (u .before) in let x = t .x in let y = t .y in let z = t .z in
     does-fit (search reading depth 20) tt
 
-still-pair-requires-6 : tie.Need-still-pair-requires-6
-still-pair-requires-6 c κs =
+equilibrium-pair-requires-6 : tie.Need-equilibrium-pair-requires-6
+equilibrium-pair-requires-6 c κs =
     let u = yx-shared (c .before .before) in
     let t = tame (u .before) in let x = t .x in let y = t .y in let z = t .z in
     (as-read (λ (z : ℤ). Apt z (u .shared-of .result)) (search reading depth 20) tt (yz-apt (u .before .args .v) (u .before .pre .1) (u .shared-of .result) (u .shared-of .ensures)), lit< tt)
 
 slack-requires-6 : tie.Need-slack-requires-6
-slack-requires-6 c κs = let u = yx-shared (c .before .before .before) in (u .before .pre .0, lit< tt, within-by (v32 (inside (c .still-pair6 .ensures .1))) tt)
+slack-requires-6 c κs = let u = yx-shared (c .before .before .before) in (u .before .pre .0, lit< tt, within-by (v32 (inside (c .equilibrium-pair6 .ensures .1))) tt)
 
 yz-is : (c : tie.After-slack6)
     → (c .slack6 .result ≡ both (beyond d3q19 (yz-shared c .before .args .v .rho) (vec (yz-shared c .before .args .v)) (partsOf (yz-shared c .before .args .f))) 5) × Within (c .slack6 .result) 8388608
@@ -218,26 +217,26 @@ yz-is c =
     let u = yz-shared c in
     let t = tame (u .before) in let x = t .x in let y = t .y in let z = t .z in
     let v = u .before .args .v in
-    let p = c .before .still-pair6 in (
+    let p = c .before .equilibrium-pair6 in (
       entry v (u .before .pre .1) (u .shared-of .result) (u .shared-of .ensures) d3q19 (u .before .args .f) 5 12 (v .y +ℤ v .z) (stored (stored (v .y) +ℤ stored (v .z)))
           (yz-pair v (u .before .pre .1) (u .shared-of .result) (u .shared-of .ensures)) (p .ensures .0) (p .ensures .1) (c .slack6 .ensures .0) (reads-as (search reading depth 20) tt),
       c .slack6 .ensures .1,
     )
 
-sub-still-pair-2 : tie.Need-sub-still-pair-2
-sub-still-pair-2 c =
+sub-equilibrium-pair-2 : tie.Need-sub-equilibrium-pair-2
+sub-equilibrium-pair-2 c =
     let u = yz-shared (c .before .before) in
     let t = tame (u .before) in let x = t .x in let y = t .y in let z = t .z in
     does-fit (search reading depth 20) tt
 
-still-pair-requires-7 : tie.Need-still-pair-requires-7
-still-pair-requires-7 c κs =
+equilibrium-pair-requires-7 : tie.Need-equilibrium-pair-requires-7
+equilibrium-pair-requires-7 c κs =
     let u = yz-shared (c .before .before) in
     let t = tame (u .before) in let x = t .x in let y = t .y in let z = t .z in
     (as-read (λ (z : ℤ). Apt z (u .shared-of .result)) (search reading depth 20) tt (zy-apt (u .before .args .v) (u .before .pre .1) (u .shared-of .result) (u .shared-of .ensures)), lit< tt)
 
 slack-requires-7 : tie.Need-slack-requires-7
-slack-requires-7 c κs = let u = yz-shared (c .before .before .before) in (u .before .pre .0, lit< tt, within-by (v32 (inside (c .still-pair7 .ensures .1))) tt)
+slack-requires-7 c κs = let u = yz-shared (c .before .before .before) in (u .before .pre .0, lit< tt, within-by (v32 (inside (c .equilibrium-pair7 .ensures .1))) tt)
 
 zy-is : (c : tie.After-slack7)
     → (c .slack7 .result ≡ both (beyond d3q19 (zy-shared c .before .args .v .rho) (vec (zy-shared c .before .args .v)) (partsOf (zy-shared c .before .args .f))) 6) × Within (c .slack7 .result) 8388608
@@ -245,26 +244,26 @@ zy-is c =
     let u = zy-shared c in
     let t = tame (u .before) in let x = t .x in let y = t .y in let z = t .z in
     let v = u .before .args .v in
-    let p = c .before .still-pair7 in (
+    let p = c .before .equilibrium-pair7 in (
       entry v (u .before .pre .1) (u .shared-of .result) (u .shared-of .ensures) d3q19 (u .before .args .f) 6 12 (v .y -ℤ v .z) (stored (stored (v .y) -ℤ stored (v .z)))
           (zy-pair v (u .before .pre .1) (u .shared-of .result) (u .shared-of .ensures)) (p .ensures .0) (p .ensures .1) (c .slack7 .ensures .0) (reads-as (search reading depth 20) tt),
       c .slack7 .ensures .1,
     )
 
-add-still-pair-3 : tie.Need-add-still-pair-3
-add-still-pair-3 c =
+add-equilibrium-pair-3 : tie.Need-add-equilibrium-pair-3
+add-equilibrium-pair-3 c =
     let u = zy-shared (c .before .before) in
     let t = tame (u .before) in let x = t .x in let y = t .y in let z = t .z in
     does-fit (search reading depth 20) tt
 
-still-pair-requires-8 : tie.Need-still-pair-requires-8
-still-pair-requires-8 c κs =
+equilibrium-pair-requires-8 : tie.Need-equilibrium-pair-requires-8
+equilibrium-pair-requires-8 c κs =
     let u = zy-shared (c .before .before) in
     let t = tame (u .before) in let x = t .x in let y = t .y in let z = t .z in
     (as-read (λ (z : ℤ). Apt z (u .shared-of .result)) (search reading depth 20) tt (xz-apt (u .before .args .v) (u .before .pre .1) (u .shared-of .result) (u .shared-of .ensures)), lit< tt)
 
 slack-requires-8 : tie.Need-slack-requires-8
-slack-requires-8 c κs = let u = zy-shared (c .before .before .before) in (u .before .pre .0, lit< tt, within-by (v32 (inside (c .still-pair8 .ensures .1))) tt)
+slack-requires-8 c κs = let u = zy-shared (c .before .before .before) in (u .before .pre .0, lit< tt, within-by (v32 (inside (c .equilibrium-pair8 .ensures .1))) tt)
 
 xz-is : (c : tie.After-slack8)
     → (c .slack8 .result ≡ both (beyond d3q19 (xz-shared c .before .args .v .rho) (vec (xz-shared c .before .args .v)) (partsOf (xz-shared c .before .args .f))) 7) × Within (c .slack8 .result) 8388608
@@ -272,26 +271,26 @@ xz-is c =
     let u = xz-shared c in
     let t = tame (u .before) in let x = t .x in let y = t .y in let z = t .z in
     let v = u .before .args .v in
-    let p = c .before .still-pair8 in (
+    let p = c .before .equilibrium-pair8 in (
       entry v (u .before .pre .1) (u .shared-of .result) (u .shared-of .ensures) d3q19 (u .before .args .f) 7 12 (v .x +ℤ v .z) (stored (stored (v .x) +ℤ stored (v .z)))
           (xz-pair v (u .before .pre .1) (u .shared-of .result) (u .shared-of .ensures)) (p .ensures .0) (p .ensures .1) (c .slack8 .ensures .0) (reads-as (search reading depth 20) tt),
       c .slack8 .ensures .1,
     )
 
-sub-still-pair-3 : tie.Need-sub-still-pair-3
-sub-still-pair-3 c =
+sub-equilibrium-pair-3 : tie.Need-sub-equilibrium-pair-3
+sub-equilibrium-pair-3 c =
     let u = xz-shared (c .before .before) in
     let t = tame (u .before) in let x = t .x in let y = t .y in let z = t .z in
     does-fit (search reading depth 20) tt
 
-still-pair-requires-9 : tie.Need-still-pair-requires-9
-still-pair-requires-9 c κs =
+equilibrium-pair-requires-9 : tie.Need-equilibrium-pair-requires-9
+equilibrium-pair-requires-9 c κs =
     let u = xz-shared (c .before .before) in
     let t = tame (u .before) in let x = t .x in let y = t .y in let z = t .z in
     (as-read (λ (z : ℤ). Apt z (u .shared-of .result)) (search reading depth 20) tt (zx-apt (u .before .args .v) (u .before .pre .1) (u .shared-of .result) (u .shared-of .ensures)), lit< tt)
 
 slack-requires-9 : tie.Need-slack-requires-9
-slack-requires-9 c κs = let u = xz-shared (c .before .before .before) in (u .before .pre .0, lit< tt, within-by (v32 (inside (c .still-pair9 .ensures .1))) tt)
+slack-requires-9 c κs = let u = xz-shared (c .before .before .before) in (u .before .pre .0, lit< tt, within-by (v32 (inside (c .equilibrium-pair9 .ensures .1))) tt)
 
 zx-is : (c : tie.After-slack9)
     → (c .slack9 .result ≡ both (beyond d3q19 (zx-shared c .before .args .v .rho) (vec (zx-shared c .before .args .v)) (partsOf (zx-shared c .before .args .f))) 8) × Within (c .slack9 .result) 8388608
@@ -299,7 +298,7 @@ zx-is c =
     let u = zx-shared c in
     let t = tame (u .before) in let x = t .x in let y = t .y in let z = t .z in
     let v = u .before .args .v in
-    let p = c .before .still-pair9 in (
+    let p = c .before .equilibrium-pair9 in (
       entry v (u .before .pre .1) (u .shared-of .result) (u .shared-of .ensures) d3q19 (u .before .args .f) 8 12 (v .x -ℤ v .z) (stored (stored (v .x) -ℤ stored (v .z)))
           (zx-pair v (u .before .pre .1) (u .shared-of .result) (u .shared-of .ensures)) (p .ensures .0) (p .ensures .1) (c .slack9 .ensures .0) (reads-as (search reading depth 20) tt),
       c .slack9 .ensures .1,
@@ -331,28 +330,28 @@ beyond-spec =
     tie.close
     (tie.spec
     shared-of-requires
-    still-pair-requires
+    equilibrium-pair-requires
     slack-requires
-    still-pair-requires-2
+    equilibrium-pair-requires-2
     slack-requires-2
-    still-pair-requires-3
+    equilibrium-pair-requires-3
     slack-requires-3
-    add-still-pair
-    still-pair-requires-4
+    add-equilibrium-pair
+    equilibrium-pair-requires-4
     slack-requires-4
-    sub-still-pair
-    still-pair-requires-5
+    sub-equilibrium-pair
+    equilibrium-pair-requires-5
     slack-requires-5
-    add-still-pair-2
-    still-pair-requires-6
+    add-equilibrium-pair-2
+    equilibrium-pair-requires-6
     slack-requires-6
-    sub-still-pair-2
-    still-pair-requires-7
+    sub-equilibrium-pair-2
+    equilibrium-pair-requires-7
     slack-requires-7
-    add-still-pair-3
-    still-pair-requires-8
+    add-equilibrium-pair-3
+    equilibrium-pair-requires-8
     slack-requires-8
-    sub-still-pair-3
-    still-pair-requires-9
+    sub-equilibrium-pair-3
+    equilibrium-pair-requires-9
     slack-requires-9
     returns)

@@ -6,11 +6,11 @@ use native.Mathlib.Omega.{arith}
 use lib.IntN.{natAbs}
 use mir.Syntax.{w32, w64}
 use mir.Val.{toZ, ofZ}
-use Rattle.whole.specs.Bounds.{abs-above}
-use Rattle.whole.specs.Casts.{index-asks}
-use Rattle.whole.specs.Order.{≤ℤ-trans}
-use Rattle.whole.specs.Machine.{Val, machine, same, v+, v*, v32, does-fit, reads-as}
-use Rattle.lattice.specs.Body.{Tame}
+use Rattle.whole.specs.laws.Bounds.{abs-above}
+use Rattle.whole.specs.laws.Casts.{index-asks}
+use Rattle.whole.specs.laws.Order.{≤ℤ-trans}
+use Rattle.whole.specs.laws.Machine.{Val, machine, same, v+, v*, v32, does-fit, reads-as}
+use Rattle.lattice.specs.inner.Held.{Tame}
 use Rattle.lattice.proofs.Reading.{inside}
 use Rattle.lattice.proofs.Tame.{steady-tame, wider}
 use Rattle.turbulence.proofs.Quotients.{inverse-low, inverse-high}

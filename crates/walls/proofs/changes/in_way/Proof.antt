@@ -4,7 +4,7 @@ use mathlib.Core.Path.{sym, _∙_}
 use mathlib.Core.Bool.{not}
 use native.Mathlib.Omega.{arith}
 use lib.Dec.{eqb}
-use Rattle.whole.specs.Bools.{cond-yes, cond-no}
+use Rattle.whole.specs.laws.Bools.{cond-yes, cond-no}
 use Rattle.whole.specs.Fold.{anyDir}
 use Rattle.grid.specs.Grid.{gridOf}
 use Rattle.grid.proofs.Beside.{reach, beside-is}

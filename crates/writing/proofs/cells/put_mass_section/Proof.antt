@@ -1,12 +1,11 @@
 -- `writing::cells::put_mass_section` writes section 6. Assumes nothing.
 use borrow.Author.Needs.{needs}
-use mathlib.Core.Path.{ap}
-use Prim.Native.Nat.{ℕ, _+_, _*_}
+use Prim.Native.Nat.{_+_, _*_}
 use native.Mathlib.Omega.{arith}
 use lib.IntN.{pos}
 use lib.ListN.{length, getD}
 use denote.Ref.{now}
-use Rattle.grid.specs.Passes.{flagOf}
+use Rattle.grid.specs.State.{flagOf}
 use Rattle.record.specs.Layout.{interfaces, massBytes}
 use Rattle.record.proofs.Gathered.{interfaces-most, section-put}
 use Rattle.writing.proofs.cells.put_mass_section.Statement.{statement}

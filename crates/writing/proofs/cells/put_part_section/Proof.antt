@@ -7,7 +7,7 @@ use native.Mathlib.Omega.{arith}
 use lib.IntN.{pos}
 use lib.ListN.{length, getD}
 use denote.Ref.{now}
-use Rattle.grid.specs.Passes.{flagOf}
+use Rattle.grid.specs.State.{flagOf}
 use Rattle.record.specs.Layout.{liquids, partNumbers}
 use Rattle.record.proofs.Gathered.{liquids-most, section-put}
 use Rattle.writing.proofs.cells.put_part_section.Statement.{statement}

@@ -6,7 +6,7 @@ use native.Mathlib.Nat.{mul-le-mul}
 use native.Mathlib.Omega.{arith}
 use lib.ListN.{length}
 use denote.Ref.{now}
-use Rattle.grid.specs.Passes.{flagOf}
+use Rattle.grid.specs.State.{flagOf}
 use Rattle.record.proofs.Gathered.{interfaces-most, liquids-most}
 use Rattle.writing.proofs.cells.record_length.Statement.{statement}
 use Rattle.writing.proofs.cells.record_length.Tie as tie

@@ -6,7 +6,7 @@ use lib.Seq.{sets}
 use denote.Ref.{now}
 use mir.Syntax.{w32, w64}
 use mir.ValLaws.{toZ-ofZ}
-use Rattle.whole.specs.Machine.{machine, w64-in, does-fit, reads-as}
+use Rattle.whole.specs.laws.Machine.{machine, w64-in, does-fit}
 use Rattle.record.specs.Bytes.{i32Of}
 use Rattle.writing.proofs.front.put_setting.Statement.{statement}
 use Rattle.writing.proofs.front.put_setting.Tie as tie

@@ -1,6 +1,6 @@
 -- `writing::put::put_masses`: the place advances as the count of interface cells does. Assumes nothing.
 use borrow.Author.Needs.{needs}
-use mathlib.Core.Path.{_≡_, refl, sym, ap, _∙_}
+use mathlib.Core.Path.{_≡_, refl, ap, _∙_}
 use mathlib.Core.List.{List, []}
 use Prim.Native.Nat.{ℕ, _+_, _*_, _-_, _≤_}
 use native.Mathlib.Omega.{arith}
@@ -14,9 +14,8 @@ use mir.Syntax.{w32}
 use mir.ValLaws.{toZ-ofZ}
 use Rattle.whole.specs.Fold.{count}
 use Rattle.record.specs.Bytes.{gathered, i32Of}
-use Rattle.grid.specs.Passes.{flagOf}
+use Rattle.grid.specs.State.{flagOf, byFlag}
 use Rattle.record.specs.Layout.{interfaces, massBytes}
-use Rattle.grid.specs.State.{byFlag}
 use Rattle.record.proofs.Gathered.{interfaces-more, interfaces-le, mass-turn}
 use Rattle.writing.proofs.put.put_masses.Statement.{statement}
 use Rattle.writing.proofs.put.put_masses.Tie as tie

@@ -11,9 +11,8 @@ use lib.ListN.{length, getD}
 use lib.Seq.{sets, length-sets}
 use denote.Ref.{now}
 use Rattle.whole.specs.Fold.{count}
-use Rattle.grid.specs.State.{byFlag, liquid}
-use Rattle.record.specs.Bytes.{gathered, i32Of}
-use Rattle.grid.specs.Passes.{flagOf}
+use Rattle.grid.specs.State.{liquid, flagOf}
+use Rattle.record.specs.Bytes.{gathered}
 use Rattle.record.specs.Layout.{liquids, partNumbers}
 use Rattle.record.proofs.Gathered.{liquids-more, liquids-le, part-turn}
 use Rattle.writing.proofs.put.put_parts.Statement.{statement}

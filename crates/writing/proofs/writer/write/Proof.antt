@@ -8,16 +8,15 @@ use native.Mathlib.Omega.{arith}
 use lib.IntN.{ℤ, pos}
 use lib.ListN.{length, getD}
 use lib.Seq.{sets}
-use borrow.Author.Tests.{not-true, not-false}
+use borrow.Author.Tests.{not-true}
 use denote.Ref.{now}
 use mir.Syntax.{w64}
 use mir.Val.{toZ, ofZ}
 use mir.ValLaws.{toZ-ofZ}
 use Rattle.grid.specs.declared.Answer.the-variants.{Done}
 use Rattle.grid.specs.Grid.{cellsOf}
-use Rattle.grid.specs.State.{Lent, lent, stateOf}
+use Rattle.grid.specs.State.{Lent, lent, stateOf, flagOf}
 use Rattle.grid.specs.Outcome.{accepted}
-use Rattle.grid.specs.Passes.{flagOf}
 use Rattle.grid.proofs.GoodSides.{good-sides}
 use Rattle.record.specs.Places.{counts, lengthOf}
 use Rattle.record.specs.Layout.{interfaces, liquids, headBytes, cellsBytes, recordOf, recordLength}

@@ -1,0 +1,15 @@
+pub mod Field
+pub mod Births
+pub mod Means
+pub mod Newborns
+pub mod Offspring
+pub mod Quiet
+pub mod Settled
+pub mod Amounts
+pub mod Given
+pub mod Impacts
+pub mod Handed
+pub mod Turns
+pub mod Converts
+pub mod Marking
+pub mod Settles

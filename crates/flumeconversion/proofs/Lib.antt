@@ -1,0 +1,5 @@
+pub mod Fields
+pub mod Newborns
+pub mod Flumes
+pub mod Turns
+pub mod Settles

@@ -1,0 +1,30 @@
+// Stage 7 in the flume: the fills, worked out afresh, and whether interface masses are still in their range.
+use fills::filling::plain_fills;
+use flumegrid::fill::interface_fill9;
+use grid::seeking::next_of;
+use lattice::limits::fair_mass;
+use whole::wide;
+ghost use mathlib.Core.Path.{_≡_};
+ghost use lib.ListN.{length};
+ghost use Rattle.fills.specs.inner.Filled.{Refilled};
+ghost use Rattle.nine.specs.inner.Cells.{partOf9};
+ghost use Rattle.flumefills.specs.inner.Filled.{Fillable9};
+
+// The fill of every cell; whether every interface cell's mass is in its range.
+pub fn new_fills9(flags: &[u8], parts: &[i32], mass: &[i32], fill: &mut [u32]) -> bool
+    requires { ⌜ Fillable9 (now flags) (now parts) (now mass) × (length (now fill) ≡ length (now flags)) ⌝ }
+    ensures { λ r. ⌜ Refilled (now (flags .entry)) (partOf9 (now (parts .entry))) (now (mass .entry)) (now (fill .exit)) r ⌝ }
+{
+    plain_fills(flags, fill);
+    let mut fair = true;
+    let mut c = 0;
+    while c < flags.len() {
+        if flags[c] == 1 {
+            let m = wide(mass[c]);
+            fill[c] = interface_fill9(parts, m, c);
+            fair = fair & fair_mass(m);
+        }
+        c = next_of(flags, c + 1, 1);
+    }
+    fair
+}

@@ -1,4 +1,0 @@
-pub mod Fields
-pub mod Newborns
-pub mod Flumes
-pub mod Turns

@@ -1,3 +1,0 @@
-pub mod Born
-pub mod Filled
-pub mod Turned
