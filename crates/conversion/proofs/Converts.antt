@@ -67,7 +67,7 @@ pub ready-field : (s : Sides) (g : Settings) (a : Lent) → Ready s g a → Soun
 ready-field s g a r = sound s g a (ready-poised s g a r) (ready-carry s g a r)
 
 -- a list of one is its element
-single : (xs : List ℤ) → length xs ≡ 1 → xs ≡ getD xs 0 (pos 0) ∷ []
+pub single : (xs : List ℤ) → length xs ≡ 1 → xs ≡ getD xs 0 (pos 0) ∷ []
 single [] e = absurd (omega arith)
 single (x ∷ []) e = refl
 single (x ∷ (y ∷ xs)) e = absurd (omega arith)

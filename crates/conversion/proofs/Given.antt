@@ -11,7 +11,7 @@ use borrow.Author.Tests.{eq-eqb, eqb-true}
 use Rattle.whole.specs.laws.Bools.{cond-yes}
 use Rattle.whole.specs.Fold.{sum, anyDir, first, tab, Dir}
 use Rattle.whole.specs.laws.Ring.{ring-by, quotes}
-use Rattle.whole.specs.laws.Search.{as-dir, any-dir}
+use Rattle.whole.specs.laws.Search.{as-dir, any-dir, any-cong}
 use Rattle.whole.specs.laws.Sums.{sum-cong}
 use Rattle.whole.specs.laws.Tab.{getD-tab, tab-cong}
 use Rattle.lattice.specs.Lattice.{V3, dot, d3q19, density}
@@ -21,7 +21,6 @@ use Rattle.grid.specs.State.{Scene, byFlag}
 use Rattle.grid.specs.Step.{flagAt, unsteady, tradedMass, streamedDensity, collided, filled, besideFilled, emptied, besideEmptied, flagAfter, newFlag, seen, normal, target, anyTarget, lean, leanWeight, shareWeight, excess, converted, gift, toCarry, received, newCarry}
 use Rattle.grid.specs.inner.Between.{movedMass, settledMark, bornPart, gatheredMass}
 use Rattle.grid.specs.inner.Passes.{seenAt, seenBeside, normalAt, Amid}
-use Rattle.grid.proofs.Beside.{any-cong}
 use Rattle.grid.proofs.Closed.{wall-stays}
 use Rattle.grid.proofs.Moved.{density-collided}
 use Rattle.grid.proofs.Same.{density-same}

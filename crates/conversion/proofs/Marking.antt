@@ -19,9 +19,10 @@ use Rattle.grid.specs.Step.{flagAfter}
 use Rattle.grid.proofs.Inside.{reaching, amid-inner}
 use Rattle.grid.proofs.Walls.{inner, flag-low}
 use Rattle.grid.proofs.Lists.{getD-there}
-use Rattle.grid.proofs.Beside.{Offsets, any-cong}
+use Rattle.grid.proofs.Beside.{Offsets}
 use Rattle.grid.proofs.Ranges.{Ranged, ranged-all}
 use Rattle.flow.proofs.Marking.{inside-inner, inner-inside, range-is, box-range, cond-cong, beside-same}
+use Rattle.whole.specs.laws.Search.{any-cong}
 
 -- ---- pass 2
 

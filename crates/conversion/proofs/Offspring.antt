@@ -4,7 +4,6 @@ use mathlib.Core.Path.{_≡_, refl, sym, ap, ap₂, _∙_, subst}
 use mathlib.Core.Bool.{Bool, true, false, _&&_, not, cond, false≢true}
 use mathlib.Core.List.{List}
 use Prim.Native.Nat.{ℕ, zero, suc, _+_, _-_, _≤_, _<_}
-use native.Mathlib.Nat.{lt-suc-self, le-step}
 use native.Mathlib.Omega.{arith}
 use lib.Dec.{eqb}
 use lib.IntN.{ℤ, pos}
@@ -34,12 +33,9 @@ use Rattle.conversion.specs.inner.Born.{TestedOn, newlyBorn, laterPart, 
 use Rattle.conversion.proofs.Amounts.{inner-cell}
 use Rattle.conversion.proofs.Births.{wet-low}
 use Rattle.conversion.proofs.Field.{Field, sceneIn, sightIn, Standing}
+use Rattle.whole.specs.laws.Counts.{count-cong}
 
 -- ---- counts
-count-same : (n : ℕ) (f g : ℕ → Bool) → ((a : ℕ) → a < n → f a ≡ g a) → count n f ≡ count n g
-unfolding count
-count-same zero f g h = refl
-count-same (suc n) f g h = ap₂ (λ (k : ℕ) (b : Bool). k + cond b 1 0) (count-same n f g (λ a k. h a (le-step k))) (h n (lt-suc-self n))
 
 -- what is not too fast is dense and slow
 steady-both : (l d s : Bool) → l ≡ true → (l && not (d && s)) ≡ false → (d ≡ true) × (s ≡ true)
@@ -136,7 +132,7 @@ module _ (F : Field) (r : Standing F) where
     pub liquid-seen : liquidNear seen c ≡ liquidNear step c
     unfolding liquidNear sight d3q19
     liquid-seen =
-        count-same 18 (λ a. liquid (flag (seen .grid .near c (suc a)))) (λ a. liquid (flag (step .grid .near c (suc a))))
+        count-cong 18 (λ a. liquid (flag (seen .grid .near c (suc a)))) (λ a. liquid (flag (step .grid .near c (suc a))))
         (λ a k. ap (λ (n : ℕ). liquid (flag n)) (place a k))
 
     sum-seen : (f h : ℕ → ℤ) → ((d : ℕ) → d < F .cells → liquid (flag d) ≡ true → f d ≡ h d) → nearSum seen c f ≡ nearSum step c h

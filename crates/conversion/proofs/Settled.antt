@@ -14,15 +14,16 @@ use Rattle.whole.specs.Fold.{tab, anyDir, first}
 use Rattle.whole.specs.laws.Tab.{length-tab, getD-tab, tab-cong}
 use Rattle.lattice.specs.Lattice.{d3q19}
 use Rattle.lattice.specs.Cell.{over, under}
-use Rattle.grid.specs.State.{Scene, byFlag, liquid}
+use Rattle.grid.specs.State.{Scene, byFlag}
 use Rattle.grid.specs.Step.{tradedMass, streamedDensity, unsteady, filled, emptied, besideFilled, besideEmptied, newFlag, flagAfter}
 use Rattle.grid.specs.inner.Passes.{Amid, amid, Reaching, besideAt, keptBy, EmptyingBy, turnedAt, turnedBy, MarkedBy}
 use Rattle.grid.specs.inner.Between.{firstMark, settledMark}
 use Rattle.grid.proofs.Accurate.{not-both, both-tests}
-use Rattle.grid.proofs.Beside.{any-cong}
 use Rattle.grid.proofs.Lists.{getD-there}
 use Rattle.conversion.proofs.Amounts.{inner-cell, new-dense}
 use Rattle.conversion.proofs.Field.{Field, sceneIn, Sound, reaching}
+use Rattle.whole.specs.laws.Search.{any-cong}
+use Rattle.grid.proofs.Dense.{filled-wet}
 
 -- ---- by cases on the old flag and the tests alone
 
@@ -76,12 +77,6 @@ settled-two true true h = absurd (h refl refl)
 settled-two true false h = refl
 settled-two false true h = refl
 settled-two false false h = refl
-
-was-liquid : (f : ℕ) (o : Bool) → byFlag f false o false false ≡ true → liquid f ≡ true
-was-liquid zero o e = absurd (false≢true e)
-was-liquid (suc zero) o e = refl
-was-liquid (suc (suc zero)) o e = absurd (false≢true e)
-was-liquid (suc (suc (suc k))) o e = absurd (false≢true e)
 
 -- a wall stays wall
 wall-after : (f : ℕ) (a b d e : Bool) → f ≡ 3 → f ≡ flagAfter f a b d e
@@ -195,7 +190,7 @@ module _ (F : Field) (v : Sound F) where
       unfolding filled emptied
       apart c h p q =
           let t = both-tests (flagOf c) (over (tradedMass S c) (streamedDensity S c)) (under (tradedMass S c) (streamedDensity S c)) _ p q in
-          not-both (tradedMass S c) (streamedDensity S c) (new-dense F (v .stands) steady c h (was-liquid (flagOf c) (over (tradedMass S c) (streamedDensity S c)) p)) (t .0) (t .1)
+          not-both (tradedMass S c) (streamedDensity S c) (new-dense F (v .stands) steady c h (filled-wet (flagOf c) (over (tradedMass S c) (streamedDensity S c)) p)) (t .0) (t .1)
 
       settled-emptied : (d : ℕ) → d < n → eqb (settledMark S d) 2 ≡ emptied S d
       unfolding settledMark

@@ -10,7 +10,7 @@ use grid::neighbours::offsets;
 use grid::seeking::next_of;
 use lattice::Flow;
 use lattice::Settings;
-use lattice::moments::flow_of;
+use lattice::directions::flow_of;
 use lattice::rules::fair_parts;
 use whole::wide;
 ghost use mathlib.Core.Path.{_≡_};
@@ -43,16 +43,16 @@ pub struct Sum {
 fn flow_at(
     flags: &[u8],
     parts: &[i32],
-    fill: &[u32],
+    fills: &[u32],
     off: &[usize; 19],
     low: usize,
     b: usize,
     g: Settings,
 ) -> Flow
-    requires { ⌜ Tested (now flags) (now parts) (now fill) (now off) low g × (b < length (now flags)) × (liquid (getD (now flags) b 3) ≡ true) ⌝ }
-    ensures { λ r. ⌜ NewFlow (boxSight (now (flags .entry)) (now (parts .entry)) [] (now (fill .entry)) (now (off .entry)) low g) b r ⌝ }
+    requires { ⌜ Tested (now flags) (now parts) (now fills) (now off) low g × (b < length (now flags)) × (liquid (getD (now flags) b 3) ≡ true) ⌝ }
+    ensures { λ r. ⌜ NewFlow (boxSight (now (flags .entry)) (now (parts .entry)) [] (now (fills .entry)) (now (off .entry)) low g) b r ⌝ }
 {
-    pulled(flow_of(streamed(flags, parts, fill, off, low, b)), g)
+    pulled(flow_of(streamed(flags, parts, fills, off, low, b)), g)
 }
 
 fn plus(a: i64, b: i32) -> i64
@@ -81,17 +81,17 @@ fn with_cell(
     t: Sum,
     flags: &[u8],
     parts: &[i32],
-    fill: &[u32],
+    fills: &[u32],
     off: &[usize; 19],
     low: usize,
     b: usize,
     g: Settings,
 ) -> Sum
-    requires { ⌜ Tested (now flags) (now parts) (now fill) (now off) low g × (b < length (now flags)) × Roomy t ⌝ }
-    ensures { λ r. ⌜ Added (boxSight (now (flags .entry)) (now (parts .entry)) [] (now (fill .entry)) (now (off .entry)) low g) t b r ⌝ }
+    requires { ⌜ Tested (now flags) (now parts) (now fills) (now off) low g × (b < length (now flags)) × Roomy t ⌝ }
+    ensures { λ r. ⌜ Added (boxSight (now (flags .entry)) (now (parts .entry)) [] (now (fills .entry)) (now (off .entry)) low g) t b r ⌝ }
 {
     if is_liquid(flags[b]) {
-        return joined(t, flow_at(flags, parts, fill, off, low, b, g));
+        return joined(t, flow_at(flags, parts, fills, off, low, b, g));
     }
     t
 }
@@ -120,14 +120,14 @@ pub fn mean(t: Sum) -> Flow
 fn mean_flow(
     flags: &[u8],
     parts: &[i32],
-    fill: &[u32],
+    fills: &[u32],
     off: &[usize; 19],
     low: usize,
     c: usize,
     g: Settings,
 ) -> Flow
-    requires { ⌜ Tested (now flags) (now parts) (now fill) (now off) low g × Around (length (now flags)) (now off) low c × (0 < liquidNear (boxSight (now flags) (now parts) [] (now fill) (now off) low g) c) ⌝ }
-    ensures { λ r. ⌜ Begins (boxSight (now (flags .entry)) (now (parts .entry)) [] (now (fill .entry)) (now (off .entry)) low g) c r ⌝ }
+    requires { ⌜ Tested (now flags) (now parts) (now fills) (now off) low g × Around (length (now flags)) (now off) low c × (0 < liquidNear (boxSight (now flags) (now parts) [] (now fills) (now off) low g) c) ⌝ }
+    ensures { λ r. ⌜ Begins (boxSight (now (flags .entry)) (now (parts .entry)) [] (now (fills .entry)) (now (off .entry)) low g) c r ⌝ }
 {
     let k = c - low;
     let mut t = Sum {
@@ -139,7 +139,7 @@ fn mean_flow(
     };
     let mut i = 1;
     while i < 19 {
-        t = with_cell(t, flags, parts, fill, off, low, k + off[i], g);
+        t = with_cell(t, flags, parts, fills, off, low, k + off[i], g);
         i += 1;
     }
     mean(t)
@@ -149,17 +149,17 @@ fn mean_flow(
 fn put_born(
     flags: &[u8],
     parts: &[i32],
-    fill: &[u32],
+    fills: &[u32],
     parts2: &mut [i32],
     off: &[usize; 19],
     low: usize,
     c: usize,
     g: Settings,
 ) -> bool
-    requires { ⌜ Tested (now flags) (now parts) (now fill) (now off) low g × Around (length (now flags)) (now off) low c × (0 < liquidNear (boxSight (now flags) (now parts) [] (now fill) (now off) low g) c) × (19 * c + 19 ≤ length (now parts2)) ⌝ }
-    ensures { λ r. ⌜ Placed (boxSight (now (flags .entry)) (now (parts .entry)) [] (now (fill .entry)) (now (off .entry)) low g) c (now (parts2 .entry)) (now (parts2 .exit)) r ⌝ }
+    requires { ⌜ Tested (now flags) (now parts) (now fills) (now off) low g × Around (length (now flags)) (now off) low c × (0 < liquidNear (boxSight (now flags) (now parts) [] (now fills) (now off) low g) c) × (19 * c + 19 ≤ length (now parts2)) ⌝ }
+    ensures { λ r. ⌜ Placed (boxSight (now (flags .entry)) (now (parts .entry)) [] (now (fills .entry)) (now (off .entry)) low g) c (now (parts2 .entry)) (now (parts2 .exit)) r ⌝ }
 {
-    let v = equilibrium(mean_flow(flags, parts, fill, off, low, c, g));
+    let v = equilibrium(mean_flow(flags, parts, fills, off, low, c, g));
     paste(parts2, 19 * c, v);
     fair_parts(v)
 }
@@ -174,7 +174,7 @@ pub fn is_newborn(old: u8, new: u8) -> bool
 fn visit(
     flags: &[u8],
     parts: &[i32],
-    fill: &[u32],
+    fills: &[u32],
     flags2: &[u8],
     parts2: &mut [i32],
     off: &[usize; 19],
@@ -182,11 +182,11 @@ fn visit(
     c: usize,
     g: Settings,
 ) -> bool
-    requires { ⌜ Fertile (now flags) (now parts) (now fill) (now off) low g (now flags2) × (c < length (now flags)) × (length (now parts2) ≡ 19 * length (now flags)) ⌝ }
-    ensures { λ r. ⌜ Visited (boxSight (now (flags .entry)) (now (parts .entry)) [] (now (fill .entry)) (now (off .entry)) low g) (newlyBorn (now (flags .entry)) (now (flags2 .entry))) c (now (parts2 .entry)) (now (parts2 .exit)) r ⌝ }
+    requires { ⌜ Fertile (now flags) (now parts) (now fills) (now off) low g (now flags2) × (c < length (now flags)) × (length (now parts2) ≡ 19 * length (now flags)) ⌝ }
+    ensures { λ r. ⌜ Visited (boxSight (now (flags .entry)) (now (parts .entry)) [] (now (fills .entry)) (now (off .entry)) low g) (newlyBorn (now (flags .entry)) (now (flags2 .entry))) c (now (parts2 .entry)) (now (parts2 .exit)) r ⌝ }
 {
     if is_newborn(flags[c], flags2[c]) {
-        return put_born(flags, parts, fill, parts2, off, low, c, g);
+        return put_born(flags, parts, fills, parts2, off, low, c, g);
     }
     true
 }
@@ -195,21 +195,21 @@ fn visit(
 pub(crate) fn newborn(
     flags: &[u8],
     parts: &[i32],
-    fill: &[u32],
+    fills: &[u32],
     flags2: &[u8],
     parts2: &mut [i32],
     s: Sides,
     g: Settings,
 ) -> bool
-    requires { ⌜ (sidesGood s ≡ true) × Fertile (now flags) (now parts) (now fill) (tab 19 (offsetOf s)) (lowOf s) g (now flags2) × (length (now parts2) ≡ 19 * length (now flags)) ⌝ }
-    ensures { λ r. ⌜ Peopled (boxSight (now (flags .entry)) (now (parts .entry)) [] (now (fill .entry)) (tab 19 (offsetOf s)) (lowOf s) g) (newlyBorn (now (flags .entry)) (now (flags2 .entry))) (length (now (flags .entry))) (now (parts2 .entry)) (now (parts2 .exit)) r ⌝ }
+    requires { ⌜ (sidesGood s ≡ true) × Fertile (now flags) (now parts) (now fills) (tab 19 (offsetOf s)) (lowOf s) g (now flags2) × (length (now parts2) ≡ 19 * length (now flags)) ⌝ }
+    ensures { λ r. ⌜ Peopled (boxSight (now (flags .entry)) (now (parts .entry)) [] (now (fills .entry)) (tab 19 (offsetOf s)) (lowOf s) g) (newlyBorn (now (flags .entry)) (now (flags2 .entry))) (length (now (flags .entry))) (now (parts2 .entry)) (now (parts2 .exit)) r ⌝ }
 {
     let off = offsets(s);
     let low = low_of(s);
     let mut fair = true;
     let mut c = 0;
     while c < flags.len() {
-        fair = fair & visit(flags, parts, fill, flags2, parts2, &off, low, c, g);
+        fair = fair & visit(flags, parts, fills, flags2, parts2, &off, low, c, g);
         c = next_of(flags2, c + 1, 1);
     }
     fair

@@ -20,27 +20,27 @@ ghost use Rattle.grid.specs.inner.Halfway.{Turning, Turned};
 fn converted(
     flags: &[u8],
     parts: &[i32],
-    mass: &[i32],
-    fill: &[u32],
+    masses: &[i32],
+    fills: &[u32],
     carry: &[i64],
     flags2: &mut [u8],
     parts2: &mut [i32],
-    mass2: &mut [i32],
+    masses2: &mut [i32],
     carry2: &mut [i64],
     marks: &mut [u8],
     s: Sides,
     g: Settings,
 ) -> bool
-    requires { ⌜ Turning s g (lent (now flags) (now parts) (now mass) (now fill) (now carry)) (now flags2) (now parts2) (now mass2) (now carry2) (now marks) false × (now flags2 ≡ now flags) ⌝ }
-    ensures { λ r. ⌜ Turned (sceneOf s g (lent (now (flags .entry)) (now (parts .entry)) (now (mass .entry)) (now (fill .entry)) (now (carry .entry)))) (cellsOf s) (now (flags2 .exit)) (now (parts2 .exit)) (now (mass2 .exit)) (now (carry2 .exit)) (now (marks .exit)) r ⌝ }
+    requires { ⌜ Turning s g (lent (now flags) (now parts) (now masses) (now fills) (now carry)) (now flags2) (now parts2) (now masses2) (now carry2) (now marks) false × (now flags2 ≡ now flags) ⌝ }
+    ensures { λ r. ⌜ Turned (sceneOf s g (lent (now (flags .entry)) (now (parts .entry)) (now (masses .entry)) (now (fills .entry)) (now (carry .entry)))) (cellsOf s) (now (flags2 .exit)) (now (parts2 .exit)) (now (masses2 .exit)) (now (carry2 .exit)) (now (marks .exit)) r ⌝ }
 {
     emptying::settle_marks(marks, s);
     convert::new_flags(flags, marks, flags2, s);
-    let a = birth::newborn(flags, parts, fill, flags2, parts2, s, g);
-    let k = straying::new_carry(flags2, parts2, mass2, marks, carry[0], s);
+    let a = birth::newborn(flags, parts, fills, flags2, parts2, s, g);
+    let k = straying::new_carry(flags2, parts2, masses2, marks, carry[0], s);
     carry2[0] = k;
-    giving::gather(flags2, fill, parts2, mass2, marks, s);
-    settling::settle(parts2, mass2, marks);
+    giving::gather(flags2, fills, parts2, masses2, marks, s);
+    settling::settle(parts2, masses2, marks);
     a & fair_carry(k)
 }
 
@@ -48,20 +48,20 @@ fn converted(
 pub fn turned(
     flags: &[u8],
     parts: &[i32],
-    mass: &[i32],
-    fill: &[u32],
+    masses: &[i32],
+    fills: &[u32],
     carry: &[i64],
     flags2: &mut [u8],
     parts2: &mut [i32],
-    mass2: &mut [i32],
+    masses2: &mut [i32],
     carry2: &mut [i64],
     marks: &mut [u8],
     calm: bool,
     s: Sides,
     g: Settings,
 ) -> bool
-    requires { ⌜ Turning s g (lent (now flags) (now parts) (now mass) (now fill) (now carry)) (now flags2) (now parts2) (now mass2) (now carry2) (now marks) calm ⌝ }
-    ensures { λ r. ⌜ Turned (sceneOf s g (lent (now (flags .entry)) (now (parts .entry)) (now (mass .entry)) (now (fill .entry)) (now (carry .entry)))) (cellsOf s) (now (flags2 .exit)) (now (parts2 .exit)) (now (mass2 .exit)) (now (carry2 .exit)) (now (marks .exit)) r ⌝ }
+    requires { ⌜ Turning s g (lent (now flags) (now parts) (now masses) (now fills) (now carry)) (now flags2) (now parts2) (now masses2) (now carry2) (now marks) calm ⌝ }
+    ensures { λ r. ⌜ Turned (sceneOf s g (lent (now (flags .entry)) (now (parts .entry)) (now (masses .entry)) (now (fills .entry)) (now (carry .entry)))) (cellsOf s) (now (flags2 .exit)) (now (parts2 .exit)) (now (masses2 .exit)) (now (carry2 .exit)) (now (marks .exit)) r ⌝ }
 {
     copying::copy_u8(flags, flags2);
     copying::copy_i64(carry, carry2);
@@ -71,12 +71,12 @@ pub fn turned(
     converted(
         flags,
         parts,
-        mass,
-        fill,
+        masses,
+        fills,
         carry,
         flags2,
         parts2,
-        mass2,
+        masses2,
         carry2,
         marks,
         s,

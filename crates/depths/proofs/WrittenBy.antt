@@ -2,7 +2,7 @@
 use mathlib.Core.Path.{_≡_, refl, sym, ap, _∙_}
 use mathlib.Core.Bool.{true, false, _&&_}
 use mathlib.Core.List.{List, _++_}
-use Prim.Native.Nat.{ℕ, suc, _≤_, _<_}
+use Prim.Native.Nat.{ℕ, _≤_, _<_}
 use native.Mathlib.Omega.{arith}
 use borrow.Author.Tests.{le-leb, lt-leb}
 use lib.Dec.{leb}
@@ -10,17 +10,15 @@ use lib.IntN.{natAbs}
 use lib.ListN.{length}
 use lib.Seq.{sets}
 use Rattle.whole.specs.laws.Bools.{and-left}
-use Rattle.lattice.specs.Lattice.{Lattice, d3q19}
 use Rattle.lattice.specs.Cell.{edgeGood, coordinateGood}
 use Rattle.grid.specs.declared.Sides.{Sides}
 use Rattle.grid.specs.declared.Answer.{Answer}
 use Rattle.grid.specs.declared.Answer.the-variants.{Done, Refused}
-use Rattle.grid.specs.Grid.{Grid, sidesGood, cellsOf, gridOf}
-use Rattle.grid.specs.State.{Lent, State, stateOf}
-use Rattle.grid.specs.Good.{badFlag, badFluid, badRule}
-use Rattle.grid.specs.Outcome.{accepted, orRefuse, ifNone, goodAnswer}
+use Rattle.grid.specs.Grid.{sidesGood, cellsOf}
+use Rattle.grid.specs.State.{Lent}
+use Rattle.grid.specs.Outcome.{accepted, orRefuse}
 use Rattle.grid.proofs.Accepted.{accepted-done, done-accepted}
-use Rattle.pumps.specs.Three.{numberIn, totalsGood, threeLengths, threeGood}
+use Rattle.pumps.specs.Three.{threeLengths, threeGood}
 use Rattle.pumps.proofs.Checked.{Passed, has-passed, then-checked}
 use Rattle.record.proofs.Answers.{Chain, chain-or, chain-both, chain-then, or-true, or-pass, or-fail}
 use Rattle.record.proofs.Assembled.{front-put}
@@ -28,22 +26,9 @@ use Rattle.depths.specs.declared.Corner.{Corner}
 use Rattle.depths.specs.inner.Asks.{Measured}
 use Rattle.depths.specs.Outcome.{mapOf, cornerGood, mapAnswer, mapWritten, mapRoom, Wrote}
 use Rattle.depths.proofs.Measuring.{measured}
+use Rattle.record.proofs.WrittenBy.{chain-three}
 
 -- ---- tests 1 to 6 in a row
-chain-good : (L : Lattice) (G : Grid) (s : State) → Chain (goodAnswer L G s)
-unfolding goodAnswer
-chain-good L G s =
-    let n = G .cells in
-    let four = badFlag G (s .flag) in
-    let five = badFluid (L .q) G (s .flag) in
-    let six = badRule L n s in
-    chain-then (ifNone n 4 four) (λ rest. ifNone n 5 five (ifNone (suc n) 6 six rest)) (chain-or (leb n four) 4 four)
-    (chain-then (ifNone n 5 five) (ifNone (suc n) 6 six) (chain-or (leb n five) 5 five) (chain-or (leb (suc n) six) 6 six))
-
-chain-three : (s : Sides) (a : Lent) → Chain (threeGood s a)
-chain-three s a =
-    let T = totalsGood (numberIn a 1) (numberIn a 2) in
-    chain-then (goodAnswer d3q19 (gridOf s) (stateOf 18 a)) (orRefuse T 6 (cellsOf s)) (chain-good d3q19 (gridOf s) (stateOf 18 a)) (chain-or T 6 (cellsOf s))
 
 module _ (s : Sides) (t : Corner) (a : Lent) where
   abbrev pub fits : Answer → Answer

@@ -8,38 +8,17 @@ use native.Mathlib.Omega.{arith}
 use lib.IntN.{ℤ, pos, natAbs, _-ℤ_}
 use lib.Dec.{eqb}
 use lib.ListN.{getD}
-use borrow.Author.Tests.{eq-eqb, ne-eqb, eqb-true, eqb-false}
-use Rattle.whole.specs.laws.Bools.{cond-yes, cond-no, or-cases, or-left, or-right}
+use borrow.Author.Tests.{eq-eqb, ne-eqb, eqb-false}
+use Rattle.whole.specs.laws.Bools.{cond-yes, cond-no, or-left, or-right}
 use Rattle.whole.specs.laws.Bounds.{abs-sub}
-use Rattle.whole.specs.Fold.{dirs, total, all, any, anyDir, tab, open-fold, Dir}
+use Rattle.whole.specs.Fold.{dirs, total, any, anyDir, tab, Dir}
 use Rattle.whole.specs.laws.Machine.{Within}
-use Rattle.whole.specs.laws.Search.{all-at}
 use Rattle.whole.specs.laws.Sums.{sum-cong}
-use Rattle.lattice.specs.Lattice.{d3q19, open-lattice}
 use Rattle.lattice.specs.Cell.{share}
 use Rattle.lattice.specs.inner.Held.{partsOf}
 use Rattle.excess.specs.inner.Gifts.{targetAt, evenAt, weightAt, ofDir, densityAt, excessAt, giftAt, giftFrom, Weighed, Giver}
 use Rattle.excess.proofs.Leans.{weight-counted, dir-at}
 use Rattle.excess.proofs.Portions.{share-le, share-cong, sum-pos}
-
--- ---- opposite directions: one computed test
-opposite-right : ℕ → Bool
-opposite-right i = eqb i 0 || eqb (d3q19 .opp i) (elim (eqb (i % 2) 1) [ true ↦ i + 1 | false ↦ i - 1 ])
-
-opposites-right : all 19 opposite-right ≡ true
-unfolding open-fold open-lattice opposite-right
-opposites-right = refl
-
-opposite-at : (i : ℕ) → Dir 18 i → eqb (d3q19 .opp i) (elim (eqb (i % 2) 1) [ true ↦ i + 1 | false ↦ i - 1 ]) ≡ true
-unfolding opposite-right
-opposite-at i d =
-    ⊎-elim (λ e. absurd (omega (arith, eqb-true i 0 e, d .some))) (λ e. e) (or-cases (eqb i 0) _ (all-at 19 opposite-right opposites-right i (omega (arith, d .most))))
-
-pub opposite-odd : (i : ℕ) → Dir 18 i → i % 2 ≡ 1 → i + 1 ≡ d3q19 .opp i
-opposite-odd i d h = let e : eqb (i % 2) 1 ≡ true = eq-eqb (i % 2) 1 h in sym (eqb-true (d3q19 .opp i) (i + 1) (rw e at (opposite-at i d)))
-
-pub opposite-even : (i : ℕ) → Dir 18 i → (i % 2 ≡ 1 → ⊥) → i - 1 ≡ d3q19 .opp i
-opposite-even i d h = let e : eqb (i % 2) 1 ≡ false = ne-eqb (i % 2) 1 h in sym (eqb-true (d3q19 .opp i) (i - 1) (rw e at (opposite-at i d)))
 
 -- ---- sizes
 pub excess-in : {Room : ℕ → Type 0} (part : ℕ → ℕ → ℤ) (masses : List ℤ) (m c : ℕ) → Weighed Room part masses c → Within (excessAt part masses m c) 46006272

@@ -5,6 +5,7 @@ use grid::cells::own;
 use grid::neighbours::low_of;
 use grid::neighbours::offsets;
 use grid::seeking::next_of;
+use lattice::directions::opposite;
 use lattice::moments::density;
 use surface::excess::given;
 use whole::wide;
@@ -13,22 +14,10 @@ ghost use mathlib.Core.Bool.{true};
 ghost use Prim.Native.Nat.{_<_, _-_};
 ghost use lib.ListN.{length, getD};
 ghost use Rattle.whole.specs.Fold.{tab, Dir};
-ghost use Rattle.lattice.specs.Lattice.{d3q19};
 ghost use Rattle.grid.specs.Grid.{cellsOf};
 ghost use Rattle.grid.specs.inner.Passes.{lowOf, offsetOf};
 ghost use Rattle.grid.specs.State.{partOf};
 ghost use Rattle.excess.specs.inner.Gifts.{roomOf, Weighed, Giver, Giving, Gathering, targetAt, excessAt, giftAt, giftFrom, receivedAt, gatheredAt};
-
-// The opposite of odd i is i + 1.
-pub fn opposite(i: usize) -> usize
-    requires { ⌜ Dir 18 i ⌝ }
-    ensures { λ r. ⌜ r ≡ d3q19 .opp i ⌝ }
-{
-    if i % 2 == 1 {
-        return i + 1;
-    }
-    i - 1
-}
 
 // The excess of cell c with mark m: mass less density for a filled cell, the mass for an emptied one.
 pub(crate) fn excess(parts: &[i32], masses: &[i32], m: u8, c: usize) -> i64
@@ -44,7 +33,7 @@ pub(crate) fn excess(parts: &[i32], masses: &[i32], m: u8, c: usize) -> i64
 // What cell c with mark m gives towards direction i, where it has a target.
 fn gift(
     flags: &[u8],
-    fill: &[u32],
+    fills: &[u32],
     parts: &[i32],
     masses: &[i32],
     off: &[usize; 19],
@@ -53,17 +42,17 @@ fn gift(
     m: u8,
     i: usize,
 ) -> i64
-    requires { ⌜ Giver (now flags) (now fill) (roomOf (now parts)) (partOf (now parts)) (now masses) (now off) low c × Dir 18 i × (targetAt (now flags) (now off) (c - low) i ≡ true) ⌝ }
-    ensures { λ r. ⌜ r ≡ giftAt (now (flags .entry)) (now (fill .entry)) (partOf (now (parts .entry))) (now (masses .entry)) (now (off .entry)) low c m i ⌝ }
+    requires { ⌜ Giver (now flags) (now fills) (roomOf (now parts)) (partOf (now parts)) (now masses) (now off) low c × Dir 18 i × (targetAt (now flags) (now off) (c - low) i ≡ true) ⌝ }
+    ensures { λ r. ⌜ r ≡ giftAt (now (flags .entry)) (now (fills .entry)) (partOf (now (parts .entry))) (now (masses .entry)) (now (off .entry)) low c m i ⌝ }
 {
-    let w = used_weights(flags, fill, off, c - low, m);
+    let w = used_weights(flags, fills, off, c - low, m);
     given(excess(parts, masses, m, c), w, i)
 }
 
 // What cell b gives towards direction i: nothing, where it is not marked.
 fn gift_from(
     flags: &[u8],
-    fill: &[u32],
+    fills: &[u32],
     parts: &[i32],
     masses: &[i32],
     marks: &[u8],
@@ -72,20 +61,20 @@ fn gift_from(
     b: usize,
     i: usize,
 ) -> i64
-    requires { ⌜ (b < length (now marks)) × Dir 18 i × ((getD (now marks) b 0 ≡ 0 → ⊥) → Giver (now flags) (now fill) (roomOf (now parts)) (partOf (now parts)) (now masses) (now off) low b × (targetAt (now flags) (now off) (b - low) i ≡ true)) ⌝ }
-    ensures { λ r. ⌜ r ≡ giftFrom (now (flags .entry)) (now (fill .entry)) (partOf (now (parts .entry))) (now (masses .entry)) (now (marks .entry)) (now (off .entry)) low b i ⌝ }
+    requires { ⌜ (b < length (now marks)) × Dir 18 i × ((getD (now marks) b 0 ≡ 0 → ⊥) → Giver (now flags) (now fills) (roomOf (now parts)) (partOf (now parts)) (now masses) (now off) low b × (targetAt (now flags) (now off) (b - low) i ≡ true)) ⌝ }
+    ensures { λ r. ⌜ r ≡ giftFrom (now (flags .entry)) (now (fills .entry)) (partOf (now (parts .entry))) (now (masses .entry)) (now (marks .entry)) (now (off .entry)) low b i ⌝ }
 {
     let m = marks[b];
     if m == 0 {
         return 0;
     }
-    gift(flags, fill, parts, masses, off, low, b, m, i)
+    gift(flags, fills, parts, masses, off, low, b, m, i)
 }
 
 // What the neighbours give to cell c.
 fn gifts(
     flags: &[u8],
-    fill: &[u32],
+    fills: &[u32],
     parts: &[i32],
     masses: &[i32],
     marks: &[u8],
@@ -93,8 +82,8 @@ fn gifts(
     low: usize,
     c: usize,
 ) -> i64
-    requires { ⌜ Giving (now flags) (now fill) (roomOf (now parts)) (partOf (now parts)) (now masses) (now marks) (now off) low × (c < length (now flags)) × (getD (now flags) c 0 ≡ 1) ⌝ }
-    ensures { λ r. ⌜ r ≡ receivedAt (now (flags .entry)) (now (fill .entry)) (partOf (now (parts .entry))) (now (masses .entry)) (now (marks .entry)) (now (off .entry)) low c ⌝ }
+    requires { ⌜ Giving (now flags) (now fills) (roomOf (now parts)) (partOf (now parts)) (now masses) (now marks) (now off) low × (c < length (now flags)) × (getD (now flags) c 0 ≡ 1) ⌝ }
+    ensures { λ r. ⌜ r ≡ receivedAt (now (flags .entry)) (now (fills .entry)) (partOf (now (parts .entry))) (now (masses .entry)) (now (marks .entry)) (now (off .entry)) low c ⌝ }
 {
     let k = c - low;
     let mut t: i64 = 0;
@@ -102,7 +91,7 @@ fn gifts(
     while i < 19 {
         t += gift_from(
             flags,
-            fill,
+            fills,
             parts,
             masses,
             marks,
@@ -117,16 +106,23 @@ fn gifts(
 }
 
 // Pass 6: each interface cell takes what its converted neighbours give. It reads masses of converted cells and writes others.
-pub fn gather(flags: &[u8], fill: &[u32], parts: &[i32], masses: &mut [i32], marks: &[u8], s: Sides)
-    requires { ⌜ Gathering s (now flags) (now fill) (now parts) (now masses) (now marks) ⌝ }
-    ensures { λ r. ⌜ now (masses .exit) ≡ tab (cellsOf s) (gatheredAt (now (flags .entry)) (now (fill .entry)) (partOf (now (parts .entry))) (now (masses .entry)) (now (marks .entry)) (tab 19 (offsetOf s)) (lowOf s)) ⌝ }
+pub fn gather(
+    flags: &[u8],
+    fills: &[u32],
+    parts: &[i32],
+    masses: &mut [i32],
+    marks: &[u8],
+    s: Sides,
+)
+    requires { ⌜ Gathering s (now flags) (now fills) (now parts) (now masses) (now marks) ⌝ }
+    ensures { λ r. ⌜ now (masses .exit) ≡ tab (cellsOf s) (gatheredAt (now (flags .entry)) (now (fills .entry)) (partOf (now (parts .entry))) (now (masses .entry)) (now (marks .entry)) (tab 19 (offsetOf s)) (lowOf s)) ⌝ }
 {
     let off = offsets(s);
     let low = low_of(s);
     let mut c = 0;
     while c < flags.len() {
         if flags[c] == 1 {
-            let t = gifts(flags, fill, parts, masses, marks, &off, low, c);
+            let t = gifts(flags, fills, parts, masses, marks, &off, low, c);
             masses[c] = (wide(masses[c]) + t) as i32;
         }
         c = next_of(flags, c + 1, 1);

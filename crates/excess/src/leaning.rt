@@ -13,11 +13,11 @@ ghost use Rattle.lattice.specs.inner.Held.{vec};
 ghost use Rattle.excess.specs.inner.Gifts.{Near, Filled, leaningAt, leanWeightAt, evenAt, weightAt, ofDir};
 
 // The normal, turned for an emptied cell.
-fn leaning(flags: &[u8], fill: &[u32], off: &[usize; 19], k: usize, m: u8) -> Flow
-    requires { ⌜ Near (length (now flags)) (now off) k × (length (now fill) ≡ length (now flags)) × Filled (now fill) ⌝ }
-    ensures { λ r. ⌜ vec r ≡ leaningAt (now (flags .entry)) (now (fill .entry)) (now (off .entry)) k m ⌝ }
+fn leaning(flags: &[u8], fills: &[u32], off: &[usize; 19], k: usize, m: u8) -> Flow
+    requires { ⌜ Near (length (now flags)) (now off) k × (length (now fills) ≡ length (now flags)) × Filled (now fills) ⌝ }
+    ensures { λ r. ⌜ vec r ≡ leaningAt (now (flags .entry)) (now (fills .entry)) (now (off .entry)) k m ⌝ }
 {
-    let n = normal(flags, fill, off, k);
+    let n = normal(flags, fills, off, k);
     if m == 1 {
         return n;
     }
@@ -59,11 +59,11 @@ pub fn evens(flags: &[u8], off: &[usize; 19], k: usize) -> [i64; 19]
 }
 
 // The weights by the normal, or even ones where those are all 0.
-pub fn used_weights(flags: &[u8], fill: &[u32], off: &[usize; 19], k: usize, m: u8) -> [i64; 19]
-    requires { ⌜ Near (length (now flags)) (now off) k × (length (now fill) ≡ length (now flags)) × Filled (now fill) ⌝ }
-    ensures { λ r. ⌜ r ≡ tab 19 (ofDir (weightAt (now (flags .entry)) (now (fill .entry)) (now (off .entry)) k m)) ⌝ }
+pub fn used_weights(flags: &[u8], fills: &[u32], off: &[usize; 19], k: usize, m: u8) -> [i64; 19]
+    requires { ⌜ Near (length (now flags)) (now off) k × (length (now fills) ≡ length (now flags)) × Filled (now fills) ⌝ }
+    ensures { λ r. ⌜ r ≡ tab 19 (ofDir (weightAt (now (flags .entry)) (now (fills .entry)) (now (off .entry)) k m)) ⌝ }
 {
-    let w = weights(flags, leaning(flags, fill, off, k, m), off, k);
+    let w = weights(flags, leaning(flags, fills, off, k, m), off, k);
     if total(w) == 0 {
         return evens(flags, off, k);
     }

@@ -20,29 +20,29 @@ fn plain_fill(f: u8) -> u32
 }
 
 // Every fill but those of interface cells; with nothing else in it this loop runs many cells at a time.
-pub fn plain_fills(flags: &[u8], fill: &mut [u32])
-    requires { ⌜ length (now fill) ≡ length (now flags) ⌝ }
-    ensures { λ r. ⌜ now (fill .exit) ≡ tab (length (now (flags .entry))) (plainAt (now (flags .entry))) ⌝ }
+pub fn plain_fills(flags: &[u8], fills: &mut [u32])
+    requires { ⌜ length (now fills) ≡ length (now flags) ⌝ }
+    ensures { λ r. ⌜ now (fills .exit) ≡ tab (length (now (flags .entry))) (plainAt (now (flags .entry))) ⌝ }
 {
     let mut c = 0;
     while c < flags.len() {
-        fill[c] = plain_fill(flags[c]);
+        fills[c] = plain_fill(flags[c]);
         c += 1;
     }
 }
 
 // The fill of every cell; whether every interface cell's mass is in its range.
-pub fn new_fills(flags: &[u8], parts: &[i32], mass: &[i32], fill: &mut [u32]) -> bool
-    requires { ⌜ Fillable (now flags) (now parts) (now mass) × (length (now fill) ≡ length (now flags)) ⌝ }
-    ensures { λ r. ⌜ Refilled (now (flags .entry)) (partOf (now (parts .entry))) (now (mass .entry)) (now (fill .exit)) r ⌝ }
+pub fn new_fills(flags: &[u8], parts: &[i32], masses: &[i32], fills: &mut [u32]) -> bool
+    requires { ⌜ Fillable (now flags) (now parts) (now masses) × (length (now fills) ≡ length (now flags)) ⌝ }
+    ensures { λ r. ⌜ Refilled (now (flags .entry)) (partOf (now (parts .entry))) (now (masses .entry)) (now (fills .exit)) r ⌝ }
 {
-    plain_fills(flags, fill);
+    plain_fills(flags, fills);
     let mut fair = true;
     let mut c = 0;
     while c < flags.len() {
         if flags[c] == 1 {
-            let m = wide(mass[c]);
-            fill[c] = interface_fill(parts, m, c);
+            let m = wide(masses[c]);
+            fills[c] = interface_fill(parts, m, c);
             fair = fair & fair_mass(m);
         }
         c = next_of(flags, c + 1, 1);

@@ -7,7 +7,7 @@ use native.Mathlib.Omega.{arith}
 use lib.Dec.{eqb}
 use lib.IntN.{ℤ, pos, _-ℤ_}
 use lib.ListN.{getD}
-use borrow.Author.Tests.{eq-eqb, ne-eqb, eqb-true}
+use borrow.Author.Tests.{ne-eqb, eqb-true}
 use Rattle.lattice.specs.Lattice.{dot, pairOpp, d3q19, density, momentum}
 use Rattle.lattice.specs.Cell.{gasPair}
 use Rattle.lattice.specs.declared.Settings.{Settings}
@@ -15,17 +15,9 @@ use Rattle.grid.specs.State.{Scene, byFlag, liquid}
 use Rattle.grid.specs.Step.{oldDensity, oldMomentum, leansTo, rebuilds, rebuiltPart, arrives, streamed}
 use Rattle.grid.specs.inner.Sight.{sight, Around}
 use Rattle.flow.specs.inner.Sources.{Mirrored, sourceOf, Immersed}
+use Rattle.flow.proofs.Trades.{odd-opp, even-opp}
 
 -- ---- opposite directions: an odd one and the one after it
-
-pub odd-opposite : (i : ℕ) → i % 2 ≡ 1 → pairOpp i ≡ i + 1
-odd-opposite zero e = absurd (omega arith)
-odd-opposite (suc a) e = ap (λ (b : Bool). cond b (suc (suc a)) a) (eq-eqb (a % 2) 0 (omega arith)) ∙ omega arith
-
-pub even-opposite : (i : ℕ) → i % 2 ≡ 1 → pairOpp (i + 1) ≡ i
-even-opposite i e =
-    let next : suc i ≡ i + 1 = omega arith in
-    subst (λ (n : ℕ). pairOpp n ≡ i) next (ap (λ (b : Bool). cond b (suc (suc i)) i) (ne-eqb (i % 2) 0 (λ z. omega arith)))
 
 -- the opposite of a direction is one
 pub opposite-some : (a : ℕ) → 0 < pairOpp (suc a)
@@ -123,13 +115,13 @@ module _ (weights : ℕ → ℕ) (flags : List ℕ) (part : ℕ → ℕ → ℤ)
   pub streamed-odd : (c i : ℕ) → i % 2 ≡ 1 → streamed S c i ≡ arrives S c (i + 1) i
   unfolding streamed sight d3q19
   streamed-odd c zero h = absurd (omega arith)
-  streamed-odd c (suc a) h = ap (λ (n : ℕ). arrives S c n (suc a)) (odd-opposite (suc a) h)
+  streamed-odd c (suc a) h = ap (λ (n : ℕ). arrives S c n (suc a)) (odd-opp (suc a) h)
 
   pub streamed-even : (c i : ℕ) → i % 2 ≡ 1 → streamed S c (i + 1) ≡ arrives S c i (i + 1)
   unfolding streamed sight d3q19
   streamed-even c i h =
       let e : i + 1 ≡ suc i = omega arith in
-      ap (streamed S c) e ∙ ap₂ (λ (n m : ℕ). arrives S c n m) (ap pairOpp (sym e) ∙ even-opposite i h) (sym e)
+      ap (streamed S c) e ∙ ap₂ (λ (n m : ℕ). arrives S c n m) (ap pairOpp (sym e) ∙ even-opp i h) (sym e)
 
 -- ---- places
 

@@ -11,7 +11,7 @@ use Rattle.lattice.specs.Lattice.{d3q19, density}
 use Rattle.lattice.specs.declared.Settings.{Settings}
 use Rattle.lattice.proofs.Fills.{fill-most}
 use Rattle.grid.specs.declared.Sides.{Sides}
-use Rattle.grid.specs.Grid.{cellsOf, sidesGood, gridOf, box}
+use Rattle.grid.specs.Grid.{cellsOf, gridOf, box}
 use Rattle.grid.specs.State.{Lent, lent, liquid, stateOf}
 use Rattle.grid.specs.Step.{fillFor}
 use Rattle.grid.specs.Good.{dryGood, interfaceGood, fluidGood, fillGood, cellGood}
@@ -20,10 +20,10 @@ use Rattle.grid.specs.inner.Passes.{Inner}
 use Rattle.grid.specs.inner.Sight.{Body, Bodied}
 use Rattle.grid.proofs.Beside.{Offsets, place-is}
 use Rattle.grid.proofs.Coordinates.{inner-of}
-use Rattle.grid.proofs.GoodSides.{good-sides}
 use Rattle.grid.proofs.Laid.{inner}
 use Rattle.grid.proofs.Prepared.{ready-sound, ready-cell, cell-body, cell-mass, cell-fill}
 use Rattle.flow.specs.inner.Trade.{Fills}
+use Rattle.grid.proofs.Inside.{few}
 
 -- no rule of a cell reads the carry
 alone : (a : Lent) (c : ℕ) → cellGood d3q19 (stateOf 18 a) c ≡ cellGood d3q19 (stateOf 18 (lent (a .flags) (a .parts) (a .masses) (a .fills) [])) c
@@ -44,10 +44,6 @@ poised s g a r = record {
   closed = ready-sound s g a r .closed;
   cells = λ c h. sym (alone a c) ∙ ready-cell s g a r c h;
 }
-
-pub few : (s : Sides) → sidesGood s ≡ true → cellsOf s ≤ 262144
-unfolding cellsOf
-few s h = good-sides s h .all
 
 -- no fill is above 65,536
 pub fill-cases : (f : ℕ) (m ρ : ℤ) → fillFor f m ρ ≤ 65536

@@ -6,7 +6,7 @@ use collision::gravity::pulled;
 use grid::cells::own;
 use grid::cells::paste;
 use lattice::Settings;
-use lattice::moments::flow_of;
+use lattice::directions::flow_of;
 use lattice::moments::steady;
 use lattice::rules::all_inside;
 use lattice::rules::all_zero;
@@ -94,7 +94,7 @@ fn dry_out(parts2: &mut [i32], c: usize)
 pub(crate) fn put_parts(
     flags: &[u8],
     parts: &[i32],
-    fill: &[u32],
+    fills: &[u32],
     parts2: &mut [i32],
     mark: u8,
     off: &[usize; 19],
@@ -104,12 +104,12 @@ pub(crate) fn put_parts(
     g: Settings,
     keep: u64,
 ) -> Put
-    requires { ⌜ Putting (now flags) (now parts) (now fill) (now parts2) mark (now off) (now from) low c g keep ⌝ }
-    ensures { λ r. ⌜ PutAt (boxSight (now (flags .entry)) (now (parts .entry)) [] (now (fill .entry)) (now (off .entry)) low g) c (now (parts2 .entry)) (now (parts2 .exit)) r ⌝ }
+    requires { ⌜ Putting (now flags) (now parts) (now fills) (now parts2) mark (now off) (now from) low c g keep ⌝ }
+    ensures { λ r. ⌜ PutAt (boxSight (now (flags .entry)) (now (parts .entry)) [] (now (fills .entry)) (now (off .entry)) low g) c (now (parts2 .entry)) (now (parts2 .exit)) r ⌝ }
 {
     if wet(flags[c]) {
         return put_moved(
-            chosen(flags, parts, fill, mark, off, from, low, c),
+            chosen(flags, parts, fills, mark, off, from, low, c),
             parts2,
             c,
             g,

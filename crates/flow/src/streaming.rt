@@ -3,8 +3,8 @@ use grid::cells::own;
 use grid::normal::normal;
 use lattice::Flow;
 use lattice::directions::dots;
+use lattice::directions::flow_of;
 use lattice::directions::weight_of;
-use lattice::moments::flow_of;
 use surface::stream::gas_pair;
 use whole::wide;
 ghost use mathlib.Core.Path.{_≡_};
@@ -51,12 +51,12 @@ fn streamed_open(parts: &[i32], from: &[usize; 19], a: usize) -> [i32; 19]
 }
 
 // n·e of each direction, once for all of them; a fluid cell has no such lean.
-pub fn leaning(flags: &[u8], fill: &[u32], off: &[usize; 19], low: usize, c: usize) -> [i32; 19]
-    requires { ⌜ Fills (now flags) (now fill) × Around (length (now flags)) (now off) low c ⌝ }
-    ensures { λ r. ⌜ r ≡ tab 19 (leanAt (now (flags .entry)) (now (fill .entry)) (now (off .entry)) low c) ⌝ }
+pub fn leaning(flags: &[u8], fills: &[u32], off: &[usize; 19], low: usize, c: usize) -> [i32; 19]
+    requires { ⌜ Fills (now flags) (now fills) × Around (length (now flags)) (now off) low c ⌝ }
+    ensures { λ r. ⌜ r ≡ tab 19 (leanAt (now (flags .entry)) (now (fills .entry)) (now (off .entry)) low c) ⌝ }
 {
     if flags[c] == 1 {
-        return dots(normal(flags, fill, off, c - low));
+        return dots(normal(flags, fills, off, c - low));
     }
     [0i32; 19]
 }
@@ -90,18 +90,18 @@ fn arriving(
 pub fn streamed(
     flags: &[u8],
     parts: &[i32],
-    fill: &[u32],
+    fills: &[u32],
     off: &[usize; 19],
     low: usize,
     c: usize,
 ) -> [i32; 19]
-    requires { ⌜ Bodied (now flags) (now parts) × Fills (now flags) (now fill) × Around (length (now flags)) (now off) low c × (liquid (getD (now flags) c 3) ≡ true) ⌝ }
-    ensures { λ r. ⌜ ((g : Settings) → r ≡ tab 19 (streamed (boxSight (now (flags .entry)) (now (parts .entry)) [] (now (fill .entry)) (now (off .entry)) low g) c)) ⌝ }
+    requires { ⌜ Bodied (now flags) (now parts) × Fills (now flags) (now fills) × Around (length (now flags)) (now off) low c × (liquid (getD (now flags) c 3) ≡ true) ⌝ }
+    ensures { λ r. ⌜ ((g : Settings) → r ≡ tab 19 (streamed (boxSight (now (flags .entry)) (now (parts .entry)) [] (now (fills .entry)) (now (off .entry)) low g) c)) ⌝ }
 {
     let k = c - low;
     let v = flow_of(own(parts, c));
     let d = dots(v);
-    let n = leaning(flags, fill, off, low, c);
+    let n = leaning(flags, fills, off, low, c);
     let mut f = [0i32; 19];
     f[0] = parts[19 * c];
     let mut i = 1;
@@ -127,18 +127,18 @@ pub fn streamed(
 pub(crate) fn chosen(
     flags: &[u8],
     parts: &[i32],
-    fill: &[u32],
+    fills: &[u32],
     mark: u8,
     off: &[usize; 19],
     from: &[usize; 19],
     low: usize,
     c: usize,
 ) -> [i32; 19]
-    requires { ⌜ Bodied (now flags) (now parts) × Fills (now flags) (now fill) × Around (length (now flags)) (now off) low c × (liquid (getD (now flags) c 3) ≡ true) × Mirrored (now off) low × (now from ≡ tab 19 (sourceOf (now off))) × (mark ≡ 1 → Immersed (now flags) (now off) low c) ⌝ }
-    ensures { λ r. ⌜ ((g : Settings) → r ≡ tab 19 (streamed (boxSight (now (flags .entry)) (now (parts .entry)) [] (now (fill .entry)) (now (off .entry)) low g) c)) ⌝ }
+    requires { ⌜ Bodied (now flags) (now parts) × Fills (now flags) (now fills) × Around (length (now flags)) (now off) low c × (liquid (getD (now flags) c 3) ≡ true) × Mirrored (now off) low × (now from ≡ tab 19 (sourceOf (now off))) × (mark ≡ 1 → Immersed (now flags) (now off) low c) ⌝ }
+    ensures { λ r. ⌜ ((g : Settings) → r ≡ tab 19 (streamed (boxSight (now (flags .entry)) (now (parts .entry)) [] (now (fills .entry)) (now (off .entry)) low g) c)) ⌝ }
 {
     if mark == 1 {
         return streamed_open(parts, from, 19 * (c - low));
     }
-    streamed(flags, parts, fill, off, low, c)
+    streamed(flags, parts, fills, off, low, c)
 }

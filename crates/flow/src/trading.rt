@@ -24,9 +24,9 @@ pub fn both(a: u32, b: u32) -> i64
 }
 
 // What cell c gains from cell b in direction i, whose opposite is k.
-fn traded(flags: &[u8], parts: &[i32], fill: &[u32], c: usize, b: usize, i: usize, k: usize) -> i64
-    requires { ⌜ Bodied (now flags) (now parts) × Fills (now flags) (now fill) × (c < length (now flags)) × (b < length (now flags)) × (i < 19) × (k < 19) ⌝ }
-    ensures { λ r. ⌜ r ≡ passed (now (flags .entry)) (partOf (now (parts .entry))) (now (fill .entry)) c b i k ⌝ }
+fn traded(flags: &[u8], parts: &[i32], fills: &[u32], c: usize, b: usize, i: usize, k: usize) -> i64
+    requires { ⌜ Bodied (now flags) (now parts) × Fills (now flags) (now fills) × (c < length (now flags)) × (b < length (now flags)) × (i < 19) × (k < 19) ⌝ }
+    ensures { λ r. ⌜ r ≡ passed (now (flags .entry)) (partOf (now (parts .entry))) (now (fills .entry)) c b i k ⌝ }
 {
     let f = flags[b];
     let d = difference(parts[19 * b + k], parts[19 * c + i]);
@@ -34,7 +34,7 @@ fn traded(flags: &[u8], parts: &[i32], fill: &[u32], c: usize, b: usize, i: usiz
         return d;
     }
     if f == 1 {
-        return surface::exchange::exchange(both(fill[c], fill[b]), d);
+        return surface::exchange::exchange(both(fills[c], fills[b]), d);
     }
     0
 }
@@ -43,21 +43,21 @@ fn traded(flags: &[u8], parts: &[i32], fill: &[u32], c: usize, b: usize, i: usiz
 fn traded_mass(
     flags: &[u8],
     parts: &[i32],
-    mass: &[i32],
-    fill: &[u32],
+    masses: &[i32],
+    fills: &[u32],
     off: &[usize; 19],
     low: usize,
     c: usize,
 ) -> i64
-    requires { ⌜ Traders (now flags) (now parts) (now mass) (now fill) × Around (length (now flags)) (now off) low c × (getD (now flags) c 3 ≡ 1) ⌝ }
-    ensures { λ r. ⌜ ((g : Settings) → r ≡ tradedMass (boxSight (now (flags .entry)) (now (parts .entry)) (now (mass .entry)) (now (fill .entry)) (now (off .entry)) low g) c) ⌝ }
+    requires { ⌜ Traders (now flags) (now parts) (now masses) (now fills) × Around (length (now flags)) (now off) low c × (getD (now flags) c 3 ≡ 1) ⌝ }
+    ensures { λ r. ⌜ ((g : Settings) → r ≡ tradedMass (boxSight (now (flags .entry)) (now (parts .entry)) (now (masses .entry)) (now (fills .entry)) (now (off .entry)) low g) c) ⌝ }
 {
     let k = c - low;
-    let mut m = wide(mass[c]);
+    let mut m = wide(masses[c]);
     let mut i = 1;
     while i < 19 {
-        m += traded(flags, parts, fill, c, k + off[i], i, i + 1);
-        m += traded(flags, parts, fill, c, k + off[i + 1], i + 1, i);
+        m += traded(flags, parts, fills, c, k + off[i], i, i + 1);
+        m += traded(flags, parts, fills, c, k + off[i + 1], i + 1, i);
         i += 2;
     }
     m
@@ -67,18 +67,18 @@ fn traded_mass(
 pub(crate) fn new_mass(
     flags: &[u8],
     parts: &[i32],
-    mass: &[i32],
-    fill: &[u32],
+    masses: &[i32],
+    fills: &[u32],
     off: &[usize; 19],
     low: usize,
     c: usize,
     rho: i32,
 ) -> i32
-    requires { ⌜ Traders (now flags) (now parts) (now mass) (now fill) × (c < length (now flags)) × (getD (now flags) c 3 ≡ 1 → Around (length (now flags)) (now off) low c) ⌝ }
-    ensures { λ r. ⌜ ((g : Settings) → r ≡ byFlag (getD (now (flags .entry)) c 3) rho (tradedMass (boxSight (now (flags .entry)) (now (parts .entry)) (now (mass .entry)) (now (fill .entry)) (now (off .entry)) low g) c) rho rho) ⌝ }
+    requires { ⌜ Traders (now flags) (now parts) (now masses) (now fills) × (c < length (now flags)) × (getD (now flags) c 3 ≡ 1 → Around (length (now flags)) (now off) low c) ⌝ }
+    ensures { λ r. ⌜ ((g : Settings) → r ≡ byFlag (getD (now (flags .entry)) c 3) rho (tradedMass (boxSight (now (flags .entry)) (now (parts .entry)) (now (masses .entry)) (now (fills .entry)) (now (off .entry)) low g) c) rho rho) ⌝ }
 {
     if flags[c] == 1 {
-        return traded_mass(flags, parts, mass, fill, off, low, c) as i32;
+        return traded_mass(flags, parts, masses, fills, off, low, c) as i32;
     }
     rho
 }

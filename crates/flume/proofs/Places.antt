@@ -13,14 +13,15 @@ use lib.ListN.{getD}
 use lib.Signed.{quotZ}
 use borrow.Author.Tests.{leb-true, ltb-true, eq-eqb, ne-eqb}
 use Rattle.whole.specs.laws.Bools.{and-left, and-right}
-use Rattle.whole.specs.Fold.{sum, any, all, count, first, dirs, anyDir, countDir, open-fold, Dir}
+use Rattle.whole.specs.Fold.{sum, all, first, dirs, anyDir, countDir, open-fold, Dir}
 use Rattle.whole.specs.laws.Quot.{zero-quot}
 use Rattle.whole.specs.laws.Ring.{ring-by, quotes}
-use Rattle.whole.specs.laws.Search.{as-dir, first-cong}
+use Rattle.whole.specs.laws.Search.{as-dir, first-cong, any-cong}
 use Rattle.whole.specs.laws.Sums.{sum-cong, sum-first}
 use Rattle.lattice.specs.Cell.{isPositive, cutShare, remainder, lowestDir, share}
 use Rattle.grid.proofs.Same.{all-same}
 use Rattle.flume.specs.inner.Spread.{wide, narrow, idle, spread, Idle, Spreads}
+use Rattle.whole.specs.laws.Counts.{count-cong}
 
 -- ---- the places one by one
 
@@ -119,11 +120,6 @@ module _ (f g : ℕ → ℤ) (at : (k : ℕ) → Dir 8 k → f (wide k) ≡ g k)
 
 -- ---- tests
 
-any-cong : (n : ℕ) (f g : ℕ → Bool) → ((a : ℕ) → a < n → f a ≡ g a) → any n f ≡ any n g
-unfolding open-fold
-any-cong zero f g h = refl
-any-cong (suc n) f g h = ap₂ (λ (x y : Bool). x || y) (any-cong n f g (λ a k. h a (omega arith))) (h n (omega arith))
-
 or-no : (a : Bool) → (a || false) ≡ a
 or-no true = refl
 or-no false = refl
@@ -170,11 +166,6 @@ tests-same f g e at off = all-same 19 f (spread true g) go ∙ all-spread g
     go (suc a) h = is-spread true f g at off (suc a) (as-dir (le-of-suc-le-suc h))
 
 -- ---- counts
-
-count-cong : (n : ℕ) (f g : ℕ → Bool) → ((a : ℕ) → a < n → f a ≡ g a) → count n f ≡ count n g
-unfolding open-fold
-count-cong zero f g h = refl
-count-cong (suc n) f g h = ap₂ (λ (x : ℕ) (b : Bool). x + cond b 1 0) (count-cong n f g (λ a k. h a (omega arith))) (h n (omega arith))
 
 count-spread : (g : ℕ → Bool) → countDir 18 (spread false g) ≡ countDir 8 g
 unfolding open-fold spread narrow idle
@@ -236,7 +227,7 @@ narrow-wide (suc (suc (suc (suc (suc (suc (suc zero))))))) = inl (omega arith, r
 narrow-wide (suc (suc (suc (suc (suc (suc (suc (suc zero)))))))) = inl (omega arith, refl)
 narrow-wide (suc (suc (suc (suc (suc (suc (suc (suc (suc n))))))))) = inr refl
 
-narrow-back : (k : ℕ) → k ≤ 8 → narrow (wide k) ≡ k
+pub narrow-back : (k : ℕ) → k ≤ 8 → narrow (wide k) ≡ k
 unfolding narrow wide
 narrow-back = by-nine (λ k. narrow (wide k) ≡ k) refl (by-eight (λ k. narrow (wide k) ≡ k) refl refl refl refl refl refl refl refl)
 

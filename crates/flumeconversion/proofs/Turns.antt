@@ -38,6 +38,7 @@ use Rattle.flumeconversion.specs.inner.Settled.{Settling, Settled}
 use Rattle.flumeconversion.specs.inner.Born.{Fertile9, Peopled9}
 use Rattle.flumeconversion.specs.inner.Turned.{FlumeTurning, FlumeTurned}
 use Rattle.flumeconversion.proofs.Fields.{flumeField, flume-sound}
+use Rattle.conversion.proofs.Converts.{single}
 
 -- ---- what the passes of stage 6 ask, in a list of nine parts a cell
 module _ {F : Field} {flags fills : List ℕ} (parts : List ℤ) {masses : List ℤ} {marks : List ℕ} (w : Midway F flags fills (partOf9 parts) masses marks) (count : length parts ≡ 9 * F .cells) where
@@ -65,12 +66,6 @@ module _ {F : Field} {flags fills : List ℕ} (parts : List ℤ) {masses : List 
     masses-there = e ∙ sym (marks-count w);
     each = countable w room;
   }
-
--- a list of one is its element, and holds what is stored to it
-single : (xs : List ℤ) → length xs ≡ 1 → xs ≡ getD xs 0 (pos 0) ∷ []
-single [] e = absurd (omega arith)
-single (x ∷ []) e = refl
-single (x ∷ (y ∷ xs)) e = absurd (omega arith)
 
 set-single : (xs : List ℤ) (z : ℤ) → length xs ≡ 1 → set xs 0 z ≡ z ∷ []
 set-single [] z e = absurd (omega arith)

@@ -10,7 +10,7 @@ use grid::kinds::is_liquid;
 use grid::seeking::next_of;
 use lattice::Flow;
 use lattice::Settings;
-use lattice::moments::flow_of;
+use lattice::directions::flow_of;
 use lattice::rules::fair_parts;
 use nine::cells::paste9;
 use nine::equilibrium::equilibrium9;
@@ -30,16 +30,16 @@ ghost use Rattle.flumeconversion.specs.inner.Born.{Tested9, Fertile9, Pl
 fn flow_at9(
     flags: &[u8],
     parts: &[i32],
-    fill: &[u32],
+    fills: &[u32],
     off: &[usize; 19],
     low: usize,
     b: usize,
     g: Settings,
 ) -> Flow
-    requires { ⌜ Tested9 (now flags) (now parts) (now fill) (now off) low g × (b < length (now flags)) × (liquid (getD (now flags) b 3) ≡ true) ⌝ }
-    ensures { λ r. ⌜ NewFlow (sight9 (now (flags .entry)) (now (parts .entry)) [] (now (fill .entry)) (now (off .entry)) low g) b r ⌝ }
+    requires { ⌜ Tested9 (now flags) (now parts) (now fills) (now off) low g × (b < length (now flags)) × (liquid (getD (now flags) b 3) ≡ true) ⌝ }
+    ensures { λ r. ⌜ NewFlow (sight9 (now (flags .entry)) (now (parts .entry)) [] (now (fills .entry)) (now (off .entry)) low g) b r ⌝ }
 {
-    pulled(flow_of(streamed9(flags, parts, fill, off, low, b)), g)
+    pulled(flow_of(streamed9(flags, parts, fills, off, low, b)), g)
 }
 
 // The sums with cell b, where it was liquid.
@@ -47,17 +47,17 @@ fn with_cell9(
     t: Sum,
     flags: &[u8],
     parts: &[i32],
-    fill: &[u32],
+    fills: &[u32],
     off: &[usize; 19],
     low: usize,
     b: usize,
     g: Settings,
 ) -> Sum
-    requires { ⌜ Tested9 (now flags) (now parts) (now fill) (now off) low g × (b < length (now flags)) × Roomy t ⌝ }
-    ensures { λ r. ⌜ Added (sight9 (now (flags .entry)) (now (parts .entry)) [] (now (fill .entry)) (now (off .entry)) low g) t b r ⌝ }
+    requires { ⌜ Tested9 (now flags) (now parts) (now fills) (now off) low g × (b < length (now flags)) × Roomy t ⌝ }
+    ensures { λ r. ⌜ Added (sight9 (now (flags .entry)) (now (parts .entry)) [] (now (fills .entry)) (now (off .entry)) low g) t b r ⌝ }
 {
     if is_liquid(flags[b]) {
-        return joined(t, flow_at9(flags, parts, fill, off, low, b, g));
+        return joined(t, flow_at9(flags, parts, fills, off, low, b, g));
     }
     t
 }
@@ -66,14 +66,14 @@ fn with_cell9(
 fn mean_flow9(
     flags: &[u8],
     parts: &[i32],
-    fill: &[u32],
+    fills: &[u32],
     off: &[usize; 19],
     low: usize,
     c: usize,
     g: Settings,
 ) -> Flow
-    requires { ⌜ Tested9 (now flags) (now parts) (now fill) (now off) low g × Around (length (now flags)) (now off) low c × (0 < liquidNear (sight9 (now flags) (now parts) [] (now fill) (now off) low g) c) ⌝ }
-    ensures { λ r. ⌜ Begins (sight9 (now (flags .entry)) (now (parts .entry)) [] (now (fill .entry)) (now (off .entry)) low g) c r ⌝ }
+    requires { ⌜ Tested9 (now flags) (now parts) (now fills) (now off) low g × Around (length (now flags)) (now off) low c × (0 < liquidNear (sight9 (now flags) (now parts) [] (now fills) (now off) low g) c) ⌝ }
+    ensures { λ r. ⌜ Begins (sight9 (now (flags .entry)) (now (parts .entry)) [] (now (fills .entry)) (now (off .entry)) low g) c r ⌝ }
 {
     let k = c - low;
     let mut t = Sum {
@@ -85,7 +85,7 @@ fn mean_flow9(
     };
     let mut i = 1;
     while i < 19 {
-        t = with_cell9(t, flags, parts, fill, off, low, k + off[i], g);
+        t = with_cell9(t, flags, parts, fills, off, low, k + off[i], g);
         i += 1;
     }
     mean(t)
@@ -95,17 +95,17 @@ fn mean_flow9(
 fn put_born9(
     flags: &[u8],
     parts: &[i32],
-    fill: &[u32],
+    fills: &[u32],
     parts2: &mut [i32],
     off: &[usize; 19],
     low: usize,
     c: usize,
     g: Settings,
 ) -> bool
-    requires { ⌜ Tested9 (now flags) (now parts) (now fill) (now off) low g × Around (length (now flags)) (now off) low c × (0 < liquidNear (sight9 (now flags) (now parts) [] (now fill) (now off) low g) c) × (9 * c + 9 ≤ length (now parts2)) ⌝ }
-    ensures { λ r. ⌜ Placed9 (sight9 (now (flags .entry)) (now (parts .entry)) [] (now (fill .entry)) (now (off .entry)) low g) c (now (parts2 .entry)) (now (parts2 .exit)) r ⌝ }
+    requires { ⌜ Tested9 (now flags) (now parts) (now fills) (now off) low g × Around (length (now flags)) (now off) low c × (0 < liquidNear (sight9 (now flags) (now parts) [] (now fills) (now off) low g) c) × (9 * c + 9 ≤ length (now parts2)) ⌝ }
+    ensures { λ r. ⌜ Placed9 (sight9 (now (flags .entry)) (now (parts .entry)) [] (now (fills .entry)) (now (off .entry)) low g) c (now (parts2 .entry)) (now (parts2 .exit)) r ⌝ }
 {
-    let v = equilibrium9(mean_flow9(flags, parts, fill, off, low, c, g));
+    let v = equilibrium9(mean_flow9(flags, parts, fills, off, low, c, g));
     paste9(parts2, c, v);
     fair_parts(v)
 }
@@ -114,7 +114,7 @@ fn put_born9(
 fn visit9(
     flags: &[u8],
     parts: &[i32],
-    fill: &[u32],
+    fills: &[u32],
     flags2: &[u8],
     parts2: &mut [i32],
     off: &[usize; 19],
@@ -122,11 +122,11 @@ fn visit9(
     c: usize,
     g: Settings,
 ) -> bool
-    requires { ⌜ Fertile9 (now flags) (now parts) (now fill) (now off) low g (now flags2) × (c < length (now flags)) × (length (now parts2) ≡ 9 * length (now flags)) ⌝ }
-    ensures { λ r. ⌜ Visited9 (sight9 (now (flags .entry)) (now (parts .entry)) [] (now (fill .entry)) (now (off .entry)) low g) (newlyBorn (now (flags .entry)) (now (flags2 .entry))) c (now (parts2 .entry)) (now (parts2 .exit)) r ⌝ }
+    requires { ⌜ Fertile9 (now flags) (now parts) (now fills) (now off) low g (now flags2) × (c < length (now flags)) × (length (now parts2) ≡ 9 * length (now flags)) ⌝ }
+    ensures { λ r. ⌜ Visited9 (sight9 (now (flags .entry)) (now (parts .entry)) [] (now (fills .entry)) (now (off .entry)) low g) (newlyBorn (now (flags .entry)) (now (flags2 .entry))) c (now (parts2 .entry)) (now (parts2 .exit)) r ⌝ }
 {
     if is_newborn(flags[c], flags2[c]) {
-        return put_born9(flags, parts, fill, parts2, off, low, c, g);
+        return put_born9(flags, parts, fills, parts2, off, low, c, g);
     }
     true
 }
@@ -135,20 +135,20 @@ fn visit9(
 pub fn newborn9(
     flags: &[u8],
     parts: &[i32],
-    fill: &[u32],
+    fills: &[u32],
     flags2: &[u8],
     parts2: &mut [i32],
     off: &[usize; 19],
     low: usize,
     g: Settings,
 ) -> bool
-    requires { ⌜ Fertile9 (now flags) (now parts) (now fill) (now off) low g (now flags2) × (length (now parts2) ≡ 9 * length (now flags)) ⌝ }
-    ensures { λ r. ⌜ Peopled9 (sight9 (now (flags .entry)) (now (parts .entry)) [] (now (fill .entry)) (now (off .entry)) low g) (newlyBorn (now (flags .entry)) (now (flags2 .entry))) (length (now (flags .entry))) (now (parts2 .entry)) (now (parts2 .exit)) r ⌝ }
+    requires { ⌜ Fertile9 (now flags) (now parts) (now fills) (now off) low g (now flags2) × (length (now parts2) ≡ 9 * length (now flags)) ⌝ }
+    ensures { λ r. ⌜ Peopled9 (sight9 (now (flags .entry)) (now (parts .entry)) [] (now (fills .entry)) (now (off .entry)) low g) (newlyBorn (now (flags .entry)) (now (flags2 .entry))) (length (now (flags .entry))) (now (parts2 .entry)) (now (parts2 .exit)) r ⌝ }
 {
     let mut fair = true;
     let mut c = 0;
     while c < flags.len() {
-        fair = fair & visit9(flags, parts, fill, flags2, parts2, off, low, c, g);
+        fair = fair & visit9(flags, parts, fills, flags2, parts2, off, low, c, g);
         c = next_of(flags2, c + 1, 1);
     }
     fair

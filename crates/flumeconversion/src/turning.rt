@@ -19,29 +19,29 @@ ghost use Rattle.flumeconversion.specs.inner.Turned.{FlumeTurning, Flume
 fn converted9(
     flags: &[u8],
     parts: &[i32],
-    mass: &[i32],
-    fill: &[u32],
+    masses: &[i32],
+    fills: &[u32],
     carry: &[i64],
     flags2: &mut [u8],
     parts2: &mut [i32],
-    mass2: &mut [i32],
+    masses2: &mut [i32],
     carry2: &mut [i64],
     marks: &mut [u8],
     s: FlumeSides,
     g: Settings,
 ) -> bool
-    requires { ⌜ FlumeTurning s g (lent (now flags) (now parts) (now mass) (now fill) (now carry)) (now flags2) (now parts2) (now mass2) (now carry2) (now marks) false × (now flags2 ≡ now flags) ⌝ }
-    ensures { λ r. ⌜ FlumeTurned s g (lent (now (flags .entry)) (now (parts .entry)) (now (mass .entry)) (now (fill .entry)) (now (carry .entry))) (now (flags2 .exit)) (now (parts2 .exit)) (now (mass2 .exit)) (now (carry2 .exit)) (now (marks .exit)) r ⌝ }
+    requires { ⌜ FlumeTurning s g (lent (now flags) (now parts) (now masses) (now fills) (now carry)) (now flags2) (now parts2) (now masses2) (now carry2) (now marks) false × (now flags2 ≡ now flags) ⌝ }
+    ensures { λ r. ⌜ FlumeTurned s g (lent (now (flags .entry)) (now (parts .entry)) (now (masses .entry)) (now (fills .entry)) (now (carry .entry))) (now (flags2 .exit)) (now (parts2 .exit)) (now (masses2 .exit)) (now (carry2 .exit)) (now (marks .exit)) r ⌝ }
 {
     let off = neighbours::offsets(s);
     let low = neighbours::low_of(s);
     emptying::settle_marks_by(marks, &off, low);
     passes::new_flags9(flags, marks, flags2, &off, low);
-    let a = birth::newborn9(flags, parts, fill, flags2, parts2, &off, low, g);
-    let k = straying::new_carry9(flags2, parts2, mass2, marks, carry[0], &off, low);
+    let a = birth::newborn9(flags, parts, fills, flags2, parts2, &off, low, g);
+    let k = straying::new_carry9(flags2, parts2, masses2, marks, carry[0], &off, low);
     carry2[0] = k;
-    giving::gather9(flags2, fill, parts2, mass2, marks, &off, low);
-    settling::settle9(parts2, mass2, marks);
+    giving::gather9(flags2, fills, parts2, masses2, marks, &off, low);
+    settling::settle9(parts2, masses2, marks);
     a & fair_carry(k)
 }
 
@@ -49,20 +49,20 @@ fn converted9(
 pub fn turned9(
     flags: &[u8],
     parts: &[i32],
-    mass: &[i32],
-    fill: &[u32],
+    masses: &[i32],
+    fills: &[u32],
     carry: &[i64],
     flags2: &mut [u8],
     parts2: &mut [i32],
-    mass2: &mut [i32],
+    masses2: &mut [i32],
     carry2: &mut [i64],
     marks: &mut [u8],
     calm: bool,
     s: FlumeSides,
     g: Settings,
 ) -> bool
-    requires { ⌜ FlumeTurning s g (lent (now flags) (now parts) (now mass) (now fill) (now carry)) (now flags2) (now parts2) (now mass2) (now carry2) (now marks) calm ⌝ }
-    ensures { λ r. ⌜ FlumeTurned s g (lent (now (flags .entry)) (now (parts .entry)) (now (mass .entry)) (now (fill .entry)) (now (carry .entry))) (now (flags2 .exit)) (now (parts2 .exit)) (now (mass2 .exit)) (now (carry2 .exit)) (now (marks .exit)) r ⌝ }
+    requires { ⌜ FlumeTurning s g (lent (now flags) (now parts) (now masses) (now fills) (now carry)) (now flags2) (now parts2) (now masses2) (now carry2) (now marks) calm ⌝ }
+    ensures { λ r. ⌜ FlumeTurned s g (lent (now (flags .entry)) (now (parts .entry)) (now (masses .entry)) (now (fills .entry)) (now (carry .entry))) (now (flags2 .exit)) (now (parts2 .exit)) (now (masses2 .exit)) (now (carry2 .exit)) (now (marks .exit)) r ⌝ }
 {
     copying::copy_u8(flags, flags2);
     copying::copy_i64(carry, carry2);
@@ -72,12 +72,12 @@ pub fn turned9(
     converted9(
         flags,
         parts,
-        mass,
-        fill,
+        masses,
+        fills,
         carry,
         flags2,
         parts2,
-        mass2,
+        masses2,
         carry2,
         marks,
         s,

@@ -1,7 +1,7 @@
 // Stage 6 in the flume: what converted cells give to the interface cells beside them. An idle place leads to the cell itself, which takes and so gives nothing.
-use excess::giving::opposite;
 use excess::leaning::used_weights;
 use grid::seeking::next_of;
+use lattice::directions::opposite;
 use lattice::moments::density;
 use nine::cells::own9;
 use surface::excess::given;
@@ -29,7 +29,7 @@ pub(crate) fn excess9(parts: &[i32], masses: &[i32], m: u8, c: usize) -> i64
 // What cell c with mark m gives towards place i, where it has a target.
 fn gift9(
     flags: &[u8],
-    fill: &[u32],
+    fills: &[u32],
     parts: &[i32],
     masses: &[i32],
     off: &[usize; 19],
@@ -38,17 +38,17 @@ fn gift9(
     m: u8,
     i: usize,
 ) -> i64
-    requires { ⌜ Giver (now flags) (now fill) (roomOf9 (now parts)) (partOf9 (now parts)) (now masses) (now off) low c × Dir 18 i × (targetAt (now flags) (now off) (c - low) i ≡ true) ⌝ }
-    ensures { λ r. ⌜ r ≡ giftAt (now (flags .entry)) (now (fill .entry)) (partOf9 (now (parts .entry))) (now (masses .entry)) (now (off .entry)) low c m i ⌝ }
+    requires { ⌜ Giver (now flags) (now fills) (roomOf9 (now parts)) (partOf9 (now parts)) (now masses) (now off) low c × Dir 18 i × (targetAt (now flags) (now off) (c - low) i ≡ true) ⌝ }
+    ensures { λ r. ⌜ r ≡ giftAt (now (flags .entry)) (now (fills .entry)) (partOf9 (now (parts .entry))) (now (masses .entry)) (now (off .entry)) low c m i ⌝ }
 {
-    let w = used_weights(flags, fill, off, c - low, m);
+    let w = used_weights(flags, fills, off, c - low, m);
     given(excess9(parts, masses, m, c), w, i)
 }
 
 // What cell b gives towards place i: nothing, where it is not marked.
 fn gift_from9(
     flags: &[u8],
-    fill: &[u32],
+    fills: &[u32],
     parts: &[i32],
     masses: &[i32],
     marks: &[u8],
@@ -57,20 +57,20 @@ fn gift_from9(
     b: usize,
     i: usize,
 ) -> i64
-    requires { ⌜ (b < length (now marks)) × Dir 18 i × ((getD (now marks) b 0 ≡ 0 → ⊥) → Giver (now flags) (now fill) (roomOf9 (now parts)) (partOf9 (now parts)) (now masses) (now off) low b × (targetAt (now flags) (now off) (b - low) i ≡ true)) ⌝ }
-    ensures { λ r. ⌜ r ≡ giftFrom (now (flags .entry)) (now (fill .entry)) (partOf9 (now (parts .entry))) (now (masses .entry)) (now (marks .entry)) (now (off .entry)) low b i ⌝ }
+    requires { ⌜ (b < length (now marks)) × Dir 18 i × ((getD (now marks) b 0 ≡ 0 → ⊥) → Giver (now flags) (now fills) (roomOf9 (now parts)) (partOf9 (now parts)) (now masses) (now off) low b × (targetAt (now flags) (now off) (b - low) i ≡ true)) ⌝ }
+    ensures { λ r. ⌜ r ≡ giftFrom (now (flags .entry)) (now (fills .entry)) (partOf9 (now (parts .entry))) (now (masses .entry)) (now (marks .entry)) (now (off .entry)) low b i ⌝ }
 {
     let m = marks[b];
     if m == 0 {
         return 0;
     }
-    gift9(flags, fill, parts, masses, off, low, b, m, i)
+    gift9(flags, fills, parts, masses, off, low, b, m, i)
 }
 
 // What the neighbours give to cell c.
 fn gifts9(
     flags: &[u8],
-    fill: &[u32],
+    fills: &[u32],
     parts: &[i32],
     masses: &[i32],
     marks: &[u8],
@@ -78,8 +78,8 @@ fn gifts9(
     low: usize,
     c: usize,
 ) -> i64
-    requires { ⌜ Giving (now flags) (now fill) (roomOf9 (now parts)) (partOf9 (now parts)) (now masses) (now marks) (now off) low × (c < length (now flags)) × (getD (now flags) c 0 ≡ 1) ⌝ }
-    ensures { λ r. ⌜ r ≡ receivedAt (now (flags .entry)) (now (fill .entry)) (partOf9 (now (parts .entry))) (now (masses .entry)) (now (marks .entry)) (now (off .entry)) low c ⌝ }
+    requires { ⌜ Giving (now flags) (now fills) (roomOf9 (now parts)) (partOf9 (now parts)) (now masses) (now marks) (now off) low × (c < length (now flags)) × (getD (now flags) c 0 ≡ 1) ⌝ }
+    ensures { λ r. ⌜ r ≡ receivedAt (now (flags .entry)) (now (fills .entry)) (partOf9 (now (parts .entry))) (now (masses .entry)) (now (marks .entry)) (now (off .entry)) low c ⌝ }
 {
     let k = c - low;
     let mut t: i64 = 0;
@@ -87,7 +87,7 @@ fn gifts9(
     while i < 19 {
         t += gift_from9(
             flags,
-            fill,
+            fills,
             parts,
             masses,
             marks,
@@ -104,20 +104,20 @@ fn gifts9(
 // Pass 6: each interface cell takes what its converted neighbours give. It reads masses of converted cells and writes others.
 pub fn gather9(
     flags: &[u8],
-    fill: &[u32],
+    fills: &[u32],
     parts: &[i32],
     masses: &mut [i32],
     marks: &[u8],
     off: &[usize; 19],
     low: usize,
 )
-    requires { ⌜ Gathering (now flags) (now fill) (now parts) (now masses) (now marks) (now off) low ⌝ }
-    ensures { λ r. ⌜ now (masses .exit) ≡ tab (length (now (flags .entry))) (gatheredAt (now (flags .entry)) (now (fill .entry)) (partOf9 (now (parts .entry))) (now (masses .entry)) (now (marks .entry)) (now (off .entry)) low) ⌝ }
+    requires { ⌜ Gathering (now flags) (now fills) (now parts) (now masses) (now marks) (now off) low ⌝ }
+    ensures { λ r. ⌜ now (masses .exit) ≡ tab (length (now (flags .entry))) (gatheredAt (now (flags .entry)) (now (fills .entry)) (partOf9 (now (parts .entry))) (now (masses .entry)) (now (marks .entry)) (now (off .entry)) low) ⌝ }
 {
     let mut c = 0;
     while c < flags.len() {
         if flags[c] == 1 {
-            let t = gifts9(flags, fill, parts, masses, marks, off, low, c);
+            let t = gifts9(flags, fills, parts, masses, marks, off, low, c);
             masses[c] = (wide(masses[c]) + t) as i32;
         }
         c = next_of(flags, c + 1, 1);

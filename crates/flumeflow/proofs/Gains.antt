@@ -13,8 +13,7 @@ use Rattle.lattice.specs.declared.Settings.{Settings}
 use Rattle.grid.specs.Step.{traded, tradedMass}
 use Rattle.grid.specs.inner.Sight.{sight, Around}
 use Rattle.flow.specs.inner.Trade.{Trading, passed}
-use Rattle.flow.proofs.Arrivals.{odd-opposite, even-opposite}
-use Rattle.flow.proofs.Trades.{amassed, amassed-within, gain, gain-is}
+use Rattle.flow.proofs.Trades.{amassed, amassed-within, gain, gain-is, odd-opp, even-opp}
 use Rattle.flow.proofs.Trades as trades
 use Rattle.flume.specs.inner.Spread.{wide, spreadLattice}
 use Rattle.flume.proofs.Places.{dirs-same, wide-dir}
@@ -34,12 +33,12 @@ module _ (flags : List ℕ) (parts masses : List ℤ) (fills off : List ℕ) (lo
   -- as the loop takes them, two directions a turn
   pub first-is : (k : ℕ) → Paired k → passed flags (partOf9 parts) fills c ((c - low) + getD off (wide k) 0) (wide k) (wide (k + 1)) ≡ gain9 k
   unfolding gain9 gain
-  first-is k p = ap (passed flags (partOf9 parts) fills c ((c - low) + getD off (wide k) 0) (wide k)) (p .next ∙ sym (odd-opposite (wide k) (p .odd)))
+  first-is k p = ap (passed flags (partOf9 parts) fills c ((c - low) + getD off (wide k) 0) (wide k)) (p .next ∙ sym (odd-opp (wide k) (p .odd)))
 
   pub second-is : (k : ℕ) → Paired k → passed flags (partOf9 parts) fills c ((c - low) + getD off (wide k + 1) 0) (wide (k + 1)) (wide k) ≡ gain9 (k + 1)
   unfolding gain9 gain
   second-is k p =
-      ap₂ (λ (i m : ℕ). passed flags (partOf9 parts) fills c ((c - low) + getD off i 0) (wide (k + 1)) m) (sym (p .next)) (sym (even-opposite (wide k) (p .odd)) ∙ ap pairOpp (sym (p .next)))
+      ap₂ (λ (i m : ℕ). passed flags (partOf9 parts) fills c ((c - low) + getD off i 0) (wide (k + 1)) m) (sym (p .next)) (sym (even-opp (wide k) (p .odd)) ∙ ap pairOpp (sym (p .next)))
 
   pub gained-all : (g : Settings) → gained9 8 ≡ tradedMass (sight9 flags parts masses fills off low g) c
   unfolding gained9 amassed gain9 gain passed tradedMass sight d3q19

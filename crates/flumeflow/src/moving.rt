@@ -6,7 +6,7 @@ use flow::moving::Put;
 use grid::kinds::is_liquid;
 use lattice::Flow;
 use lattice::Settings;
-use lattice::moments::flow_of;
+use lattice::directions::flow_of;
 use lattice::moments::steady;
 use lattice::rules::all_inside;
 use lattice::rules::all_zero;
@@ -96,7 +96,7 @@ fn dry_out9(parts2: &mut [i32], c: usize)
 pub(crate) fn put_parts9(
     flags: &[u8],
     parts: &[i32],
-    fill: &[u32],
+    fills: &[u32],
     parts2: &mut [i32],
     mark: u8,
     off: &[usize; 19],
@@ -106,12 +106,12 @@ pub(crate) fn put_parts9(
     g: Settings,
     keep: u64,
 ) -> Put
-    requires { ⌜ Putting9 (now flags) (now parts) (now fill) (now parts2) mark (now off) (now from) low c g keep ⌝ }
-    ensures { λ r. ⌜ PutAt9 (sight9 (now (flags .entry)) (now (parts .entry)) [] (now (fill .entry)) (now (off .entry)) low g) c (now (parts2 .entry)) (now (parts2 .exit)) r ⌝ }
+    requires { ⌜ Putting9 (now flags) (now parts) (now fills) (now parts2) mark (now off) (now from) low c g keep ⌝ }
+    ensures { λ r. ⌜ PutAt9 (sight9 (now (flags .entry)) (now (parts .entry)) [] (now (fills .entry)) (now (off .entry)) low g) c (now (parts2 .entry)) (now (parts2 .exit)) r ⌝ }
 {
     if is_liquid(flags[c]) {
         return put_moved9(
-            quieted(chosen9(flags, parts, fill, mark, off, from, low, c)),
+            quieted(chosen9(flags, parts, fills, mark, off, from, low, c)),
             parts2,
             c,
             g,

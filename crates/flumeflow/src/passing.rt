@@ -13,16 +13,16 @@ ghost use Rattle.flumeflow.specs.inner.Flowed.{FlumeFlowable, FlumeFlowe
 pub fn flowing9(
     flags: &[u8],
     parts: &[i32],
-    mass: &[i32],
-    fill: &[u32],
+    masses: &[i32],
+    fills: &[u32],
     parts2: &mut [i32],
-    mass2: &mut [i32],
+    masses2: &mut [i32],
     marks: &mut [u8],
     s: FlumeSides,
     g: Settings,
 ) -> Passed
-    requires { ⌜ FlumeFlowable s g (now flags) (now parts) (now mass) (now fill) (now parts2) (now mass2) (now marks) ⌝ }
-    ensures { λ r. ⌜ FlumeFlowed s g (now (flags .entry)) (now (parts .entry)) (now (mass .entry)) (now (fill .entry)) r (now (parts2 .exit)) (now (mass2 .exit)) (now (marks .exit)) ⌝ }
+    requires { ⌜ FlumeFlowable s g (now flags) (now parts) (now masses) (now fills) (now parts2) (now masses2) (now marks) ⌝ }
+    ensures { λ r. ⌜ FlumeFlowed s g (now (flags .entry)) (now (parts .entry)) (now (masses .entry)) (now (fills .entry)) r (now (parts2 .exit)) (now (masses2 .exit)) (now (marks .exit)) ⌝ }
 {
     let off = neighbours::offsets(s);
     let low = neighbours::low_of(s);
@@ -35,7 +35,7 @@ pub fn flowing9(
         let o = moving::put_parts9(
             flags,
             parts,
-            fill,
+            fills,
             parts2,
             marks[c],
             &off,
@@ -48,9 +48,9 @@ pub fn flowing9(
         if !o.ok {
             return Passed::Stopped(c);
         }
-        let m = trading::new_mass9(flags, parts, mass, fill, &off, low, c, o.rho);
+        let m = trading::new_mass9(flags, parts, masses, fills, &off, low, c, o.rho);
         let k = new_mark(flags[c], m, o.rho);
-        mass2[c] = m;
+        masses2[c] = m;
         marks[c] = k;
         fair = fair & o.fair;
         calm = calm & (k == 0);

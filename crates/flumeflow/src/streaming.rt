@@ -2,7 +2,7 @@
 use flow::streaming::leaning;
 use lattice::Flow;
 use lattice::directions::dots;
-use lattice::moments::flow_of;
+use lattice::directions::flow_of;
 use nine::cells::own9;
 use nine::cells::place;
 use nine::weights::weight9;
@@ -84,18 +84,18 @@ fn arriving9(
 pub fn streamed9(
     flags: &[u8],
     parts: &[i32],
-    fill: &[u32],
+    fills: &[u32],
     off: &[usize; 19],
     low: usize,
     c: usize,
 ) -> [i32; 19]
-    requires { ⌜ Bodied9 (now flags) (now parts) × Fills (now flags) (now fill) × Around (length (now flags)) (now off) low c × (liquid (getD (now flags) c 3) ≡ true) ⌝ }
-    ensures { λ r. ⌜ ((g : Settings) → r ≡ tab 19 (streamed (sight9 (now (flags .entry)) (now (parts .entry)) [] (now (fill .entry)) (now (off .entry)) low g) c)) ⌝ }
+    requires { ⌜ Bodied9 (now flags) (now parts) × Fills (now flags) (now fills) × Around (length (now flags)) (now off) low c × (liquid (getD (now flags) c 3) ≡ true) ⌝ }
+    ensures { λ r. ⌜ ((g : Settings) → r ≡ tab 19 (streamed (sight9 (now (flags .entry)) (now (parts .entry)) [] (now (fills .entry)) (now (off .entry)) low g) c)) ⌝ }
 {
     let b = c - low;
     let v = flow_of(own9(parts, c));
     let d = dots(v);
-    let n = leaning(flags, fill, off, low, c);
+    let n = leaning(flags, fills, off, low, c);
     let mut f = [0i32; 19];
     f[0] = parts[9 * c];
     let mut k = 1;
@@ -123,18 +123,18 @@ pub fn streamed9(
 pub(crate) fn chosen9(
     flags: &[u8],
     parts: &[i32],
-    fill: &[u32],
+    fills: &[u32],
     mark: u8,
     off: &[usize; 19],
     from: &[usize; 9],
     low: usize,
     c: usize,
 ) -> [i32; 19]
-    requires { ⌜ Bodied9 (now flags) (now parts) × Fills (now flags) (now fill) × Around (length (now flags)) (now off) low c × (liquid (getD (now flags) c 3) ≡ true) × Mirrored (now off) low × (now from ≡ tab 9 (sourceOf9 (now off))) × (mark ≡ 1 → Immersed (now flags) (now off) low c) ⌝ }
-    ensures { λ r. ⌜ ((g : Settings) → r ≡ tab 19 (streamed (sight9 (now (flags .entry)) (now (parts .entry)) [] (now (fill .entry)) (now (off .entry)) low g) c)) ⌝ }
+    requires { ⌜ Bodied9 (now flags) (now parts) × Fills (now flags) (now fills) × Around (length (now flags)) (now off) low c × (liquid (getD (now flags) c 3) ≡ true) × Mirrored (now off) low × (now from ≡ tab 9 (sourceOf9 (now off))) × (mark ≡ 1 → Immersed (now flags) (now off) low c) ⌝ }
+    ensures { λ r. ⌜ ((g : Settings) → r ≡ tab 19 (streamed (sight9 (now (flags .entry)) (now (parts .entry)) [] (now (fills .entry)) (now (off .entry)) low g) c)) ⌝ }
 {
     if mark == 1 {
         return streamed_open9(parts, from, 9 * (c - low));
     }
-    streamed9(flags, parts, fill, off, low, c)
+    streamed9(flags, parts, fills, off, low, c)
 }

@@ -17,9 +17,17 @@ ghost use Rattle.nine.specs.inner.Cells.{partOf9};
 ghost use Rattle.flumeflow.specs.inner.Seen.{sight9, Bodied9, Traders9};
 
 // What cell c gains from cell b in direction k, whose opposite is m.
-fn traded9(flags: &[u8], parts: &[i32], fill: &[u32], c: usize, b: usize, k: usize, m: usize) -> i64
-    requires { ⌜ Bodied9 (now flags) (now parts) × Fills (now flags) (now fill) × (c < length (now flags)) × (b < length (now flags)) × (k < 9) × (m < 9) ⌝ }
-    ensures { λ r. ⌜ r ≡ passed (now (flags .entry)) (partOf9 (now (parts .entry))) (now (fill .entry)) c b (wide k) (wide m) ⌝ }
+fn traded9(
+    flags: &[u8],
+    parts: &[i32],
+    fills: &[u32],
+    c: usize,
+    b: usize,
+    k: usize,
+    m: usize,
+) -> i64
+    requires { ⌜ Bodied9 (now flags) (now parts) × Fills (now flags) (now fills) × (c < length (now flags)) × (b < length (now flags)) × (k < 9) × (m < 9) ⌝ }
+    ensures { λ r. ⌜ r ≡ passed (now (flags .entry)) (partOf9 (now (parts .entry))) (now (fills .entry)) c b (wide k) (wide m) ⌝ }
 {
     let f = flags[b];
     let d = difference(parts[9 * b + m], parts[9 * c + k]);
@@ -27,7 +35,7 @@ fn traded9(flags: &[u8], parts: &[i32], fill: &[u32], c: usize, b: usize, k: usi
         return d;
     }
     if f == 1 {
-        return exchange(both(fill[c], fill[b]), d);
+        return exchange(both(fills[c], fills[b]), d);
     }
     0
 }
@@ -36,22 +44,22 @@ fn traded9(flags: &[u8], parts: &[i32], fill: &[u32], c: usize, b: usize, k: usi
 fn traded_mass9(
     flags: &[u8],
     parts: &[i32],
-    mass: &[i32],
-    fill: &[u32],
+    masses: &[i32],
+    fills: &[u32],
     off: &[usize; 19],
     low: usize,
     c: usize,
 ) -> i64
-    requires { ⌜ Traders9 (now flags) (now parts) (now mass) (now fill) × Around (length (now flags)) (now off) low c × (getD (now flags) c 3 ≡ 1) ⌝ }
-    ensures { λ r. ⌜ ((g : Settings) → r ≡ tradedMass (sight9 (now (flags .entry)) (now (parts .entry)) (now (mass .entry)) (now (fill .entry)) (now (off .entry)) low g) c) ⌝ }
+    requires { ⌜ Traders9 (now flags) (now parts) (now masses) (now fills) × Around (length (now flags)) (now off) low c × (getD (now flags) c 3 ≡ 1) ⌝ }
+    ensures { λ r. ⌜ ((g : Settings) → r ≡ tradedMass (sight9 (now (flags .entry)) (now (parts .entry)) (now (masses .entry)) (now (fills .entry)) (now (off .entry)) low g) c) ⌝ }
 {
     let b = c - low;
-    let mut m = wide(mass[c]);
+    let mut m = wide(masses[c]);
     let mut k = 1;
     while k < 9 {
         let i = place(k);
-        m += traded9(flags, parts, fill, c, b + off[i], k, k + 1);
-        m += traded9(flags, parts, fill, c, b + off[i + 1], k + 1, k);
+        m += traded9(flags, parts, fills, c, b + off[i], k, k + 1);
+        m += traded9(flags, parts, fills, c, b + off[i + 1], k + 1, k);
         k += 2;
     }
     m
@@ -61,18 +69,18 @@ fn traded_mass9(
 pub(crate) fn new_mass9(
     flags: &[u8],
     parts: &[i32],
-    mass: &[i32],
-    fill: &[u32],
+    masses: &[i32],
+    fills: &[u32],
     off: &[usize; 19],
     low: usize,
     c: usize,
     rho: i32,
 ) -> i32
-    requires { ⌜ Traders9 (now flags) (now parts) (now mass) (now fill) × (c < length (now flags)) × (getD (now flags) c 3 ≡ 1 → Around (length (now flags)) (now off) low c) ⌝ }
-    ensures { λ r. ⌜ ((g : Settings) → r ≡ byFlag (getD (now (flags .entry)) c 3) rho (tradedMass (sight9 (now (flags .entry)) (now (parts .entry)) (now (mass .entry)) (now (fill .entry)) (now (off .entry)) low g) c) rho rho) ⌝ }
+    requires { ⌜ Traders9 (now flags) (now parts) (now masses) (now fills) × (c < length (now flags)) × (getD (now flags) c 3 ≡ 1 → Around (length (now flags)) (now off) low c) ⌝ }
+    ensures { λ r. ⌜ ((g : Settings) → r ≡ byFlag (getD (now (flags .entry)) c 3) rho (tradedMass (sight9 (now (flags .entry)) (now (parts .entry)) (now (masses .entry)) (now (fills .entry)) (now (off .entry)) low g) c) rho rho) ⌝ }
 {
     if flags[c] == 1 {
-        return traded_mass9(flags, parts, mass, fill, off, low, c) as i32;
+        return traded_mass9(flags, parts, masses, fills, off, low, c) as i32;
     }
     rho
 }

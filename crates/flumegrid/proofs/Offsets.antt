@@ -6,9 +6,7 @@ use mathlib.Core.List.{[], _∷_}
 use Prim.Native.Nat.{ℕ, zero, suc, _+_, _-_, _*_, _/_, _%_, _≤_, _<_}
 use native.Mathlib.Nat.{mod-lt, mod-add-div, mul-le-mul-left, div-lt-iff-lt-mul, mul-comm, le-of-suc-le-suc}
 use native.Mathlib.Omega.{arith}
-use lib.Dec.{eqb}
 use lib.ListN.{getD}
-use borrow.Author.Tests.{eqb-false}
 use Rattle.whole.specs.laws.Bools.{or-false}
 use Rattle.whole.specs.Fold.{tab, open-fold, Dir}
 use Rattle.whole.specs.laws.Tab.{getD-tab}
@@ -26,6 +24,7 @@ use Rattle.flume.proofs.Places.{by-eight, by-idle, at-places, spread-none}
 use Rattle.flume.proofs.Bridge.{spread-laid}
 use Rattle.flume.proofs.Demands.{flume-laid}
 use Rattle.flumegrid.proofs.GoodSides.{good-sides, few}
+use Rattle.grid.proofs.Coordinates.{between}
 
 -- the flume's grid among the nineteen places
 abbrev pub wideGrid : FlumeSides → Grid
@@ -109,18 +108,6 @@ mirrored s (suc a) h =
     P i = getD (tab 19 (flumeOffset s)) i 0 + getD (tab 19 (flumeOffset s)) (pairOpp i) 0 ≡ flumeLow s + flumeLow s
 
 -- ---- the outer layer
-
--- a coordinate that is at neither end
-between : (n x : ℕ) → atEnd n x ≡ false → x < n → (1 ≤ x) × (x + 2 ≤ n)
-between n x e h =
-    let p = or-false (eqb x 0) (eqb (suc x) n) e in
-    (one x (eqb-false x 0 (p .0)), two x n h (eqb-false (suc x) n (p .1)))
-  where
-    one : (x : ℕ) → (x ≡ 0 → ⊥) → 1 ≤ x
-    one x f = omega arith
-
-    two : (x n : ℕ) → x < n → (suc x ≡ n → ⊥) → x + 2 ≤ n
-    two x n l f = omega arith
 
 -- a cell that is not in the outer layer has all its neighbours in the grid
 pub inner-of : (s : FlumeSides) → flumeSidesGood s ≡ true → (c : ℕ) → c < flumeCells s → flumeGrid s .outer c ≡ false → Amid (flumeCells s) (flumeLow s) c

@@ -9,12 +9,11 @@ use lib.Dec.{ltb, eqb}
 use lib.ListN.{length, getD}
 use Rattle.whole.specs.laws.Bools.{and-right, where-then, never}
 use Rattle.whole.specs.Fold.{first, anyDir, tab}
-use Rattle.whole.specs.laws.Search.{first-none, first-cong}
+use Rattle.whole.specs.laws.Search.{first-none, first-cong, any-cong}
 use Rattle.grid.specs.Grid.{flume}
 use Rattle.grid.specs.Good.{flagGood, badFlag, badFluid, openFluid}
 use Rattle.grid.specs.inner.Passes.{Amid, Reaching, besideAt, openAt, openPlace, Embedded}
 use Rattle.grid.specs.State.{flagOf}
-use Rattle.grid.proofs.Beside.{any-cong}
 use Rattle.grid.proofs.Lists.{getD-there}
 use Rattle.flume.specs.declared.FlumeSides.{FlumeSides}
 use Rattle.flume.specs.Flume.{flumeCells, flumeGrid}

@@ -7,7 +7,7 @@ use Prim.Native.Nat.{ℕ, suc, _+_, _*_, _/_, _%_, _≤_, _<_}
 use native.Mathlib.Nat.{mod-lt, div-add-mod}
 use native.Mathlib.Omega.{arith}
 use lib.IntN.{ℤ, pos}
-use lib.ListN.{length, getD, replicate, length-replicate}
+use lib.ListN.{length, getD, replicate}
 use lib.Seq.{ext-getD}
 use Rattle.whole.specs.laws.Bools.{and-left, and-right}
 use Rattle.whole.specs.Fold.{tab, first}
@@ -52,6 +52,7 @@ use Rattle.flumefills.specs.inner.Filled.{Fillable9}
 use Rattle.flumeconversion.specs.inner.Turned.{FlumeTurning, FlumeTurned}
 use Rattle.flumeconversion.proofs.Flumes.{flumeField, flume-scene, flume-sound}
 use Rattle.flumestep.specs.inner.Finished.{FlumeFinishing, FlumeFinished, FlumeTried, FlumeAdvanced}
+use Rattle.step.proofs.Finishes.{cleared}
 
 -- what pass 1 answered
 abbrev is-stopped : Passed → Bool
@@ -198,9 +199,6 @@ module _ (s : FlumeSides) (g : FlumeSettings) (a : Lent) where
 
 pub next-lengths : (s : FlumeSides) (g : FlumeSettings) (a : Lent) {b : Lent} → b ≡ flumeNext s g a → FlumeSized (flumeCells s) b
 next-lengths s g a e = subst (λ (x : Lent). FlumeSized (flumeCells s) x) (sym e) (next-sized s g a)
-
-pub cleared : (n : ℕ) {marks : List ℕ} → marks ≡ replicate n 0 → length marks ≡ n
-cleared n e = ap length e ∙ length-replicate n 0
 
 went-stopped : {T : Scene} {n : ℕ} {o : Passed} {parts masses : List ℤ} {marks : List ℕ} (c : ℕ) → o ≡ Stopped c → FlumeWent T n o parts masses marks → (c < n) × (first n (unsteady T) ≡ c)
 went-stopped {T} {n} c e (stopped {c = d} h f) = let k : d ≡ c = ap stopped-at e in (subst (λ (m : ℕ). m < n) k h, f ∙ k)

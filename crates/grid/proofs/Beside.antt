@@ -1,25 +1,19 @@
 -- Whether a neighbour's byte is m: what a loop by offsets finds is what the grid's neighbours have. Assumes nothing.
-use mathlib.Core.Path.{_≡_, refl, sym, ap, ap₂, _∙_, subst}
+use mathlib.Core.Path.{_≡_, sym, ap, _∙_, subst}
 use mathlib.Core.Bool.{Bool, false, _||_, false≢true}
 use mathlib.Core.List.{List}
-use Prim.Native.Nat.{ℕ, zero, suc, _+_, _-_, _≤_, _<_}
-use native.Mathlib.Nat.{lt-suc-self, le-step}
+use Prim.Native.Nat.{ℕ, suc, _+_, _-_, _≤_, _<_}
 use native.Mathlib.Omega.{arith}
 use lib.Dec.{eqb}
 use lib.ListN.{length, getD}
 use Rattle.whole.specs.laws.Bools.{never}
 use Rattle.whole.specs.Fold.{any, anyDir, tab}
-use Rattle.whole.specs.laws.Search.{any-where}
+use Rattle.whole.specs.laws.Search.{any-where, any-cong}
 use Rattle.grid.specs.declared.Sides.{Sides}
 use Rattle.grid.specs.Grid.{gridOf, cellsOf}
 use Rattle.grid.specs.inner.Passes.{Inner, lowOf, offsetOf, besideAt, Reach}
 use Rattle.grid.proofs.Offsets.{neighbour, near-below}
 use Rattle.grid.proofs.Lists.{getD-there}
-
-pub any-cong : (n : ℕ) (f g : ℕ → Bool) → ((a : ℕ) → a < n → f a ≡ g a) → any n f ≡ any n g
-unfolding any
-any-cong zero f g h = refl
-any-cong (suc n) f g h = ap₂ (λ (x y : Bool). x || y) (any-cong n f g (λ a k. h a (le-step k))) (h n (lt-suc-self n))
 
 pub any-none : (n : ℕ) (f : ℕ → Bool) → ((a : ℕ) → a < n → f a ≡ false) → any n f ≡ false
 any-none n f h = never (any n f) (λ e. let w = any-where n f e in false≢true (sym (h (w .0) (w .1)) ∙ w .2))

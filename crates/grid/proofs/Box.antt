@@ -20,7 +20,7 @@ use Rattle.grid.proofs.Laid.{Laid}
 
 -- ---- cell numbers
 
-cell-add : (nx ny x y z a b c : ℕ) → cellAt nx ny x y z + cellAt nx ny a b c ≡ cellAt nx ny (x + a) (y + b) (z + c)
+pub cell-add : (nx ny x y z a b c : ℕ) → cellAt nx ny x y z + cellAt nx ny a b c ≡ cellAt nx ny (x + a) (y + b) (z + c)
 cell-add nx ny x y z a b c =
     mix x (nx * (y + ny * z)) a (nx * (b + ny * c))
     ∙ ap (λ (t : ℕ). x + a + t) (sym (mul-add nx (y + ny * z) (b + ny * c)) ∙ ap (λ (t : ℕ). nx * t) (mix y (ny * z) b (ny * c) ∙ ap (λ (t : ℕ). y + b + t) (sym (mul-add ny z c))))
@@ -32,13 +32,13 @@ cell-le : (nx ny x y z a b c : ℕ) → a ≤ x → b ≤ y → c ≤ z → cell
 cell-le nx ny x y z a b c h k l = add-le-add h (mul-le-mul-left nx (add-le-add k (mul-le-mul-left ny l)))
 
 -- a digit below its base, and the rest below m
-digit : (n x m r : ℕ) → x < n → r < m → x + n * r < n * m
+pub digit : (n x m r : ℕ) → x < n → r < m → x + n * r < n * m
 digit n x m r h k =
     let g : n * suc r ≤ n * m = mul-le-mul-left n k in
     let s : n * suc r ≡ n * r + n = mul-suc n r in
     omega arith
 
-cell-lt : (nx ny nz x y z : ℕ) → x < nx → y < ny → z < nz → cellAt nx ny x y z < nx * (ny * nz)
+pub cell-lt : (nx ny nz x y z : ℕ) → x < nx → y < ny → z < nz → cellAt nx ny x y z < nx * (ny * nz)
 cell-lt nx ny nz x y z h k l = digit nx x (ny * nz) (y + ny * z) h (digit ny y nz z k l)
 
 -- there and back
@@ -47,12 +47,12 @@ round c U D h = omega arith
 
 -- ---- steps of one cell at most
 
-up-turned : (a : ℤ) → up (negℤ a) ≡ down a
+pub up-turned : (a : ℤ) → up (negℤ a) ≡ down a
 up-turned (pos zero) = refl
 up-turned (pos (suc n)) = refl
 up-turned (negsuc n) = refl
 
-down-turned : (a : ℤ) → down (negℤ a) ≡ up a
+pub down-turned : (a : ℤ) → down (negℤ a) ≡ up a
 down-turned (pos zero) = refl
 down-turned (pos (suc n)) = refl
 down-turned (negsuc n) = refl

@@ -54,7 +54,7 @@ stands s c e =
     }
 
 -- a coordinate that is at neither end
-between : (n x : ℕ) → atEnd n x ≡ false → x < n → (1 ≤ x) × (x + 2 ≤ n)
+pub between : (n x : ℕ) → atEnd n x ≡ false → x < n → (1 ≤ x) × (x + 2 ≤ n)
 between n x e h =
     let p = or-false (eqb x 0) (eqb (suc x) n) e in
     (one x (eqb-false x 0 (p .0)), two x n h (eqb-false (suc x) n (p .1)))

@@ -48,7 +48,7 @@ beside-true f bf fi em be z e = go bf (subst (λ (k : ℕ). flagAfter k bf fi em
     go true t = refl
     go false t = absurd (omega arith)
 
-filled-wet : (f : ℕ) (o : Bool) → byFlag f false o false false ≡ true → liquid f ≡ true
+pub filled-wet : (f : ℕ) (o : Bool) → byFlag f false o false false ≡ true → liquid f ≡ true
 filled-wet zero o e = absurd (false≢true e)
 filled-wet (suc zero) o e = refl
 filled-wet (suc (suc zero)) o e = absurd (false≢true e)

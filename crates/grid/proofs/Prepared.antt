@@ -51,7 +51,7 @@ body f e =
       is-slow = and-right (all 19 (λ k. partGood (f k)) && dense (density d3q19 f)) (slow (density d3q19 f) (dot (momentum d3q19 f) (momentum d3q19 f))) e;
     }
 
-liquid-body : (f : ℕ) (dry b m e : Bool) → liquid f ≡ true → byFlag f dry (b && m) (b && e) dry ≡ true → b ≡ true
+pub liquid-body : (f : ℕ) (dry b m e : Bool) → liquid f ≡ true → byFlag f dry (b && m) (b && e) dry ≡ true → b ≡ true
 liquid-body zero dry b m e l h = absurd (false≢true l)
 liquid-body (suc zero) dry b m e l h = and-left b m h
 liquid-body (suc (suc zero)) dry b m e l h = and-left b e h

@@ -16,7 +16,8 @@ use Rattle.pumps.proofs.Checked.{head-sized}
 use Rattle.index.specs.Index.{wordsOf, indexOf, indexSized, indexTrue}
 use Rattle.index.specs.Held.{indexed, Loads}
 use Rattle.index.proofs.Flagged.{made-room, made-true}
-use Rattle.index.proofs.Answers.{few-cells, load-done}
+use Rattle.index.proofs.Answers.{load-done}
+use Rattle.grid.proofs.Inside.{few as few-cells}
 
 pub good-loads : (s : Sides) (a : Lent) → threeAnswer s a ≡ Done → Loads s (indexed s a)
 unfolding indexed indexSized threeAnswer

@@ -19,7 +19,8 @@ use Rattle.index.specs.Outcome.{trueAnswer, loadAnswer, told}
 use Rattle.index.specs.inner.Laid.{Room}
 use Rattle.index.specs.Walked.{AsWalked}
 use Rattle.index.proofs.Flagged.{room-of, true-words, true-index, as-flags, same-number}
-use Rattle.index.proofs.Answers.{few-cells, next-asked, count-told}
+use Rattle.index.proofs.Answers.{next-asked, count-told}
+use Rattle.grid.proofs.Inside.{few as few-cells}
 
 module _ (s : Sides) (a : Lent) (x : Index) (loaded : loadAnswer s a x ≡ Done) where
   abbrev n : ℕ

@@ -27,10 +27,10 @@ use Rattle.record.proofs.Spanned.{span-read}
 use Rattle.index.specs.Index.{Index, wordsOf, indexOf, indexSized}
 use Rattle.index.specs.inner.Laid.{Room}
 use Rattle.index.proofs.Flagged.{room-of}
-use Rattle.index.proofs.Answers.{few-cells}
 use Rattle.index.specs.Held.{Held, held}
 use Rattle.intake.specs.Reading.{openAnswer, readAnswer, readHead, readHeld}
 use Rattle.intake.specs.Promise.{Read}
+use Rattle.grid.proofs.Inside.{few as few-cells}
 
 -- ---- section 1, tests 1 and 2
 or-and : (t u : Bool) (number place : ℕ) (rest : Answer) → orRefuse (t && u) number place rest ≡ orRefuse t number place (orRefuse u number place rest)

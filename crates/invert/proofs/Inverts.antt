@@ -15,8 +15,8 @@ use lib.Seq.{sets, sets-eq, getD-append-add}
 use lib.Signed.{quotZ, ltZ}
 use Rattle.whole.specs.laws.Bools.{or-false}
 use Rattle.whole.specs.laws.Order.{≤-or}
-use Rattle.whole.specs.Fold.{first, firstFrom, tab}
-use Rattle.whole.specs.laws.Search.{first-passes}
+use Rattle.whole.specs.Fold.{first, tab}
+use Rattle.whole.specs.laws.Search.{first-passes, before-first}
 use Rattle.whole.specs.laws.Tab.{tab-cong}
 use Rattle.grid.specs.declared.Sides.{Sides}
 use Rattle.grid.specs.Grid.{sidesGood, cellsOf, gridOf}
@@ -30,19 +30,6 @@ use Rattle.invert.proofs.Heights.{length-layer}
 use Rattle.invert.proofs.Spread.{plane}
 
 -- ---- a column's walls are its cells below the height
-below-first : (n i : ℕ) (f : ℕ → Bool) (a : ℕ) → i + a < firstFrom n i f → f (i + a) ≡ false
-unfolding firstFrom
-below-first zero i f a h = absurd (omega arith)
-below-first (suc n) i f zero h = go (f i) refl h
-  where
-    go : (b : Bool) → f i ≡ b → i + 0 < elim b [ true ↦ i | false ↦ firstFrom n (suc i) f ] → f (i + 0) ≡ false
-    go true e k = absurd (omega arith)
-    go false e k = ap f (let z : i + 0 ≡ i = omega arith in z) ∙ e
-below-first (suc n) i f (suc a) h = go (f i) h (λ k. below-first n (suc i) f a k)
-  where
-    go : (b : Bool) → i + suc a < elim b [ true ↦ i | false ↦ firstFrom n (suc i) f ] → (suc i + a < firstFrom n (suc i) f → f (suc i + a) ≡ false) → f (i + suc a) ≡ false
-    go true k r = absurd (omega arith)
-    go false k r = ap f (let z : i + suc a ≡ suc i + a = omega arith in z) ∙ r (omega arith)
 
 -- a centre that lies higher is not below either
 lower-fails : (a b : ℕ) (w : ℤ) → a ≤ b → ltZ (pos a) w ≡ false → ltZ (pos b) w ≡ false
@@ -69,7 +56,7 @@ among edge nz v z h = ⊎-elim over under (≤-or (first nz f) z)
         ∙ sym (solid-up v edge (first nz f) z g (not-true (solidAt v edge (first nz f)) (first-passes nz 0 f (omega arith))))
 
     under : z < first nz f → ltb z (first nz f) ≡ solidAt v edge z
-    under g = lt-ltb z (first nz f) g ∙ sym (not-false (solidAt v edge z) (sym (ap f (zero-add z)) ∙ below-first nz 0 f z (omega arith)))
+    under g = lt-ltb z (first nz f) g ∙ sym (not-false (solidAt v edge z) (sym (ap f (zero-add z)) ∙ before-first nz 0 f z (omega arith)))
 
 -- ---- the layer, by coordinates
 row-at : (edge nz n : ℕ) (t : List ℕ) (x : ℕ) → x < n → getD (rowHeights edge nz n t) x 0 ≡ heightOf edge nz (orZero (numberOf (nthWord x t)))

@@ -36,7 +36,7 @@ run-over f g h (b ∷ t) = go (g b) refl (run-over f g h t)
         run-yes f b t (h b e) ∙ on ∙ sym (ap (λ (n : ℕ). n + run f (drop n (b ∷ t))) (run-yes g b t e))
     go false e r = sym (ap (λ (n : ℕ). n + run f (drop n (b ∷ t))) (run-no g b t e) ∙ zero-add (run f (b ∷ t)))
 
-word-line : (b : ℕ) → ofKind Word b ≡ true → ofKind Line b ≡ true
+pub word-line : (b : ℕ) → ofKind Word b ≡ true → ofKind Line b ≡ true
 word-line b e = and-right (not (blank b)) (not (eqb b 10)) e
 
 blank-line : (b : ℕ) → ofKind Blank b ≡ true → ofKind Line b ≡ true

@@ -14,10 +14,10 @@ use Rattle.pumps.specs.Acts.{andThen, actAnswer, actSet}
 use Rattle.pumps.specs.Demands.{balance, totalled, start, acted, stepped}
 use Rattle.schemes.specs.Scheme.{joined, parted, tested}
 use Rattle.schemes.specs.Outcome.{ifDone}
-use Rattle.walls.proofs.Kept.{then-done}
 use Rattle.isolation.specs.Deeds.{Deed, step, run, pump, look, baseOf, stepTold, pumpTold, done}
 use Rattle.isolation.specs.Claims.{Rejoins}
 use Rattle.isolation.proofs.Carried.{carried-holds, run-carried}
+use Rattle.pumps.proofs.Kept.{then-both}
 
 module _ (s : Sides) (map : List ℕ) (a : Lent) (t : tested s map a true ≡ Done) where
   -- of the scheme after a deed
@@ -33,7 +33,7 @@ module _ (s : Sides) (map : List ℕ) (a : Lent) (t : tested s map a true ≡ Do
     where
       go : (x : Answer) → andThen (tested s map a true) (stepAnswer s g (baseOf s map a) second marks) ≡ x
           → Keeps (ifDone x (parted s (totalled (stepSecond s g (baseOf s map a) second marks) (joined s map a))) a)
-      go Done e = back _ (carried-holds s map a _ t (stepped start g second marks (then-done (tested s map a true) _ e .1)))
+      go Done e = back _ (carried-holds s map a _ t (stepped start g second marks (then-both (tested s map a true) _ e .1)))
       go (Refused n p) e = (t, refl)
 
   run-keeps : (steps : ℕ) (g : Settings) (second : Lent) (marks : List ℕ) → Keeps (done s map a (run steps g second marks))
@@ -49,7 +49,7 @@ module _ (s : Sides) (map : List ℕ) (a : Lent) (t : tested s map a true ≡ Do
   pump-keeps pour c amount = go (andThen (tested s map a true) (actAnswer pour s c amount (joined s map a))) refl
     where
       go : (x : Answer) → andThen (tested s map a true) (actAnswer pour s c amount (joined s map a)) ≡ x → Keeps (ifDone x (parted s (actSet pour c amount (joined s map a))) a)
-      go Done e = back _ (carried-holds s map a _ t (acted start pour c amount (then-done (tested s map a true) _ e .1)))
+      go Done e = back _ (carried-holds s map a _ t (acted start pour c amount (then-both (tested s map a true) _ e .1)))
       go (Refused n p) e = (t, refl)
 
   look-keeps : (f : Lent → List ℤ) → Keeps (done s map a (look f))

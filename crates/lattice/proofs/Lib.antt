@@ -11,3 +11,4 @@ pub mod Ranges
 pub mod Reading
 pub mod Table
 pub mod Tame
+pub mod Opposites

@@ -62,7 +62,7 @@ unfoldable test : Lattice → ℕ → Bool
 test L i = dirTest L i && (eqb (L .opp (L .opp i)) i && (axisTest L i && eqb (L .weight (L .opp i)) (L .weight i)))
 
 -- each of the four tests that are joined
-four : (a b c d : Bool) → (a && (b && (c && d))) ≡ true → (a ≡ true) × (b ≡ true) × (c ≡ true) × (d ≡ true)
+pub four : (a b c d : Bool) → (a && (b && (c && d))) ≡ true → (a ≡ true) × (b ≡ true) × (c ≡ true) × (d ≡ true)
 four true true true d e = (refl, refl, refl, e)
 four true true false d e = absurd (false≢true e)
 four true false c d e = absurd (false≢true e)

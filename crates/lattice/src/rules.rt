@@ -1,7 +1,7 @@
 // The rules of number 6 that one cell keeps or breaks by itself. `good_liquid` takes anything a caller may lend.
+use crate::directions::flow_of;
 use crate::fill::part_fill;
 use crate::limits::fair_mass;
-use crate::moments::flow_of;
 use crate::moments::steady;
 use whole::wide;
 ghost use mathlib.Core.Path.{_≡_};

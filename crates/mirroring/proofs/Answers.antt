@@ -23,7 +23,6 @@ use Rattle.index.specs.Index.{Index, wordsOf, indexOf, indexSized}
 use Rattle.index.specs.Held.{Held, held, indexed}
 use Rattle.index.specs.inner.Laid.{Room}
 use Rattle.index.proofs.Flagged.{room-of}
-use Rattle.index.proofs.Answers.{few-cells}
 use Rattle.mirror.specs.Mirror.{mirrorOf, mirrored, mirroredSet}
 use Rattle.mirror.proofs.Lattices.{turns19}
 use Rattle.mirroring.specs.Turned.{turnedSet, axesOf, turned}
@@ -31,6 +30,7 @@ use Rattle.mirroring.specs.Outcome.{mirrorAnswer, ifDone, mirrorSecond}
 use Rattle.mirroring.specs.Promise.{Mirrored}
 use Rattle.mirroring.specs.inner.Between.{dirIn, tableMirror, Celled, Directed, Turnable}
 use Rattle.mirroring.proofs.Reflected.{directed, by-table}
+use Rattle.grid.proofs.Inside.{few as few-cells}
 
 -- a set without its totals
 abbrev pub bare : Lent → Lent

@@ -20,7 +20,7 @@ use Rattle.lattice.specs.inner.Held.{partsOf}
 use Rattle.lattice.specs.Body.{relaxedDir, collidedPart}
 use Rattle.collision.specs.inner.Estimate.{landed}
 use Rattle.flume.specs.inner.Spread.{wide, narrow, idle, spread, Idle, spreadLattice}
-use Rattle.flume.proofs.Places.{by-eight, by-nine, by-idle, spread-at, spread-none, is-spread}
+use Rattle.flume.proofs.Places.{by-eight, by-nine, by-idle, spread-at, spread-none, is-spread, narrow-back}
 use Rattle.flume.proofs.Flowing.{relaxed-none}
 use Rattle.nine.specs.inner.Cells.{Quiet}
 
@@ -48,17 +48,12 @@ place-high k h l =
     (by-eight (λ k. 5 ≤ k → k + 10 ≡ wide k) (λ m. absurd (omega arith)) (λ m. absurd (omega arith)) (λ m. absurd (omega arith)) (λ m. absurd (omega arith)) (λ m. refl) (λ m. refl) (λ m. refl) (λ m. refl))
     k l h
 
--- no two directions have one place, and none has an idle one
-narrow-of : (k : ℕ) → k ≤ 8 → narrow (wide k) ≡ k
-unfolding wide narrow
-narrow-of = by-nine (λ k. narrow (wide k) ≡ k) refl (by-eight (λ k. narrow (wide k) ≡ k) refl refl refl refl refl refl refl refl)
-
 not-idle : (k : ℕ) → k ≤ 8 → idle (wide k) ≡ false
 unfolding wide narrow idle
 not-idle = by-nine (λ k. idle (wide k) ≡ false) refl (by-eight (λ k. idle (wide k) ≡ false) refl refl refl refl refl refl refl refl)
 
 apart : (j k : ℕ) → j ≤ 8 → k ≤ 8 → (j ≡ k → ⊥) → wide j ≡ wide k → ⊥
-apart j k h l n e = n (sym (narrow-of j h) ∙ ap narrow e ∙ narrow-of k l)
+apart j k h l n e = n (sym (narrow-back j h) ∙ ap narrow e ∙ narrow-back k l)
 
 idle-apart : (i k : ℕ) → Idle i → k ≤ 8 → i ≡ wide k → ⊥
 idle-apart i k n l e = false≢true (sym (not-idle k l) ∙ ap idle (sym e) ∙ n .none)

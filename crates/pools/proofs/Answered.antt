@@ -26,13 +26,14 @@ use Rattle.pools.specs.declared.Told.the-variants.{Pools, Refused}
 use Rattle.pools.specs.Pools.{start, isLowest, lowest, poolCount, mark}
 use Rattle.pools.specs.Outcome.{Room, countOf, markOf, waterIn, tested, fits, byTests, poolsAnswer, poolsRoom, Asked}
 use Rattle.pools.specs.Demands.{Liquid, LowestOf, Answered}
-use Rattle.pools.proofs.Counts.{count-le, count-yes, count-no}
+use Rattle.pools.proofs.Counts.{count-yes, count-no}
 use Rattle.pools.proofs.Chains.{Wet, lowest-is}
 use Rattle.pools.proofs.Marks.{leads-wet, lowest-leads, mark-wet, mark-same, mark-apart, mark-from, mark-to, mark-dry}
 use Rattle.pools.proofs.Bound.{few, quarter}
 use Rattle.pools.proofs.Water.{water-holds}
 use Rattle.pools.proofs.Flooding.{walled, cells-are}
 use Rattle.pools.proofs.Tested.{Passed, has-passed, flagged}
+use Rattle.whole.specs.laws.Counts.{count-le}
 
 abbrev pub Claim : Type 0
 Claim = (s : Sides) (a : Lent) (r : Room) (n : ℕ) → poolsAnswer s a r ≡ Pools n → Answered s a r n

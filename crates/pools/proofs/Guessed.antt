@@ -30,10 +30,10 @@ use Rattle.pools.specs.declared.Told.{Told}
 use Rattle.pools.specs.declared.Told.the-variants.{Pools, Refused}
 use Rattle.pools.specs.Pools.{Chain, start, then, lowest, isLowest, poolCount, mark, poolCells, poolWater}
 use Rattle.pools.specs.Outcome.{Room, room, markOf, cellsIn, waterIn, tested, fits, byTests, poolsAnswer, poolsRoom}
-use Rattle.pools.proofs.Counts.{count-cong}
 use Rattle.pools.proofs.Chains.{Wet, wet-end, chain-on, lowest-is}
 use Rattle.pools.proofs.Flooding.{walled, cells-are}
 use Rattle.pools.proofs.Tested.{has-passed, flagged}
+use Rattle.whole.specs.laws.Counts.{count-cong}
 
 -- ---- the test, and what is worked out from a guess
 

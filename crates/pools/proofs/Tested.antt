@@ -37,11 +37,11 @@ use Rattle.pools.specs.Pools.{mark, poolCells, poolWater}
 use Rattle.pools.specs.Outcome.{Room, room, countOf, markOf, cellsIn, waterIn, tested, fits, byTests, poolsAnswer, poolsRoom, Asked}
 use Rattle.pools.specs.inner.Flood.{Finished}
 use Rattle.pools.specs.inner.Listing.{Listing, Listed}
-use Rattle.pools.proofs.Counts.{count-cong}
 use Rattle.pools.proofs.Marks.{mark-to}
 use Rattle.pools.proofs.Flooding.{walled, cells-are}
 use Rattle.pools.proofs.Listings.{headed}
 use Rattle.whole.specs.laws.Sums.{sum-cong}
+use Rattle.whole.specs.laws.Counts.{count-cong}
 
 -- what cell j adds to the water of pool k + 1, by its mark
 abbrev mass-by : ℕ → List ℤ → ℕ → ℕ → ℤ

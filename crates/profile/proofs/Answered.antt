@@ -12,7 +12,7 @@ use lib.Dec.{eqb}
 use lib.IntN.{ℤ}
 use lib.ListN.{length}
 use Rattle.whole.specs.Fold.{first}
-use Rattle.whole.specs.laws.Search.{first-passes, first-none}
+use Rattle.whole.specs.laws.Search.{first-passes, first-none, before-first}
 use Rattle.whole.specs.laws.Order.{leZ-false}
 use Rattle.grid.specs.declared.Sides.{Sides}
 use Rattle.grid.specs.declared.Answer.the-variants as answer
@@ -24,7 +24,7 @@ use Rattle.tunnel.proofs.Tests.{Reads, reads-solid, reads-dry, reads-deep, meas
 use Rattle.profile.specs.Profile.{Survey, pointAt, placedAt, columnOf, shownBy, seen, depthAt, notAbove, far, broken, isDeepest, deepest}
 use Rattle.profile.specs.Outcome.{testsAnswer}
 use Rattle.profile.specs.Demands.{Deepest, AllDry, Line, is-outside, is-read, Listed}
-use Rattle.profile.proofs.Deepest.{deepest-wet, deepest-most, before-deepest, before-first, no-deepest}
+use Rattle.profile.proofs.Deepest.{deepest-wet, deepest-most, before-deepest, no-deepest}
 use Rattle.profile.proofs.Passed.{tests-opened, tests-walked}
 
 -- ---- the deepest point

@@ -36,7 +36,7 @@ use Rattle.pumps.proofs.Amounts.{mass-kept, total-kept}
 use Rattle.pumps.proofs.Balance.{water-more, poured, taken}
 
 -- ---- what acceptance tells
-then-both : (x rest : Answer) → andThen x rest ≡ Done → (x ≡ Done) × (rest ≡ Done)
+pub then-both : (x rest : Answer) → andThen x rest ≡ Done → (x ≡ Done) × (rest ≡ Done)
 then-both Done rest e = (refl, e)
 then-both (Refused n p) rest e = absurd (let z : _≡_ {A = ℕ} 0 1 = cc in omega arith)
 

@@ -17,17 +17,16 @@ use Rattle.spelling.specs.Spelling.{wholeOf}
 use Rattle.depths.specs.Map.{rowText, rowsText}
 use Rattle.depths.specs.Map as map
 use Rattle.readback.proofs.Spelled.{Each, each-more, run-each, whole-spell}
-use Rattle.readback.proofs.Words.{in-line, word-front, after-front, word-space, after-space, no-word, whole-word, whole-some}
+use Rattle.readback.proofs.Words.{word-front, after-front, word-space, after-space, no-word, whole-word, whole-some}
 use Rattle.readback.proofs.HeaderBack.{thousand-whole}
+use Rattle.invert.proofs.Opened.{word-line}
+use Rattle.heights.proofs.Rowing.{good-on, rows-on}
 
 -- a number that the writer may be given for a depth
 abbrev pub Small : ℤ → Type 0
 Small z = natAbs z < 1000000000000
 
 -- ---- one row
-good-on : (n : ℕ) (t : List ℕ) → isWholeNumber (numberOf (word t)) ≡ true → rowGood (suc n) t ≡ rowGood n (afterWord t)
-unfolding rowGood
-good-on n t e = rw (e, rowGood) refl
 
 -- a space before what is left does no harm
 good-space : (n : ℕ) (r : List ℕ) → rowGood (suc n) (32 ∷ r) ≡ rowGood (suc n) r
@@ -91,7 +90,7 @@ module _ (v : ℕ → ℤ) where
   past-value : (n x : ℕ) (rest : List ℕ) → Small (v x) → nextLine (rowText v x (suc n) ++ rest) ≡ nextLine (map.behind n ∷ (rowText v (suc x) n ++ rest))
   past-value n x rest h =
       ap nextLine (row-front x n rest)
-      ∙ past-line (wholeOf (v x)) (map.behind n ∷ (rowText v (suc x) n ++ rest)) (each-more (ofKind Word) (ofKind Line) in-line (wholeOf (v x)) (whole-word (v x) h))
+      ∙ past-line (wholeOf (v x)) (map.behind n ∷ (rowText v (suc x) n ++ rest)) (each-more (ofKind Word) (ofKind Line) word-line (wholeOf (v x)) (whole-word (v x) h))
 
   row-next : (n x : ℕ) (rest : List ℕ) → ((i : ℕ) → i < x + suc n → Small (v i)) → nextLine (rowText v x (suc n) ++ rest) ≡ rest
   unfolding rowText
@@ -102,9 +101,6 @@ module _ (v : ℕ → ℤ) where
       ∙ row-next n (suc x) rest (λ i j. h i (omega arith))
 
 -- ---- all rows
-rows-on : (m n : ℕ) (t : List ℕ) (i : ℕ) → rowGood n t ≡ true → rowsOf (suc m) n t i ≡ rowsOf m n (nextLine t) (i + 1)
-unfolding rowsOf
-rows-on m n t i e = rw (e, rowsOf) refl
 
 none-left : (n i : ℕ) → rowsOf 0 n [] i ≡ Fine
 unfolding rowsOf tailOf

@@ -23,6 +23,7 @@ use Rattle.heights.proofs.Runs.{run-yes, run-no}
 use Rattle.heights.proofs.Headers.{last-so}
 use Rattle.spelling.proofs.Widths.{width-some, plain-sign}
 use Rattle.readback.proofs.Spelled.{Each, each-append, each-more, run-each, digits-each, spell-each, length-spell}
+use Rattle.invert.proofs.Opened.{word-line}
 
 -- ---- words in front of what is left
 front-take : (f : ℕ → Bool) (w : List ℕ) (b : ℕ) (r : List ℕ) → Each f w → f b ≡ false → ahead f (w ++ b ∷ r) ≡ w
@@ -39,9 +40,6 @@ not-blank b e = go (blank b) e
     go : (v : Bool) → (not v && not (eqb b 10)) ≡ true → v ≡ false
     go true e = absurd (false≢true e)
     go false e = refl
-
-pub in-line : (b : ℕ) → ofKind Word b ≡ true → ofKind Line b ≡ true
-in-line b e = and-right (not (blank b)) (not (eqb b 10)) e
 
 -- no blank before a word
 no-blank : (w r : List ℕ) → Each (ofKind Word) w → 0 < length w → behind (ofKind Blank) (w ++ r) ≡ w ++ r
@@ -133,7 +131,7 @@ module _ (k : Key) (w : List ℕ) (p : Each (ofKind Word) w) (h : 0 < length w) 
   unfolding nextLine
   line-next =
       let a : List ℕ = keyOf k ++ 32 ∷ w in
-      let q : Each (ofKind Line) a = each-append (ofKind Line) (keyOf k) (32 ∷ w) (each-more (ofKind Word) (ofKind Line) in-line (keyOf k) (key-each k)) (refl, each-more (ofKind Word) (ofKind Line) in-line w p) in
+      let q : Each (ofKind Line) a = each-append (ofKind Line) (keyOf k) (32 ∷ w) (each-more (ofKind Word) (ofKind Line) word-line (keyOf k) (key-each k)) (refl, each-more (ofKind Word) (ofKind Line) word-line w p) in
       ap (λ (x : List ℕ). drop 1 (behind (ofKind Line) x)) (sym (append-assoc (keyOf k) (32 ∷ w) (10 ∷ rest)))
       ∙ ap (λ (x : List ℕ). drop 1 x) (front-drop (ofKind Line) a 10 rest q refl)
 

@@ -22,7 +22,7 @@ use Rattle.record.specs.Places.{cellsFrom, massesFrom, partsFrom, length
 use Rattle.record.specs.Layout.{interfaces, liquids, massBytes, cellNumbers, partNumbers, cellSections}
 use Rattle.record.specs.Reading.{massRead, partRead}
 use Rattle.record.proofs.Numbers.{Bytes, bytesOf-value, again}
-use Rattle.record.proofs.Gathered.{count-le}
+use Rattle.whole.specs.laws.Counts.{count-le}
 
 -- ---- parts of a record, one after the other
 module _ (r : List ℕ) where

@@ -2,11 +2,11 @@
 -- count of cells before it says, so that a cell's numbers stand where the count says.
 -- Use: `length-masses n flag mass` is `length (massBytes n flag mass) ≡ 4 * interfaces n flag`. Assumes nothing.
 use mathlib.Core.Path.{_≡_, refl, sym, ap, ap₂, _∙_}
-use mathlib.Core.Bool.{Bool, true, false, cond}
+use mathlib.Core.Bool.{Bool, cond}
 use mathlib.Core.List.{List, [], _∷_, _++_, append-nil}
-use mathlib.Core.Logic.{_⊎_, inl, inr}
+use mathlib.Core.Logic.{_⊎_}
 use Prim.Native.Nat.{ℕ, zero, suc, _+_, _*_, _≤_, _<_}
-use native.Mathlib.Nat.{le-step, lt-suc-self, eq-or-lt-of-le, le-of-suc-le-suc, le-of-eq, le-of-lt}
+use native.Mathlib.Nat.{le-of-lt}
 use native.Mathlib.Numerals.{add-one}
 use native.Mathlib.Omega.{arith}
 use lib.IntN.{ℤ}
@@ -22,32 +22,9 @@ use Rattle.grid.proofs.Lists.{getD-there}
 use Rattle.record.specs.Bytes.{gathered, join, u32Of, i32Of}
 use Rattle.record.specs.Layout.{section, interfaces, liquids, massBytes, cellNumbers, partNumbers}
 use Rattle.record.proofs.Numbers.{length-bytesOf, sets-then, then-put}
+use Rattle.whole.specs.laws.Counts.{count-le, count-most}
 
 -- ---- counts
-pub count-le : (f : ℕ → Bool) (m n : ℕ) → m ≤ n → count m f ≤ count n f
-unfolding count
-count-le f zero n h = omega arith
-count-le f (suc m) zero h = absurd (omega arith)
-count-le f (suc m) (suc n) h = go (eq-or-lt-of-le h) (λ k. count-le f (suc m) n k)
-  where
-    go : (suc m ≡ suc n) ⊎ (suc m < suc n) → (suc m ≤ n → count (suc m) f ≤ count n f) → count (suc m) f ≤ count (suc n) f
-    go (inl e) r = le-of-eq (ap (λ (k : ℕ). count k f) e)
-    go (inr k) r = let l = r (le-of-suc-le-suc k) in omega arith
-
-pub count-cong : (n : ℕ) (f g : ℕ → Bool) → ((a : ℕ) → a < n → f a ≡ g a) → count n f ≡ count n g
-unfolding count
-count-cong zero f g h = refl
-count-cong (suc n) f g h =
-    ap₂ (λ (x : ℕ) (b : Bool). x + cond b 1 0) (count-cong n f g (λ a k. h a (le-step k))) (h n (lt-suc-self n))
-
-pub count-most : (n : ℕ) (f : ℕ → Bool) → count n f ≤ n
-unfolding count
-count-most zero f = omega arith
-count-most (suc n) f = go (f n) (count-most n f)
-  where
-    go : (b : Bool) → count n f ≤ n → count n f + cond b 1 0 ≤ suc n
-    go true h = omega arith
-    go false h = omega arith
 
 -- one cell more, as a loop over the flags counts it
 count-more : (flags : List ℕ) (g : ℕ → Bool) (c : ℕ) → c < length flags

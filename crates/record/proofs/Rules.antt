@@ -2,7 +2,7 @@
 -- in a cell that is not liquid. Assumes nothing.
 use mathlib.Core.Path.{_≡_, refl, sym, ap, _∙_, subst}
 use mathlib.Core.Bool.{Bool, true, false, not, cond, _&&_, false≢true}
-use Prim.Native.Nat.{ℕ, zero, suc, _≤_, _<_}
+use Prim.Native.Nat.{ℕ, suc, _≤_, _<_}
 use native.Mathlib.Omega.{arith}
 use lib.Dec.{eqb}
 use lib.IntN.{ℤ, pos, natAbs}
@@ -19,12 +19,7 @@ use Rattle.grid.specs.State.{State, byFlag, liquid}
 use Rattle.grid.specs.Step.{fillFor}
 use Rattle.grid.specs.Good.{dryGood, interfaceGood, fluidGood, fillGood, cellGood, badRule}
 use Rattle.record.proofs.Standing.{dry-kinds}
-
-liquid-body : (f : ℕ) (dry b m e : Bool) → liquid f ≡ true → byFlag f dry (b && m) (b && e) dry ≡ true → b ≡ true
-liquid-body zero dry b m e l h = absurd (false≢true l)
-liquid-body (suc zero) dry b m e l h = and-left b m h
-liquid-body (suc (suc zero)) dry b m e l h = and-left b e h
-liquid-body (suc (suc (suc n))) dry b m e l h = absurd (false≢true l)
+use Rattle.grid.proofs.Prepared.{liquid-body}
 
 module _ (L : Lattice) (n : ℕ) (t : State) where
   -- ---- one cell

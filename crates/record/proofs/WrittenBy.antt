@@ -111,7 +111,7 @@ chain-good L G s =
     (chain-then (ifNone n 5 five) (ifNone (suc n) 6 six) (chain-or (leb n five) 5 five) (chain-or (leb (suc n) six) 6 six))
 
 -- tests 4 to 6, poured and taken with them
-chain-three : (s : Sides) (a : Lent) → Chain (threeGood s a)
+pub chain-three : (s : Sides) (a : Lent) → Chain (threeGood s a)
 chain-three s a =
     let T = totalsGood (numberIn a 1) (numberIn a 2) in
     chain-then (goodAnswer d3q19 (gridOf s) (stateOf 18 a)) (orRefuse T 6 (cellsOf s)) (chain-good d3q19 (gridOf s) (stateOf 18 a)) (chain-or T 6 (cellsOf s))

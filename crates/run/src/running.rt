@@ -23,33 +23,33 @@ pub struct Ran {
 fn turn(
     flags: &mut [u8],
     parts: &mut [i32],
-    mass: &mut [i32],
-    fill: &mut [u32],
+    masses: &mut [i32],
+    fills: &mut [u32],
     carry: &mut [i64],
     flags2: &mut [u8],
     parts2: &mut [i32],
-    mass2: &mut [i32],
-    fill2: &mut [u32],
+    masses2: &mut [i32],
+    fills2: &mut [u32],
     carry2: &mut [i64],
     marks: &mut [u8],
     back: bool,
     s: Sides,
     g: Settings,
 ) -> Answer
-    requires { ⌜ Stepping s g (here back (lent (now flags) (now parts) (now mass) (now fill) (now carry)) (lent (now flags2) (now parts2) (now mass2) (now fill2) (now carry2))) (there back (lent (now flags) (now parts) (now mass) (now fill) (now carry)) (lent (now flags2) (now parts2) (now mass2) (now fill2) (now carry2))) (now marks) ⌝ }
-    ensures { λ r. ⌜ Crossed s g back (lent (now (flags .entry)) (now (parts .entry)) (now (mass .entry)) (now (fill .entry)) (now (carry .entry))) (lent (now (flags2 .entry)) (now (parts2 .entry)) (now (mass2 .entry)) (now (fill2 .entry)) (now (carry2 .entry))) r (lent (now (flags .exit)) (now (parts .exit)) (now (mass .exit)) (now (fill .exit)) (now (carry .exit))) (lent (now (flags2 .exit)) (now (parts2 .exit)) (now (mass2 .exit)) (now (fill2 .exit)) (now (carry2 .exit))) (now (marks .exit)) ⌝ }
+    requires { ⌜ Stepping s g (here back (lent (now flags) (now parts) (now masses) (now fills) (now carry)) (lent (now flags2) (now parts2) (now masses2) (now fills2) (now carry2))) (there back (lent (now flags) (now parts) (now masses) (now fills) (now carry)) (lent (now flags2) (now parts2) (now masses2) (now fills2) (now carry2))) (now marks) ⌝ }
+    ensures { λ r. ⌜ Crossed s g back (lent (now (flags .entry)) (now (parts .entry)) (now (masses .entry)) (now (fills .entry)) (now (carry .entry))) (lent (now (flags2 .entry)) (now (parts2 .entry)) (now (masses2 .entry)) (now (fills2 .entry)) (now (carry2 .entry))) r (lent (now (flags .exit)) (now (parts .exit)) (now (masses .exit)) (now (fills .exit)) (now (carry .exit))) (lent (now (flags2 .exit)) (now (parts2 .exit)) (now (masses2 .exit)) (now (fills2 .exit)) (now (carry2 .exit))) (now (marks .exit)) ⌝ }
 {
     if back {
         return stepping::advanced(
             flags2,
             parts2,
-            mass2,
-            fill2,
+            masses2,
+            fills2,
             carry2,
             flags,
             parts,
-            mass,
-            fill,
+            masses,
+            fills,
             carry,
             marks,
             s,
@@ -59,13 +59,13 @@ fn turn(
     stepping::advanced(
         flags,
         parts,
-        mass,
-        fill,
+        masses,
+        fills,
         carry,
         flags2,
         parts2,
-        mass2,
-        fill2,
+        masses2,
+        fills2,
         carry2,
         marks,
         s,
@@ -77,43 +77,43 @@ fn turn(
 pub fn evened(
     flags: &mut [u8],
     parts: &mut [i32],
-    mass: &mut [i32],
-    fill: &mut [u32],
+    masses: &mut [i32],
+    fills: &mut [u32],
     carry: &mut [i64],
     flags2: &mut [u8],
     parts2: &mut [i32],
-    mass2: &mut [i32],
-    fill2: &mut [u32],
+    masses2: &mut [i32],
+    fills2: &mut [u32],
     carry2: &mut [i64],
     back: bool,
 )
-    requires { ⌜ Alike (here back (lent (now flags) (now parts) (now mass) (now fill) (now carry)) (lent (now flags2) (now parts2) (now mass2) (now fill2) (now carry2))) (there back (lent (now flags) (now parts) (now mass) (now fill) (now carry)) (lent (now flags2) (now parts2) (now mass2) (now fill2) (now carry2))) ⌝ }
-    ensures { λ r. ⌜ Evened back (lent (now (flags .entry)) (now (parts .entry)) (now (mass .entry)) (now (fill .entry)) (now (carry .entry))) (lent (now (flags2 .entry)) (now (parts2 .entry)) (now (mass2 .entry)) (now (fill2 .entry)) (now (carry2 .entry))) (lent (now (flags .exit)) (now (parts .exit)) (now (mass .exit)) (now (fill .exit)) (now (carry .exit))) (lent (now (flags2 .exit)) (now (parts2 .exit)) (now (mass2 .exit)) (now (fill2 .exit)) (now (carry2 .exit))) ⌝ }
+    requires { ⌜ Alike (here back (lent (now flags) (now parts) (now masses) (now fills) (now carry)) (lent (now flags2) (now parts2) (now masses2) (now fills2) (now carry2))) (there back (lent (now flags) (now parts) (now masses) (now fills) (now carry)) (lent (now flags2) (now parts2) (now masses2) (now fills2) (now carry2))) ⌝ }
+    ensures { λ r. ⌜ Evened back (lent (now (flags .entry)) (now (parts .entry)) (now (masses .entry)) (now (fills .entry)) (now (carry .entry))) (lent (now (flags2 .entry)) (now (parts2 .entry)) (now (masses2 .entry)) (now (fills2 .entry)) (now (carry2 .entry))) (lent (now (flags .exit)) (now (parts .exit)) (now (masses .exit)) (now (fills .exit)) (now (carry .exit))) (lent (now (flags2 .exit)) (now (parts2 .exit)) (now (masses2 .exit)) (now (fills2 .exit)) (now (carry2 .exit))) ⌝ }
 {
     if back {
         sets::copied(
             flags2,
             parts2,
-            mass2,
-            fill2,
+            masses2,
+            fills2,
             carry2,
             flags,
             parts,
-            mass,
-            fill,
+            masses,
+            fills,
             carry,
         );
     } else {
         sets::copied(
             flags,
             parts,
-            mass,
-            fill,
+            masses,
+            fills,
             carry,
             flags2,
             parts2,
-            mass2,
-            fill2,
+            masses2,
+            fills2,
             carry2,
         );
     }
@@ -124,20 +124,20 @@ pub fn going(
     steps: usize,
     flags: &mut [u8],
     parts: &mut [i32],
-    mass: &mut [i32],
-    fill: &mut [u32],
+    masses: &mut [i32],
+    fills: &mut [u32],
     carry: &mut [i64],
     flags2: &mut [u8],
     parts2: &mut [i32],
-    mass2: &mut [i32],
-    fill2: &mut [u32],
+    masses2: &mut [i32],
+    fills2: &mut [u32],
     carry2: &mut [i64],
     marks: &mut [u8],
     s: Sides,
     g: Settings,
 ) -> Ran
-    requires { ⌜ Stepping s g (lent (now flags) (now parts) (now mass) (now fill) (now carry)) (lent (now flags2) (now parts2) (now mass2) (now fill2) (now carry2)) (now marks) ⌝ }
-    ensures { λ r. ⌜ Went steps s g (lent (now (flags .entry)) (now (parts .entry)) (now (mass .entry)) (now (fill .entry)) (now (carry .entry))) (now (marks .entry)) (r .count) (r .answer) (lent (now (flags .exit)) (now (parts .exit)) (now (mass .exit)) (now (fill .exit)) (now (carry .exit))) (lent (now (flags2 .exit)) (now (parts2 .exit)) (now (mass2 .exit)) (now (fill2 .exit)) (now (carry2 .exit))) (now (marks .exit)) ⌝ }
+    requires { ⌜ Stepping s g (lent (now flags) (now parts) (now masses) (now fills) (now carry)) (lent (now flags2) (now parts2) (now masses2) (now fills2) (now carry2)) (now marks) ⌝ }
+    ensures { λ r. ⌜ Went steps s g (lent (now (flags .entry)) (now (parts .entry)) (now (masses .entry)) (now (fills .entry)) (now (carry .entry))) (now (marks .entry)) (r .count) (r .answer) (lent (now (flags .exit)) (now (parts .exit)) (now (masses .exit)) (now (fills .exit)) (now (carry .exit))) (lent (now (flags2 .exit)) (now (parts2 .exit)) (now (masses2 .exit)) (now (fills2 .exit)) (now (carry2 .exit))) (now (marks .exit)) ⌝ }
 {
     let mut back = false;
     let mut k = 0;
@@ -145,13 +145,13 @@ pub fn going(
         let a = turn(
             flags,
             parts,
-            mass,
-            fill,
+            masses,
+            fills,
             carry,
             flags2,
             parts2,
-            mass2,
-            fill2,
+            masses2,
+            fills2,
             carry2,
             marks,
             back,
@@ -170,13 +170,13 @@ pub fn going(
     evened(
         flags,
         parts,
-        mass,
-        fill,
+        masses,
+        fills,
         carry,
         flags2,
         parts2,
-        mass2,
-        fill2,
+        masses2,
+        fills2,
         carry2,
         back,
     );
@@ -192,19 +192,19 @@ fn admitted(
     steps: usize,
     flags: &[u8],
     parts: &[i32],
-    mass: &[i32],
-    fill: &[u32],
+    masses: &[i32],
+    fills: &[u32],
     carry: &[i64],
     flags2: &[u8],
     parts2: &[i32],
-    mass2: &[i32],
-    fill2: &[u32],
+    masses2: &[i32],
+    fills2: &[u32],
     carry2: &[i64],
     marks: &[u8],
     s: Sides,
     g: Settings,
 ) -> Answer
-    ensures { λ r. ⌜ r ≡ runEntry steps s g (lent (now (flags .entry)) (now (parts .entry)) (now (mass .entry)) (now (fill .entry)) (now (carry .entry))) (lent (now (flags2 .entry)) (now (parts2 .entry)) (now (mass2 .entry)) (now (fill2 .entry)) (now (carry2 .entry))) (now (marks .entry)) ⌝ }
+    ensures { λ r. ⌜ r ≡ runEntry steps s g (lent (now (flags .entry)) (now (parts .entry)) (now (masses .entry)) (now (fills .entry)) (now (carry .entry))) (lent (now (flags2 .entry)) (now (parts2 .entry)) (now (masses2 .entry)) (now (fills2 .entry)) (now (carry2 .entry))) (now (marks .entry)) ⌝ }
 {
     if steps > 1000 {
         return Answer::Refused(9, 0);
@@ -212,13 +212,13 @@ fn admitted(
     entry::entered(
         flags,
         parts,
-        mass,
-        fill,
+        masses,
+        fills,
         carry,
         flags2,
         parts2,
-        mass2,
-        fill2,
+        masses2,
+        fills2,
         carry2,
         marks,
         s,
@@ -231,31 +231,31 @@ pub fn run(
     steps: usize,
     flags: &mut [u8],
     parts: &mut [i32],
-    mass: &mut [i32],
-    fill: &mut [u32],
+    masses: &mut [i32],
+    fills: &mut [u32],
     carry: &mut [i64],
     flags2: &mut [u8],
     parts2: &mut [i32],
-    mass2: &mut [i32],
-    fill2: &mut [u32],
+    masses2: &mut [i32],
+    fills2: &mut [u32],
     carry2: &mut [i64],
     marks: &mut [u8],
     s: Sides,
     g: Settings,
 ) -> Ran
-    ensures { λ r. ⌜ RanTo steps s g (lent (now (flags .entry)) (now (parts .entry)) (now (mass .entry)) (now (fill .entry)) (now (carry .entry))) (lent (now (flags2 .entry)) (now (parts2 .entry)) (now (mass2 .entry)) (now (fill2 .entry)) (now (carry2 .entry))) (now (marks .entry)) (r .count) (r .answer) (lent (now (flags .exit)) (now (parts .exit)) (now (mass .exit)) (now (fill .exit)) (now (carry .exit))) (lent (now (flags2 .exit)) (now (parts2 .exit)) (now (mass2 .exit)) (now (fill2 .exit)) (now (carry2 .exit))) (now (marks .exit)) ⌝ }
+    ensures { λ r. ⌜ RanTo steps s g (lent (now (flags .entry)) (now (parts .entry)) (now (masses .entry)) (now (fills .entry)) (now (carry .entry))) (lent (now (flags2 .entry)) (now (parts2 .entry)) (now (masses2 .entry)) (now (fills2 .entry)) (now (carry2 .entry))) (now (marks .entry)) (r .count) (r .answer) (lent (now (flags .exit)) (now (parts .exit)) (now (masses .exit)) (now (fills .exit)) (now (carry .exit))) (lent (now (flags2 .exit)) (now (parts2 .exit)) (now (masses2 .exit)) (now (fills2 .exit)) (now (carry2 .exit))) (now (marks .exit)) ⌝ }
 {
     let a = admitted(
         steps,
         flags,
         parts,
-        mass,
-        fill,
+        masses,
+        fills,
         carry,
         flags2,
         parts2,
-        mass2,
-        fill2,
+        masses2,
+        fills2,
         carry2,
         marks,
         s,
@@ -271,13 +271,13 @@ pub fn run(
         steps,
         flags,
         parts,
-        mass,
-        fill,
+        masses,
+        fills,
         carry,
         flags2,
         parts2,
-        mass2,
-        fill2,
+        masses2,
+        fills2,
         carry2,
         marks,
         s,

@@ -24,11 +24,11 @@ ghost use Rattle.grid.specs.Promise.{Stepped};
 ghost use Rattle.step.specs.inner.Finished.{Finishing, Finished, Tried};
 
 // Test 8 where something is not fair: test 6's own scan of the second set.
-fn judged(flags2: &[u8], parts2: &[i32], mass2: &[i32], fill2: &[u32], carry2: &[i64]) -> Answer
-    requires { ⌜ Sized (length (now flags2)) (lent (now flags2) (now parts2) (now mass2) (now fill2) (now carry2)) ⌝ }
-    ensures { λ r. ⌜ r ≡ ifNone (suc (length (now (flags2 .entry)))) 8 (badRule d3q19 (length (now (flags2 .entry))) (stateOf 18 (lent (now (flags2 .entry)) (now (parts2 .entry)) (now (mass2 .entry)) (now (fill2 .entry)) (now (carry2 .entry))))) Answer.Done ⌝ }
+fn judged(flags2: &[u8], parts2: &[i32], masses2: &[i32], fills2: &[u32], carry2: &[i64]) -> Answer
+    requires { ⌜ Sized (length (now flags2)) (lent (now flags2) (now parts2) (now masses2) (now fills2) (now carry2)) ⌝ }
+    ensures { λ r. ⌜ r ≡ ifNone (suc (length (now (flags2 .entry)))) 8 (badRule d3q19 (length (now (flags2 .entry))) (stateOf 18 (lent (now (flags2 .entry)) (now (parts2 .entry)) (now (masses2 .entry)) (now (fills2 .entry)) (now (carry2 .entry))))) Answer.Done ⌝ }
 {
-    let d = checking::first_bad(flags2, parts2, mass2, fill2, carry2[0]);
+    let d = checking::first_bad(flags2, parts2, masses2, fills2, carry2[0]);
     if d <= flags2.len() {
         return Answer::Refused(8, d);
     }
@@ -39,13 +39,13 @@ fn judged(flags2: &[u8], parts2: &[i32], mass2: &[i32], fill2: &[u32], carry2: &
 fn finished(
     flags: &[u8],
     parts: &[i32],
-    mass: &[i32],
-    fill: &[u32],
+    masses: &[i32],
+    fills: &[u32],
     carry: &[i64],
     flags2: &mut [u8],
     parts2: &mut [i32],
-    mass2: &mut [i32],
-    fill2: &mut [u32],
+    masses2: &mut [i32],
+    fills2: &mut [u32],
     carry2: &mut [i64],
     marks: &mut [u8],
     fair: bool,
@@ -53,64 +53,64 @@ fn finished(
     s: Sides,
     g: Settings,
 ) -> Answer
-    requires { ⌜ Finishing s g (lent (now flags) (now parts) (now mass) (now fill) (now carry)) (lent (now flags2) (now parts2) (now mass2) (now fill2) (now carry2)) (now marks) fair calm ⌝ }
-    ensures { λ r. ⌜ Finished s g (lent (now (flags .entry)) (now (parts .entry)) (now (mass .entry)) (now (fill .entry)) (now (carry .entry))) r (lent (now (flags2 .exit)) (now (parts2 .exit)) (now (mass2 .exit)) (now (fill2 .exit)) (now (carry2 .exit))) (now (marks .exit)) ⌝ }
+    requires { ⌜ Finishing s g (lent (now flags) (now parts) (now masses) (now fills) (now carry)) (lent (now flags2) (now parts2) (now masses2) (now fills2) (now carry2)) (now marks) fair calm ⌝ }
+    ensures { λ r. ⌜ Finished s g (lent (now (flags .entry)) (now (parts .entry)) (now (masses .entry)) (now (fills .entry)) (now (carry .entry))) r (lent (now (flags2 .exit)) (now (parts2 .exit)) (now (masses2 .exit)) (now (fills2 .exit)) (now (carry2 .exit))) (now (marks .exit)) ⌝ }
 {
     let a = turning::turned(
         flags,
         parts,
-        mass,
-        fill,
+        masses,
+        fills,
         carry,
         flags2,
         parts2,
-        mass2,
+        masses2,
         carry2,
         marks,
         calm,
         s,
         g,
     );
-    let b = filling::new_fills(flags2, parts2, mass2, fill2);
+    let b = filling::new_fills(flags2, parts2, masses2, fills2);
     if fair & a & b {
         return Answer::Done;
     }
-    judged(flags2, parts2, mass2, fill2, carry2)
+    judged(flags2, parts2, masses2, fills2, carry2)
 }
 
 // The passes in a row; after a refusal the second set holds what was worked out so far.
 fn tried(
     flags: &[u8],
     parts: &[i32],
-    mass: &[i32],
-    fill: &[u32],
+    masses: &[i32],
+    fills: &[u32],
     carry: &[i64],
     flags2: &mut [u8],
     parts2: &mut [i32],
-    mass2: &mut [i32],
-    fill2: &mut [u32],
+    masses2: &mut [i32],
+    fills2: &mut [u32],
     carry2: &mut [i64],
     marks: &mut [u8],
     s: Sides,
     g: Settings,
 ) -> Answer
-    requires { ⌜ Stepping s g (lent (now flags) (now parts) (now mass) (now fill) (now carry)) (lent (now flags2) (now parts2) (now mass2) (now fill2) (now carry2)) (now marks) ⌝ }
-    ensures { λ r. ⌜ Tried s g (lent (now (flags .entry)) (now (parts .entry)) (now (mass .entry)) (now (fill .entry)) (now (carry .entry))) r (lent (now (flags2 .exit)) (now (parts2 .exit)) (now (mass2 .exit)) (now (fill2 .exit)) (now (carry2 .exit))) (now (marks .exit)) ⌝ }
+    requires { ⌜ Stepping s g (lent (now flags) (now parts) (now masses) (now fills) (now carry)) (lent (now flags2) (now parts2) (now masses2) (now fills2) (now carry2)) (now marks) ⌝ }
+    ensures { λ r. ⌜ Tried s g (lent (now (flags .entry)) (now (parts .entry)) (now (masses .entry)) (now (fills .entry)) (now (carry .entry))) r (lent (now (flags2 .exit)) (now (parts2 .exit)) (now (masses2 .exit)) (now (fills2 .exit)) (now (carry2 .exit))) (now (marks .exit)) ⌝ }
 {
     marks::mark_open(flags, marks, s);
-    let a = passing::flowing(flags, parts, mass, fill, parts2, mass2, marks, s, g);
+    let a = passing::flowing(flags, parts, masses, fills, parts2, masses2, marks, s, g);
     match a {
         Passed::Stopped(c) => Answer::Refused(7, c),
         Passed::Through(fair, calm) => finished(
             flags,
             parts,
-            mass,
-            fill,
+            masses,
+            fills,
             carry,
             flags2,
             parts2,
-            mass2,
-            fill2,
+            masses2,
+            fills2,
             carry2,
             marks,
             fair,
@@ -125,31 +125,31 @@ fn tried(
 pub fn advanced(
     flags: &[u8],
     parts: &[i32],
-    mass: &[i32],
-    fill: &[u32],
+    masses: &[i32],
+    fills: &[u32],
     carry: &[i64],
     flags2: &mut [u8],
     parts2: &mut [i32],
-    mass2: &mut [i32],
-    fill2: &mut [u32],
+    masses2: &mut [i32],
+    fills2: &mut [u32],
     carry2: &mut [i64],
     marks: &mut [u8],
     s: Sides,
     g: Settings,
 ) -> Answer
-    requires { ⌜ Stepping s g (lent (now flags) (now parts) (now mass) (now fill) (now carry)) (lent (now flags2) (now parts2) (now mass2) (now fill2) (now carry2)) (now marks) ⌝ }
-    ensures { λ r. ⌜ Advanced s g (lent (now (flags .entry)) (now (parts .entry)) (now (mass .entry)) (now (fill .entry)) (now (carry .entry))) r (lent (now (flags2 .exit)) (now (parts2 .exit)) (now (mass2 .exit)) (now (fill2 .exit)) (now (carry2 .exit))) (now (marks .exit)) ⌝ }
+    requires { ⌜ Stepping s g (lent (now flags) (now parts) (now masses) (now fills) (now carry)) (lent (now flags2) (now parts2) (now masses2) (now fills2) (now carry2)) (now marks) ⌝ }
+    ensures { λ r. ⌜ Advanced s g (lent (now (flags .entry)) (now (parts .entry)) (now (masses .entry)) (now (fills .entry)) (now (carry .entry))) r (lent (now (flags2 .exit)) (now (parts2 .exit)) (now (masses2 .exit)) (now (fills2 .exit)) (now (carry2 .exit))) (now (marks .exit)) ⌝ }
 {
     let a = tried(
         flags,
         parts,
-        mass,
-        fill,
+        masses,
+        fills,
         carry,
         flags2,
         parts2,
-        mass2,
-        fill2,
+        masses2,
+        fills2,
         carry2,
         marks,
         s,
@@ -159,13 +159,13 @@ pub fn advanced(
         sets::copied(
             flags,
             parts,
-            mass,
-            fill,
+            masses,
+            fills,
             carry,
             flags2,
             parts2,
-            mass2,
-            fill2,
+            masses2,
+            fills2,
             carry2,
         );
         copying::clear(marks);
@@ -178,30 +178,30 @@ pub fn advanced(
 pub fn step(
     flags: &[u8],
     parts: &[i32],
-    mass: &[i32],
-    fill: &[u32],
+    masses: &[i32],
+    fills: &[u32],
     carry: &[i64],
     flags2: &mut [u8],
     parts2: &mut [i32],
-    mass2: &mut [i32],
-    fill2: &mut [u32],
+    masses2: &mut [i32],
+    fills2: &mut [u32],
     carry2: &mut [i64],
     marks: &mut [u8],
     s: Sides,
     g: Settings,
 ) -> Answer
-    ensures { λ r. ⌜ Stepped s g (lent (now (flags .entry)) (now (parts .entry)) (now (mass .entry)) (now (fill .entry)) (now (carry .entry))) (lent (now (flags2 .entry)) (now (parts2 .entry)) (now (mass2 .entry)) (now (fill2 .entry)) (now (carry2 .entry))) (now (marks .entry)) r (lent (now (flags2 .exit)) (now (parts2 .exit)) (now (mass2 .exit)) (now (fill2 .exit)) (now (carry2 .exit))) (now (marks .exit)) ⌝ }
+    ensures { λ r. ⌜ Stepped s g (lent (now (flags .entry)) (now (parts .entry)) (now (masses .entry)) (now (fills .entry)) (now (carry .entry))) (lent (now (flags2 .entry)) (now (parts2 .entry)) (now (masses2 .entry)) (now (fills2 .entry)) (now (carry2 .entry))) (now (marks .entry)) r (lent (now (flags2 .exit)) (now (parts2 .exit)) (now (masses2 .exit)) (now (fills2 .exit)) (now (carry2 .exit))) (now (marks .exit)) ⌝ }
 {
     let a = entry::entered(
         flags,
         parts,
-        mass,
-        fill,
+        masses,
+        fills,
         carry,
         flags2,
         parts2,
-        mass2,
-        fill2,
+        masses2,
+        fills2,
         carry2,
         marks,
         s,
@@ -213,13 +213,13 @@ pub fn step(
     advanced(
         flags,
         parts,
-        mass,
-        fill,
+        masses,
+        fills,
         carry,
         flags2,
         parts2,
-        mass2,
-        fill2,
+        masses2,
+        fills2,
         carry2,
         marks,
         s,

@@ -2,13 +2,13 @@
 use mathlib.Core.Path.{_≡_, sym, _∙_, subst}
 use mathlib.Core.Bool.{true}
 use Prim.Native.Nat.{ℕ, _+_, _*_, _/_, _%_, _≤_, _<_}
-use native.Mathlib.Nat.{mul-le-mul, mul-pos, mul-comm, mul-assoc, mul-left-comm, add-comm, mod-lt, div-lt-iff-lt-mul}
+use native.Mathlib.Nat.{mul-le-mul, mul-pos, mul-comm, mul-assoc, mod-lt, div-lt-iff-lt-mul}
 use native.Mathlib.Omega.{arith}
-use lib.Arith.{digits-lt}
 use Rattle.grid.specs.declared.Sides.{Sides}
 use Rattle.grid.specs.Grid.{sidesGood, cellsOf, cellAt}
 use Rattle.grid.proofs.GoodSides.{good-sides}
 use Rattle.tunnel.specs.inner.Asks.{Inside}
+use Rattle.grid.proofs.Box.{cell-lt}
 
 -- the coordinates of cell c
 pub record Coordinates (s : Sides) (c : ℕ) : Type 0 where
@@ -37,12 +37,6 @@ coordinates s c e h =
     }
 
 -- ---- a cell inside the sides
-pub cell-lt : (nx ny nz x y z : ℕ) → x < nx → y < ny → z < nz → cellAt nx ny x y z < nx * (ny * nz)
-cell-lt nx ny nz x y z hx hy hz =
-    let h : (z * ny + y) * nx + x < nz * ny * nx = digits-lt (digits-lt hz hy) hx in
-    let e : x + nx * (y + ny * z) ≡ (z * ny + y) * nx + x = simp (mul-comm, add-comm) in
-    let f : nz * ny * nx ≡ nx * (ny * nz) = simp (mul-assoc, mul-comm, mul-left-comm) in
-    omega arith
 
 -- its number and all that leads to it is small
 pub record Small (s : Sides) (x y z : ℕ) : Type 0 where

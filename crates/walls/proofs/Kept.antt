@@ -22,20 +22,19 @@ use Rattle.lattice.specs.Lattice.{d3q19}
 use Rattle.lattice.specs.Cell.{carryGood}
 use Rattle.lattice.proofs.Paired.{paired19}
 use Rattle.grid.specs.declared.Sides.{Sides}
-use Rattle.grid.specs.declared.Answer.{Answer}
-use Rattle.grid.specs.declared.Answer.the-variants.{Done, Refused}
+use Rattle.grid.specs.declared.Answer.the-variants.{Done}
 use Rattle.grid.specs.Grid.{cellsOf, gridOf, box}
 use Rattle.grid.specs.State.{Lent, byFlag, stateOf}
 use Rattle.grid.specs.Good.{cellGood, badRule}
-use Rattle.grid.specs.Outcome.{accepted, goodAnswer}
+use Rattle.grid.specs.Outcome.{goodAnswer}
 use Rattle.grid.specs.Demands.{Closed, fluidWater, interfaceWater, water, waterOf}
 use Rattle.grid.proofs.Accepted.{passed, none-found, sound, pass-good}
 use Rattle.grid.proofs.Box.{grid-laid}
 use Rattle.grid.proofs.Laid.{inner}
 use Rattle.schemes.specs.Scheme.{wallAt, ownAt, joinedFlag, joinedFlags, joined, markGood, tested}
-use Rattle.pumps.specs.Acts.{andThen}
 use Rattle.walls.specs.Outcome.{wanted, inWay, mayChange, placed, clear, wallAnswer, wallMap}
 use Rattle.schemes.proofs.Tests.{Scheme, tells, passes, flag, flag-at, goodAs, good-dry, joined-good, flags-low, outer-wall, map-low}
+use Rattle.pumps.proofs.Kept.{then-both}
 
 -- a joined flag of 2 is a fluid cell of the scheme
 fluid-own : (m f : ℕ) → joinedFlag m f ≡ 2 → f ≡ 2
@@ -259,10 +258,6 @@ Claim =
     (s : Sides) (map : List ℕ) (a b : Lent) (add : Bool) (c : ℕ) → wallAnswer s map a b add c ≡ Done
     → Still s map (wallMap s map a b add c) add c a × Still s map (wallMap s map a b add c) add c b
 
-pub then-done : (x rest : Answer) → andThen x rest ≡ Done → (x ≡ Done) × (rest ≡ Done)
-then-done Done rest e = (refl, e)
-then-done (Refused n p) rest e = absurd (false≢true (ap accepted e))
-
 -- what an accepted change tells
 pub record Granted (s : Sides) (map : List ℕ) (a b : Lent) (add : Bool) (c : ℕ) : Type 0 where
   pub own : tested s map a true ≡ Done
@@ -275,8 +270,8 @@ pub record Granted (s : Sides) (map : List ℕ) (a b : Lent) (add : Bool) (c : �
 pub granted : (s : Sides) (map : List ℕ) (a b : Lent) (add : Bool) (c : ℕ) → wallAnswer s map a b add c ≡ Done → Granted s map a b add c
 unfolding wallAnswer placed clear
 granted s map a b add c e =
-    let x = then-done (tested s map a true) _ e in
-    let y = then-done (tested s map b true) _ (x .1) in
+    let x = then-both (tested s map a true) _ e in
+    let y = then-both (tested s map b true) _ (x .1) in
     let p = passed (ltb c (cellsOf s)) 13 0 _ (y .1) in
     let q = passed (mayChange s map add c) 17 c _ (p .1) in
     let r = passed (clear s a b add c) 18 c Done (q .1) in

@@ -12,3 +12,4 @@ pub mod Sums
 pub mod Search
 pub mod Tab
 pub mod Table
+pub mod Counts

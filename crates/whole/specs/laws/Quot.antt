@@ -53,7 +53,7 @@ abs-rem (negsuc a) b = abs-neg (pos (suc a % natAbs b))
 pub rem-lt : (a b : ℤ) → 0 < natAbs b → natAbs (remZ a b) < natAbs b
 rem-lt a b h = omega (arith, abs-rem a b, mod-lt (natAbs a) h)
 
-minus-from : (a x r : ℤ) → a ≡ x +ℤ r → a -ℤ x ≡ r
+pub minus-from : (a x r : ℤ) → a ≡ x +ℤ r → a -ℤ x ≡ r
 minus-from a x r e = ap (λ (y : ℤ). y -ℤ x) e ∙ ring-by (x ∷ r ∷ []) (search quotes depth 20) (search quotes depth 20) tt
 
 pub rest-is : (a b : ℤ) → a -ℤ b *ℤ quotZ a b ≡ remZ a b

@@ -4,10 +4,10 @@ use mathlib.Core.Path.{_≡_, refl, sym, ap, ap₂, _∙_, subst}
 use mathlib.Core.Logic.{_⊎_, inl, inr}
 use mathlib.Core.Bool.{Bool, true, false, _||_, _&&_, false≢true}
 use Prim.Native.Nat.{ℕ, zero, suc, _+_, _≤_, _<_}
-use native.Mathlib.Nat.{eq-or-lt-of-le, le-of-suc-le-suc, not-suc-le-zero, lt-irrefl, add-zero, add-suc, suc-add, zero-add}
+use native.Mathlib.Nat.{le-step, lt-suc-self, eq-or-lt-of-le, le-of-suc-le-suc, not-suc-le-zero, lt-irrefl, add-zero, add-suc, suc-add, zero-add}
 use native.Mathlib.Numerals.{add-one}
 use native.Mathlib.Omega.{arith}
-use Rattle.whole.specs.laws.Bools.{and-yes, and-left, and-right, or-left, or-right, or-cases}
+use Rattle.whole.specs.laws.Bools.{and-true, and-yes, and-left, and-right, or-left, or-right, or-cases}
 use Rattle.whole.specs.Fold.{any, all, firstFrom, first, anyDir, Dir}
 
 pub as-dir : {q a : ℕ} → a < q → Dir q (suc a)
@@ -150,3 +150,27 @@ all-more c f = sym (ap (λ (n : ℕ). all n f) (add-one c))
 -- a cell that passes need not be looked at
 pub all-past : {b : Bool} (c : ℕ) (f : ℕ → Bool) → b ≡ all c f → true ≡ f c → b ≡ all (c + 1) f
 all-past {b} c f e t = sym (and-yes b true refl) ∙ ap₂ _&&_ e t ∙ all-more c f
+
+-- ---- equal tests, tests that all pass, and what stands before the first
+pub any-cong : (n : ℕ) (f g : ℕ → Bool) → ((a : ℕ) → a < n → f a ≡ g a) → any n f ≡ any n g
+unfolding any
+any-cong zero f g h = refl
+any-cong (suc n) f g h = ap₂ (λ (x y : Bool). x || y) (any-cong n f g (λ a k. h a (le-step k))) (h n (lt-suc-self n))
+
+pub all-true : (n : ℕ) (f : ℕ → Bool) → ((a : ℕ) → a < n → f a ≡ true) → all n f ≡ true
+unfolding all
+all-true zero f h = refl
+all-true (suc n) f h = and-true (all n f) (f n) (all-true n f (λ a k. h a (le-step k))) (h n (lt-suc-self n))
+
+-- what stands before the first that passes does not pass
+pub before-first : (n i : ℕ) (f : ℕ → Bool) (a : ℕ) → i + a < firstFrom n i f → f (i + a) ≡ false
+unfolding firstFrom
+before-first zero i f a h = absurd (omega arith)
+before-first (suc n) i f a h = go (f i) refl a h (λ b k. before-first n (suc i) f b k)
+  where
+    go : (t : Bool) → f i ≡ t → (a : ℕ) → i + a < firstFrom (suc n) i f → ((b : ℕ) → suc i + b < firstFrom n (suc i) f → f (suc i + b) ≡ false) → f (i + a) ≡ false
+    go true p a h r = let g : i + a < i = rw (p, firstFrom) at h in absurd (omega arith)
+    go false p zero h r = ap f (add-zero i) ∙ p
+    go false p (suc b) h r =
+        let g : i + suc b < firstFrom n (suc i) f = rw (p, firstFrom) at h in
+        ap f (add-suc i b ∙ sym (suc-add i b)) ∙ r b (omega arith)

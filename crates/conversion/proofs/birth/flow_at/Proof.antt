@@ -23,7 +23,7 @@ streamed-requires c κs =
 bounded : (c : tie.After-streamed) → Bounded (c .streamed .result) 1073741824 33554432
 bounded c =
     let s : tie.Start = search in
-    bounded-now (d3q19 .weight) (s .args .flags .now) (partOf (s .args .parts .now)) (s .args .fill .now) (s .args .off .now) (s .args .low) (s .args .g) (s .args .b) (c .streamed .result) (c .streamed .ensures (s .args .g)) light19 (bodiesOf (s .pre .0 .bodies))
+    bounded-now (d3q19 .weight) (s .args .flags .now) (partOf (s .args .parts .now)) (s .args .fills .now) (s .args .off .now) (s .args .low) (s .args .g) (s .args .b) (c .streamed .result) (c .streamed .ensures (s .args .g)) light19 (bodiesOf (s .pre .0 .bodies))
     (s .pre .0 .around (s .args .b) (s .pre .1) (wet-low _ (s .pre .2))) (s .pre .2)
 
 flow-of-requires : tie.Need-flow-of-requires
@@ -50,8 +50,8 @@ returns c =
     let l = after-streamed .streamed .result in
     let e = after-flow-of .flow-of .ensures in
     let p = c .pulled .ensures in
-    let ρ = e .0 ∙ density-now (d3q19 .weight) (s .args .flags .now) (partOf (s .args .parts .now)) (s .args .fill .now) (s .args .off .now) (s .args .low) (s .args .g) (s .args .b) l (after-streamed .streamed .ensures (s .args .g)) in
-    let j = e .1 ∙ momentum-now (d3q19 .weight) (s .args .flags .now) (partOf (s .args .parts .now)) (s .args .fill .now) (s .args .off .now) (s .args .low) (s .args .g) (s .args .b) l (after-streamed .streamed .ensures (s .args .g)) in
+    let ρ = e .0 ∙ density-now (d3q19 .weight) (s .args .flags .now) (partOf (s .args .parts .now)) (s .args .fills .now) (s .args .off .now) (s .args .low) (s .args .g) (s .args .b) l (after-streamed .streamed .ensures (s .args .g)) in
+    let j = e .1 ∙ momentum-now (d3q19 .weight) (s .args .flags .now) (partOf (s .args .parts .now)) (s .args .fills .now) (s .args .off .now) (s .args .low) (s .args .g) (s .args .b) l (after-streamed .streamed .ensures (s .args .g)) in
     record {
       rho = p .rho ∙ ρ;
       x = p .x ∙ ap₂ (λ (a r : ℤ). a +ℤ pull r (s .args .g .gx)) (ap (λ (v : V3). v .x) j) ρ;

@@ -33,7 +33,7 @@ low-of-requires c κs = let start : tie.Start Inv-loop μ-loop = search in start
 loop-holds : tie.Need-loop-holds Inv-loop μ-loop
 loop-holds c =
     let after-offsets : tie.After-offsets Inv-loop μ-loop = search in let start : tie.Start Inv-loop μ-loop = search in let a = start .args in
-    let S = boxSight (a .flags .now) (a .parts .now) [] (a .fill .now) (after-offsets .offsets .result) (c .low-of .result) (a .g) in
+    let S = boxSight (a .flags .now) (a .parts .now) [] (a .fills .now) (after-offsets .offsets .result) (c .low-of .result) (a .g) in
     let w = newlyBorn (a .flags .now) (a .flags2 .now) in
     (omega arith, reached-zero S w (partOf (a .parts2 .now)), refl, all-none (laterFair S w))
 
@@ -65,7 +65,7 @@ loop-again c =
     let s : tie.Start Inv-loop μ-loop = search in
     let a = s .args in
     let l = at-loop .loop in
-    let S = boxSight (a .flags .now) (a .parts .now) [] (a .fill .now) (after-offsets .offsets .result) (after-low-of .low-of .result) (a .g) in
+    let S = boxSight (a .flags .now) (a .parts .now) [] (a .fills .now) (after-offsets .offsets .result) (after-low-of .low-of .result) (a .g) in
     let w = newlyBorn (a .flags .now) (a .flags2 .now) in
     let h : l .c < length (a .flags .now) = in-loop .loop-test .taken in
     let room : 19 * l .c + 19 ≤ length (l .parts2) = omega (arith, l .inv .2, s .pre .2) in
@@ -91,11 +91,11 @@ returns c =
     let o = after-offsets .offsets in
     let m = after-low-of .low-of in
     let l = at-loop .loop in
-    let S = boxSight (a .flags .now) (a .parts .now) [] (a .fill .now) (o .result) (m .result) (a .g) in
+    let S = boxSight (a .flags .now) (a .parts .now) [] (a .fills .now) (o .result) (m .result) (a .g) in
     let w = newlyBorn (a .flags .now) (a .flags2 .now) in
     let e : l .c ≡ length (a .flags .now) = omega arith in
-    subst (λ (off : List ℕ). Peopled (boxSight (a .flags .now) (a .parts .now) [] (a .fill .now) off (lowOf (a .s)) (a .g)) w (length (a .flags .now)) (a .parts2 .now) (l .parts2) (l .fair)) (o .ensures)
-    (subst (λ (low : ℕ). Peopled (boxSight (a .flags .now) (a .parts .now) [] (a .fill .now) (o .result) low (a .g)) w (length (a .flags .now)) (a .parts2 .now) (l .parts2) (l .fair)) (m .ensures)
+    subst (λ (off : List ℕ). Peopled (boxSight (a .flags .now) (a .parts .now) [] (a .fills .now) off (lowOf (a .s)) (a .g)) w (length (a .flags .now)) (a .parts2 .now) (l .parts2) (l .fair)) (o .ensures)
+    (subst (λ (low : ℕ). Peopled (boxSight (a .flags .now) (a .parts .now) [] (a .fills .now) (o .result) low (a .g)) w (length (a .flags .now)) (a .parts2 .now) (l .parts2) (l .fair)) (m .ensures)
     (peopled S w (a .parts2 .now) (l .parts2) (length (a .flags .now)) (l .fair) (l .inv .2 ∙ s .pre .2) (subst (Reached S w (partOf (a .parts2 .now)) (partOf (l .parts2))) e (l .inv .1))
     (l .inv .3 ∙ ap (λ (n : ℕ). all n (laterFair S w)) e)))
 

@@ -19,7 +19,7 @@ mean-flow-requires c κs = search needs
 equilibrium-requires : tie.Need-equilibrium-requires
 equilibrium-requires c κs =
     let s : tie.Start = search in
-    born-tame (d3q19 .weight) (s .args .flags .now) (partOf (s .args .parts .now)) (s .args .fill .now) (s .args .off .now) (s .args .low) (s .args .g) (s .args .c) (testedOf (s .pre .0)) (s .pre .1) (c .mean-flow .ensures) (s .pre .2)
+    born-tame (d3q19 .weight) (s .args .flags .now) (partOf (s .args .parts .now)) (s .args .fills .now) (s .args .off .now) (s .args .low) (s .args .g) (s .args .c) (testedOf (s .pre .0)) (s .pre .1) (c .mean-flow .ensures) (s .pre .2)
 
 mul-paste : tie.Need-mul-paste
 mul-paste c = search needs
@@ -40,8 +40,8 @@ returns c =
     let b = after-mean-flow .mean-flow .ensures in
     let v = after-equilibrium .equilibrium in
     record {
-      parts = after-paste .paste .ensures ∙ ap (λ (l : List ℤ). pasted (s .args .parts2 .now) (19 * s .args .c) l) (born-list (d3q19 .weight) (s .args .flags .now) (partOf (s .args .parts .now)) (s .args .fill .now) (s .args .off .now) (s .args .low) (s .args .g) (s .args .c) b (v .result) (v .ensures .0));
-      fair-is = c .fair-parts .ensures ∙ born-fair (d3q19 .weight) (s .args .flags .now) (partOf (s .args .parts .now)) (s .args .fill .now) (s .args .off .now) (s .args .low) (s .args .g) (s .args .c) b (v .result) (v .ensures .0);
+      parts = after-paste .paste .ensures ∙ ap (λ (l : List ℤ). pasted (s .args .parts2 .now) (19 * s .args .c) l) (born-list (d3q19 .weight) (s .args .flags .now) (partOf (s .args .parts .now)) (s .args .fills .now) (s .args .off .now) (s .args .low) (s .args .g) (s .args .c) b (v .result) (v .ensures .0));
+      fair-is = c .fair-parts .ensures ∙ born-fair (d3q19 .weight) (s .args .flags .now) (partOf (s .args .parts .now)) (s .args .fills .now) (s .args .off .now) (s .args .low) (s .args .g) (s .args .c) b (v .result) (v .ensures .0);
     }
 
 pub put-born-spec : {M : Type 1} → statement M

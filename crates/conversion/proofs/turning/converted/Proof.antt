@@ -24,7 +24,7 @@ use Rattle.conversion.proofs.turning.converted.Statement.{statement}
 use Rattle.conversion.proofs.turning.converted.Tie as tie
 
 abbrev set-of : tie.Start → Lent
-set-of t = lent (t .args .flags .now) (t .args .parts .now) (t .args .mass .now) (t .args .fill .now) (t .args .carry .now)
+set-of t = lent (t .args .flags .now) (t .args .parts .now) (t .args .masses .now) (t .args .fills .now) (t .args .carry .now)
 
 -- a number within 10^12 is kept by 64 bits
 kept : (z : ℤ) → Within z 1000000000000 → toZ w64 (ofZ w64 z) ≡ z
@@ -122,7 +122,7 @@ same-length-2 : tie.Need-same-length-2
 same-length-2 c = let after-parts22 : tie.After-parts22 = search in let after-parts2 : tie.After-parts2 = search in after-parts22 .parts22 .given ∙ after-parts2 .parts2 .given
 
 same-length-3 : tie.Need-same-length-3
-same-length-3 c = let after-mass22 : tie.After-mass22 = search in let after-mass2 : tie.After-mass2 = search in after-mass22 .mass22 .given ∙ after-mass2 .mass2 .given
+same-length-3 c = let after-masses22 : tie.After-masses22 = search in let after-masses2 : tie.After-masses2 = search in after-masses22 .masses22 .given ∙ after-masses2 .masses2 .given
 
 same-length-4 : tie.Need-same-length-4
 same-length-4 c = simp length-set

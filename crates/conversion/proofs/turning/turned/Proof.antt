@@ -11,7 +11,7 @@ use Rattle.conversion.proofs.turning.turned.Statement.{statement}
 use Rattle.conversion.proofs.turning.turned.Tie as tie
 
 abbrev set-of : tie.Start → Lent
-set-of t = lent (t .args .flags .now) (t .args .parts .now) (t .args .mass .now) (t .args .fill .now) (t .args .carry .now)
+set-of t = lent (t .args .flags .now) (t .args .parts .now) (t .args .masses .now) (t .args .fills .now) (t .args .carry .now)
 
 -- with still true, what pass 1 says of it
 calm-moved : (S : Scene) (n : ℕ) (parts masses : List ℤ) (marks : List ℕ) (fair calm : Bool) → calm ≡ true → Moved S n parts masses marks fair calm → Moved S n parts masses marks fair true
@@ -46,7 +46,7 @@ same-length-4 : tie.Need-same-length-4
 same-length-4 c = let after-parts2 : tie.After-parts2 = search in after-parts2 .parts2 .given
 
 same-length-5 : tie.Need-same-length-5
-same-length-5 c = let after-mass2 : tie.After-mass2 = search in after-mass2 .mass2 .given
+same-length-5 c = let after-masses2 : tie.After-masses2 = search in after-masses2 .masses2 .given
 
 same-length-6 : tie.Need-same-length-6
 same-length-6 c = let after-carry22 : tie.After-carry22 = search in let after-carry2 : tie.After-carry2 = search in after-carry22 .carry22 .given ∙ after-carry2 .carry2 .given

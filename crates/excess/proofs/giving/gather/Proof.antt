@@ -29,7 +29,7 @@ abbrev μ-loop : tie.MeasureT-loop
 -- what was asked, of the offsets that the code has
 giving : (c : tie.After-low-of Inv-loop μ-loop)
     → let a = c .before .before .before .before .before .args in
-    Giving (a .flags .now) (a .fill .now) (roomOf (a .parts .now)) (partOf (a .parts .now)) (a .masses .now) (a .marks .now) (c .before .offsets .result) (c .low-of .result)
+    Giving (a .flags .now) (a .fills .now) (roomOf (a .parts .now)) (partOf (a .parts .now)) (a .masses .now) (a .marks .now) (c .before .offsets .result) (c .low-of .result)
 giving c = giving-as (c .before .offsets .ensures) (c .low-of .ensures) (c .before .before .before .before .before .pre .giving)
 
 offsets-requires : tie.Need-offsets-requires Inv-loop μ-loop
@@ -79,7 +79,7 @@ gifts-told : (c : tie.After-wide Inv-loop μ-loop)
     → let l = c .before .before .before .before .before .before .before .before in
     let a = l .before .before .before .before .before .before .args in
     toZ w64 (ofZ w64 (c .before .before .gifts .result))
-    ≡ receivedAt (a .flags .now) (a .fill .now) (partOf (a .parts .now)) (a .masses .now) (a .marks .now) (l .before .before .offsets .result) (l .before .low-of .result) (l .loop .c)
+    ≡ receivedAt (a .flags .now) (a .fills .now) (partOf (a .parts .now)) (a .masses .now) (a .marks .now) (l .before .before .offsets .result) (l .before .low-of .result) (l .loop .c)
 gifts-told c =
     let l = c .before .before .before .before .before .before .before .before in
     told64 (c .before .before .gifts .ok) (c .before .before .gifts .ensures
@@ -148,7 +148,7 @@ returns c =
     let e = l .before .low-of .ensures in
     ranged-all (pos 0) (taking (giving (l .before))) (a .masses .now) 0 (length (a .flags .now)) (l .loop .masses) (l .loop .c) _ _ (l .loop .inv) (c .loop-test .left) (s .pre .giving .masses-there ∙ s .pre .count)
     (λ j k. in-range (taking (giving (l .before))) (a .masses .now) (length (a .flags .now)) j (omega (arith, s .pre .count))
-    ∙ ap₂ (λ (x : List ℕ) (y : ℕ). gatheredAt (a .flags .now) (a .fill .now) (partOf (a .parts .now)) (a .masses .now) (a .marks .now) x y j) o e)
+    ∙ ap₂ (λ (x : List ℕ) (y : ℕ). gatheredAt (a .flags .now) (a .fills .now) (partOf (a .parts .now)) (a .masses .now) (a .marks .now) x y j) o e)
 
 pub gather-spec : {M : Type 1} → statement M
 gather-spec =

@@ -13,7 +13,7 @@ shared-slice-read-m c = search needs
 returns : tie.Need-returns
 returns c =
     let s = c .before .before .before .before .before in
-    from-none (s .args .flags .now) (s .args .fill .now) (partOf (s .args .parts .now)) (s .args .masses .now) (s .args .off .now) (s .args .low) (s .args .marks .now) (s .args .b) (s .args .i) (c .if1 .taken)
+    from-none (s .args .flags .now) (s .args .fills .now) (partOf (s .args .parts .now)) (s .args .masses .now) (s .args .off .now) (s .args .low) (s .args .marks .now) (s .args .b) (s .args .i) (c .if1 .taken)
 
 gift-requires : tie.Need-gift-requires
 gift-requires c κs =
@@ -24,7 +24,7 @@ returns-2 : tie.Need-returns-2
 returns-2 c =
     let s = c .before .before .before .before .before .before in
     told64 (c .gift .ok) (c .gift .ensures)
-    ∙ from-some (s .args .flags .now) (s .args .fill .now) (partOf (s .args .parts .now)) (s .args .masses .now) (s .args .off .now) (s .args .low) (s .args .marks .now) (s .args .b) (s .args .i) (c .before .if1 .left)
+    ∙ from-some (s .args .flags .now) (s .args .fills .now) (partOf (s .args .parts .now)) (s .args .masses .now) (s .args .off .now) (s .args .low) (s .args .marks .now) (s .args .b) (s .args .i) (c .before .if1 .left)
 
 pub gift-from-spec : {M : Type 1} → statement M
 gift-from-spec = tie.close (tie.spec shared-slice-read-m returns gift-requires returns-2)

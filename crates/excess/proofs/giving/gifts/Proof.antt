@@ -44,7 +44,7 @@ turn c = record { some = omega arith; most = omega (arith, c .loop-test .taken) 
 -- what the neighbour there is asked
 ask : (c : tie.In-loop Inv-loop μ-loop)
     → let s = c .before .before .before .before .before in
-    Asked (s .args .flags .now) (s .args .fill .now) (roomOf (s .args .parts .now)) (partOf (s .args .parts .now)) (s .args .masses .now) (s .args .marks .now) (s .args .off .now) (s .args .low)
+    Asked (s .args .flags .now) (s .args .fills .now) (roomOf (s .args .parts .now)) (partOf (s .args .parts .now)) (s .args .masses .now) (s .args .marks .now) (s .args .off .now) (s .args .low)
     (s .args .c - s .args .low + getD (s .args .off .now) (c .before .loop .i) 0) (d3q19 .opp (c .before .loop .i))
 ask c =
     let s = c .before .before .before .before .before in
@@ -60,19 +60,19 @@ gift-from-requires : tie.Need-gift-from-requires Inv-loop μ-loop
 gift-from-requires c κs =
     let l = c .before .before .before in
     let a = l .before .before .before .before .args in
-    subst (Asked (a .flags .now) (a .fill .now) (roomOf (a .parts .now)) (partOf (a .parts .now)) (a .masses .now) (a .marks .now) (a .off .now) (a .low) (a .c - a .low + getD (a .off .now) (l .loop .i) 0))
+    subst (Asked (a .flags .now) (a .fills .now) (roomOf (a .parts .now)) (partOf (a .parts .now)) (a .masses .now) (a .marks .now) (a .off .now) (a .low) (a .c - a .low + getD (a .off .now) (l .loop .i) 0))
     (sym (c .opposite .ensures)) (ask (c .before .before))
 
 -- what the neighbour gave
 gave : (c : tie.After-gift-from Inv-loop μ-loop)
     → let l = c .before .before .before .before in
     let a = l .before .before .before .before .args in
-    toZ w64 (ofZ w64 (c .gift-from .result)) ≡ sent (a .flags .now) (a .fill .now) (partOf (a .parts .now)) (a .masses .now) (a .marks .now) (a .off .now) (a .low) (a .c - a .low) (l .loop .i - 1)
+    toZ w64 (ofZ w64 (c .gift-from .result)) ≡ sent (a .flags .now) (a .fills .now) (partOf (a .parts .now)) (a .masses .now) (a .marks .now) (a .off .now) (a .low) (a .c - a .low) (l .loop .i - 1)
 gave c =
     let l = c .before .before .before .before in
     let a = l .before .before .before .before .args in
     told64 (c .gift-from .ok) (c .gift-from .ensures
-    ∙ sent-at (a .flags .now) (a .fill .now) (partOf (a .parts .now)) (a .masses .now) (a .marks .now) (a .off .now) (a .low) (a .c - a .low) (l .loop .i) _ (omega arith) (c .before .opposite .ensures))
+    ∙ sent-at (a .flags .now) (a .fills .now) (partOf (a .parts .now)) (a .masses .now) (a .marks .now) (a .off .now) (a .low) (a .c - a .low) (l .loop .i) _ (omega arith) (c .before .opposite .ensures))
 
 add-t : tie.Need-add-t Inv-loop μ-loop
 add-t c =
@@ -104,7 +104,7 @@ returns c =
     let l = c .before in
     let a = l .before .before .before .before .args in
     let e : l .loop .i - 1 ≡ 18 = omega arith in
-    l .loop .inv .2 ∙ ap (λ (n : ℕ). sum n (sent (a .flags .now) (a .fill .now) (partOf (a .parts .now)) (a .masses .now) (a .marks .now) (a .off .now) (a .low) (a .c - a .low))) e
+    l .loop .inv .2 ∙ ap (λ (n : ℕ). sum n (sent (a .flags .now) (a .fills .now) (partOf (a .parts .now)) (a .masses .now) (a .marks .now) (a .off .now) (a .low) (a .c - a .low))) e
 
 pub gifts-spec : {M : Type 1} → statement M
 gifts-spec =

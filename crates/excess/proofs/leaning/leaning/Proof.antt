@@ -15,12 +15,12 @@ normal-requires c κs = record { reach = c .before .before .pre .0; count = c .b
 slight : (c : tie.After-normal) → Leaning (vec (c .normal .result))
 slight c =
     let s = c .before .before .before in
-    subst Leaning (sym (c .normal .ensures)) (normal-in (s .args .flags .now) (s .args .fill .now) (s .args .off .now) (s .args .k) (s .pre .2))
+    subst Leaning (sym (c .normal .ensures)) (normal-in (s .args .flags .now) (s .args .fills .now) (s .args .off .now) (s .args .k) (s .pre .2))
 
 returns : tie.Need-returns
 returns c =
     let s = c .before .before .before .before in
-    c .before .normal .ensures ∙ leaning-filled (s .args .flags .now) (s .args .fill .now) (s .args .off .now) (s .args .k) (s .args .m) (c .if1 .taken)
+    c .before .normal .ensures ∙ leaning-filled (s .args .flags .now) (s .args .fills .now) (s .args .off .now) (s .args .k) (s .args .m) (c .if1 .taken)
 
 sub-t8 : tie.Need-sub-t8
 sub-t8 c = turned-fits (slight (c .before .before .before) .x)
@@ -37,7 +37,7 @@ returns-2 c =
     let s = n .before .before .before in
     vector (turned (slight n .x)) (turned (slight n .y)) (turned (slight n .z))
     ∙ ap back (n .normal .ensures)
-    ∙ leaning-emptied (s .args .flags .now) (s .args .fill .now) (s .args .off .now) (s .args .k) (s .args .m) (c .before .before .before .before .before .before .if1 .left)
+    ∙ leaning-emptied (s .args .flags .now) (s .args .fills .now) (s .args .off .now) (s .args .k) (s .args .m) (c .before .before .before .before .before .before .if1 .left)
 
 pub leaning-spec : {M : Type 1} → statement M
 leaning-spec = tie.close (tie.spec normal-requires returns sub-t8 sub-t9 sub-t10 returns-2)

@@ -14,7 +14,7 @@ leaning-requires c κs = search needs
 leaning : (c : tie.After-leaning) → Leaning (vec (c .leaning .result))
 leaning c =
     let s = c .before .before .before in
-    subst Leaning (sym (c .leaning .ensures)) (leaning-in (s .args .flags .now) (s .args .fill .now) (s .args .off .now) (s .args .k) (s .pre .2) (s .args .m))
+    subst Leaning (sym (c .leaning .ensures)) (leaning-in (s .args .flags .now) (s .args .fills .now) (s .args .off .now) (s .args .k) (s .pre .2) (s .args .m))
 
 weights-requires : tie.Need-weights-requires
 weights-requires c κs = (c .before .before .before .pre .0, leaning c .x, leaning c .y, leaning c .z)
@@ -34,14 +34,14 @@ returns c =
     let w = d .before in
     let s = w .before .before .before .before in
     c .evens .ensures
-    ∙ used-even (s .args .flags .now) (s .args .fill .now) (s .args .off .now) (s .args .k) (s .args .m) (vec (w .before .leaning .result)) (w .before .leaning .ensures) (w .weights .ensures) (d .total .ensures) (bits-zero (d .total .ok) (c .before .if1 .taken))
+    ∙ used-even (s .args .flags .now) (s .args .fills .now) (s .args .off .now) (s .args .k) (s .args .m) (vec (w .before .leaning .result)) (w .before .leaning .ensures) (w .weights .ensures) (d .total .ensures) (bits-zero (d .total .ok) (c .before .if1 .taken))
 
 returns-2 : tie.Need-returns-2
 returns-2 c =
     let d = c .before in
     let w = d .before in
     let s = w .before .before .before .before in
-    used-lean (s .args .flags .now) (s .args .fill .now) (s .args .off .now) (s .args .k) (s .args .m) (vec (w .before .leaning .result)) (w .before .leaning .ensures) (w .weights .ensures) (d .total .ensures) (λ z. c .if1 .left (zero-bits z))
+    used-lean (s .args .flags .now) (s .args .fills .now) (s .args .off .now) (s .args .k) (s .args .m) (vec (w .before .leaning .result)) (w .before .leaning .ensures) (w .weights .ensures) (d .total .ensures) (λ z. c .if1 .left (zero-bits z))
 
 pub used-weights-spec : {M : Type 1} → statement M
 used-weights-spec =

@@ -52,7 +52,7 @@ returns : tie.Need-returns
 returns c =
     let after-put-moved : tie.After-put-moved = search in let after-chosen : tie.After-chosen = search in let t : tie.Then1 = search in
     let s : tie.Start = search in
-    after-put-moved .put-moved .ensures (s .args .flags .now) (s .args .parts .now) (s .args .fill .now) (s .args .off .now) (s .args .low) (kind t) (after-chosen .chosen .ensures (s .args .g))
+    after-put-moved .put-moved .ensures (s .args .flags .now) (s .args .parts .now) (s .args .fills .now) (s .args .off .now) (s .args .low) (kind t) (after-chosen .chosen .ensures (s .args .g))
 
 dry-out-requires : tie.Need-dry-out-requires
 dry-out-requires c κs = room (search)

@@ -20,9 +20,9 @@ use Rattle.grid.proofs.Lists.{getD-there}
 use Rattle.flow.specs.inner.Flowed.{stopped, through}
 use Rattle.flow.specs.inner.PutAt.{Putting}
 use Rattle.flow.specs.inner.Trade.{Traders}
-use Rattle.grid.proofs.Inside.{room}
+use Rattle.grid.proofs.Inside.{room, few}
 use Rattle.flow.proofs.Mirrored.{mirrored, around, immersed}
-use Rattle.flow.proofs.Poise.{few, liquid-inner, poised-bodied, poised-mass, poised-fills, placed}
+use Rattle.flow.proofs.Poise.{liquid-inner, poised-bodied, poised-mass, poised-fills, placed}
 use Rattle.flow.proofs.Walked.{Walked, walked-first, walked-turn, walked-stopped, walked-moved, put-more, moved-list}
 use Rattle.flow.proofs.passing.flowing.Statement.{statement}
 use Rattle.flow.proofs.passing.flowing.Tie as tie
@@ -57,11 +57,11 @@ module _ (d : tie.In-loop Inv-loop μ-loop) where
   offs : Offsets (start .args .s) off low
   offs = let after-low-of : tie.After-low-of Inv-loop μ-loop = search in let after-offsets : tie.After-offsets Inv-loop μ-loop = search in record { table = after-offsets .offsets .ensures; lowest = after-low-of .low-of .ensures }
 
-  poise : Poised (start .args .s) (start .args .g) (lent (start .args .flags .now) (start .args .parts .now) (start .args .mass .now) (start .args .fill .now) [])
+  poise : Poised (start .args .s) (start .args .g) (lent (start .args .flags .now) (start .args .parts .now) (start .args .masses .now) (start .args .fills .now) [])
   poise = start .pre .poised
 
-  walked : Walked (d3q19 .weight) (start .args .flags .now) (partOf (start .args .parts .now)) (start .args .mass .now) (start .args .fill .now) off low (start .args .g) (start .args .marks .now)
-      (partOf (d .before .loop .parts2)) (d .before .loop .mass2) (d .before .loop .marks) (d .before .loop .fair) (d .before .loop .calm) cell
+  walked : Walked (d3q19 .weight) (start .args .flags .now) (partOf (start .args .parts .now)) (start .args .masses .now) (start .args .fills .now) off low (start .args .g) (start .args .marks .now)
+      (partOf (d .before .loop .parts2)) (d .before .loop .masses2) (d .before .loop .marks) (d .before .loop .fair) (d .before .loop .calm) cell
   walked = d .before .loop .inv .4
 
   is-cell : cell < cellsOf (start .args .s)
@@ -76,7 +76,7 @@ module _ (d : tie.In-loop Inv-loop μ-loop) where
       subst (λ (n : ℕ). Around n off low cell) (sym (poise .flags))
       (around offs cell (liquid-inner (start .args .s) (start .args .g) _ poise cell is-cell l))
 
-  traders : Traders (start .args .flags .now) (start .args .parts .now) (start .args .mass .now) (start .args .fill .now)
+  traders : Traders (start .args .flags .now) (start .args .parts .now) (start .args .masses .now) (start .args .fills .now)
   unfolding stateOf
   traders = record {
     bodies = poised-bodied (start .args .s) (start .args .g) _ poise;
@@ -87,7 +87,7 @@ module _ (d : tie.In-loop Inv-loop μ-loop) where
     fills-good = poised-fills (start .args .s) (start .args .g) _ poise;
   }
 
-  putting : Putting (start .args .flags .now) (start .args .parts .now) (start .args .fill .now) (d .before .loop .parts2) (getD (d .before .loop .marks) cell 0) off (d .before .before .before .sources .result) low cell (start .args .g) (d .before .before .keeping .result)
+  putting : Putting (start .args .flags .now) (start .args .parts .now) (start .args .fills .now) (d .before .loop .parts2) (getD (d .before .loop .marks) cell 0) off (d .before .before .before .sources .result) low cell (start .args .g) (d .before .before .keeping .result)
   unfolding stateOf
   putting = let after-keeping : tie.After-keeping Inv-loop μ-loop = search in let after-sources : tie.After-sources Inv-loop μ-loop = search in record {
     bodied = poised-bodied (start .args .s) (start .args .g) _ poise;
@@ -193,8 +193,8 @@ loop-again c =
       put .ensures .kept ∙ l .inv .1,
       simp length-set (l .inv .2),
       simp length-set (l .inv .3),
-      walked-turn (d3q19 .weight) (t .args .flags .now) (partOf (t .args .parts .now)) (t .args .mass .now) (t .args .fill .now) (off d) (low d) (t .args .g) (t .args .marks .now)
-          (partOf (l .parts2)) (partOf (put .last .1 .1 .1 .0)) (l .mass2) (l .marks) (l .fair) (l .calm) (l .c) (walked d) (put .result) (put .ensures .told) ok
+      walked-turn (d3q19 .weight) (t .args .flags .now) (partOf (t .args .parts .now)) (t .args .masses .now) (t .args .fills .now) (off d) (low d) (t .args .g) (t .args .marks .now)
+          (partOf (l .parts2)) (partOf (put .last .1 .1 .1 .0)) (l .masses2) (l .marks) (l .fair) (l .calm) (l .c) (walked d) (put .result) (put .ensures .told) ok
           (put-more _ (l .parts2) (put .last .1 .1 .1 .0) (l .c) (omega (arith, l .inv .1, t .pre .parts-room)) (put .ensures .parts ok))
           (gained .result) _ _ _ _ (mark .result) _ (getD-there (t .args .flags .now) (l .c) 0 3 (d .loop-test .taken))
           (omega (arith, l .inv .2, t .pre .masses-room)) (omega (arith, l .inv .3, t .pre .marks-room))
@@ -222,11 +222,11 @@ returns-2 c =
     let e : l .c ≡ cellsOf (t .args .s) = omega (arith, p .flags, l .inv .0) in
     record {
       went = through (moved-list (l .inv .1 ∙ t .pre .parts-room)
-          (walked-moved (d3q19 .weight) (gridOf (t .args .s)) (t .args .g) (t .args .flags .now) (partOf (t .args .parts .now)) (t .args .mass .now) (t .args .fill .now)
+          (walked-moved (d3q19 .weight) (gridOf (t .args .s)) (t .args .g) (t .args .flags .now) (partOf (t .args .parts .now)) (t .args .masses .now) (t .args .fills .now)
           (after-offsets .offsets .result) (after-low-of .low-of .result) (cellsOf (t .args .s)) (placed (t .args .s) (t .args .g) _ p o)
-          (t .args .marks .now) (partOf (l .parts2)) (l .mass2) (l .marks) (l .fair) (l .calm)
+          (t .args .marks .now) (partOf (l .parts2)) (l .masses2) (l .marks) (l .fair) (l .calm)
           (l .inv .2 ∙ t .pre .masses-room) (l .inv .3 ∙ t .pre .marks-room)
-          (subst (λ (n : ℕ). Walked (d3q19 .weight) (t .args .flags .now) (partOf (t .args .parts .now)) (t .args .mass .now) (t .args .fill .now) (after-offsets .offsets .result) (after-low-of .low-of .result) (t .args .g) (t .args .marks .now) (partOf (l .parts2)) (l .mass2) (l .marks) (l .fair) (l .calm) n) e (l .inv .4))));
+          (subst (λ (n : ℕ). Walked (d3q19 .weight) (t .args .flags .now) (partOf (t .args .parts .now)) (t .args .masses .now) (t .args .fills .now) (after-offsets .offsets .result) (after-low-of .low-of .result) (t .args .g) (t .args .marks .now) (partOf (l .parts2)) (l .masses2) (l .marks) (l .fair) (l .calm) n) e (l .inv .4))));
       parts-kept = l .inv .1 ∙ t .pre .parts-room;
       masses-kept = l .inv .2 ∙ t .pre .masses-room;
       marks-kept = l .inv .3 ∙ t .pre .marks-room;

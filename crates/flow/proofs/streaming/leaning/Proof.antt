@@ -16,7 +16,7 @@ use Rattle.flow.proofs.streaming.leaning.Tie as tie
 flag : (s : tie.Start) → getD (s .args .flags .now) (s .args .c) 0 ≡ getD (s .args .flags .now) (s .args .c) 3
 flag s = getD-there (s .args .flags .now) (s .args .c) 0 3 (s .pre .1 .is-cell)
 
-sloping : (s : tie.Start) → Sloping (s .args .flags .now) (s .args .fill .now) (s .args .off .now) (s .args .c - s .args .low)
+sloping : (s : tie.Start) → Sloping (s .args .flags .now) (s .args .fills .now) (s .args .off .now) (s .args .c - s .args .low)
 sloping s = record { reach = s .pre .1 .each; count = s .pre .0 .count; low = s .pre .0 .low }
 
 shared-slice-read-if1 : tie.Need-shared-slice-read-if1

@@ -37,7 +37,7 @@ parts-of s k = getD (s .args .parts .now) (19 * s .args .c + k) (pos 0)
 
 -- what functions of the cell see, under any settings
 abbrev scene : (s : tie.Start Inv-loop μ-loop) → Settings → Scene
-scene s g = boxSight (s .args .flags .now) (s .args .parts .now) [] (s .args .fill .now) (s .args .off .now) (s .args .low) g
+scene s g = boxSight (s .args .flags .now) (s .args .parts .now) [] (s .args .fills .now) (s .args .off .now) (s .args .low) g
 
 body : (s : tie.Start Inv-loop μ-loop) → Body (parts-of s)
 body s = s .pre .0 .body (s .args .c) (s .pre .2 .is-cell) (s .pre .3)
@@ -236,10 +236,10 @@ loop-again c =
       simp length-set (l .loop .inv .2),
       λ g. upto-pair (pos 0) (streamed (scene s g) (s .args .c)) (l .loop .f) (l .loop .i) _ _ (omega (arith, l .loop .inv .2)) (l .loop .inv .3 g)
           (toZ-ofZ (sfits-of {w = w32} (c .arriving2 .ok))
-          ∙ c .arriving2 .ensures (s .args .fill .now) (s .args .off .now) (s .args .low) g refl (leans d (l .loop .i + 1) t (toZ-ofZ (sfits-of {w = w32} (after-arriving-arg6 .arriving-arg6 .given))) g)
+          ∙ c .arriving2 .ensures (s .args .fills .now) (s .args .off .now) (s .args .low) g refl (leans d (l .loop .i + 1) t (toZ-ofZ (sfits-of {w = w32} (after-arriving-arg6 .arriving-arg6 .given))) g)
           ∙ sym (streamed-odd _ _ _ _ _ _ _ _ (l .loop .i) odd))
           (toZ-ofZ (sfits-of {w = w32} (a .arriving .ok))
-          ∙ a .arriving .ensures (s .args .fill .now) (s .args .off .now) (s .args .low) g refl (leans d (l .loop .i) (in-loop .loop-test .taken) (toZ-ofZ (sfits-of {w = w32} (after-arriving-arg3 .arriving-arg3 .given))) g)
+          ∙ a .arriving .ensures (s .args .fills .now) (s .args .off .now) (s .args .low) g refl (leans d (l .loop .i) (in-loop .loop-test .taken) (toZ-ofZ (sfits-of {w = w32} (after-arriving-arg3 .arriving-arg3 .given))) g)
           ∙ sym (streamed-even _ _ _ _ _ _ _ _ (l .loop .i) odd)),
     )
 

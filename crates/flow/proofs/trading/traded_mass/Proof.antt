@@ -42,8 +42,8 @@ loop-holds c =
       omega arith,
       omega arith,
       refl,
-      held64 (c .wide .result) (c .wide .ok) ∙ c .wide .ensures ∙ held32 (getD (s .args .mass .now) (s .args .c) (pos 0)) (after-wide-arg .wide-arg .given)
-          ∙ gained-none (s .args .flags .now) (partOf (s .args .parts .now)) (s .args .mass .now) (s .args .fill .now) (s .args .off .now) (s .args .low) (s .args .c),
+      held64 (c .wide .result) (c .wide .ok) ∙ c .wide .ensures ∙ held32 (getD (s .args .masses .now) (s .args .c) (pos 0)) (after-wide-arg .wide-arg .given)
+          ∙ gained-none (s .args .flags .now) (partOf (s .args .parts .now)) (s .args .masses .now) (s .args .fills .now) (s .args .off .now) (s .args .low) (s .args .c),
     )
 
 mul-traded : tie.Need-mul-traded Inv-loop μ-loop
@@ -69,24 +69,24 @@ abbrev so-far : (c : tie.At-loop Inv-loop μ-loop) → Val (toZ w64 (c .loop .m)
 so-far c =
     let s : tie.Start Inv-loop μ-loop = search in
     same (c .loop .inv .3)
-    (known (gained (s .args .flags .now) (partOf (s .args .parts .now)) (s .args .mass .now) (s .args .fill .now) (s .args .off .now) (s .args .low) (s .args .c) (c .loop .i - 1)) 44826624
-    (gained-within (s .args .flags .now) (partOf (s .args .parts .now)) (s .args .mass .now) (s .args .fill .now) (s .args .off .now) (s .args .low) (s .args .c) (tradingOf (s .pre .0)) (s .pre .1) (s .pre .2) (c .loop .i - 1) (omega arith) .abs))
+    (known (gained (s .args .flags .now) (partOf (s .args .parts .now)) (s .args .masses .now) (s .args .fills .now) (s .args .off .now) (s .args .low) (s .args .c) (c .loop .i - 1)) 44826624
+    (gained-within (s .args .flags .now) (partOf (s .args .parts .now)) (s .args .masses .now) (s .args .fills .now) (s .args .off .now) (s .args .low) (s .args .c) (tradingOf (s .pre .0)) (s .pre .1) (s .pre .2) (c .loop .i - 1) (omega arith) .abs))
 
 abbrev one : (c : tie.After-traded Inv-loop μ-loop) → Val (c .traded .result)
 one c =
     let at-loop : tie.At-loop Inv-loop μ-loop = search in let s : tie.Start Inv-loop μ-loop = search in
     let i = at-loop .loop .i in
-    same (c .traded .ensures ∙ first-is (s .args .flags .now) (partOf (s .args .parts .now)) (s .args .mass .now) (s .args .fill .now) (s .args .off .now) (s .args .low) (s .args .c) i (at-loop .loop .inv .2))
-    (known (gain (s .args .flags .now) (partOf (s .args .parts .now)) (s .args .mass .now) (s .args .fill .now) (s .args .off .now) (s .args .low) (s .args .c) i) 2359296
-    (gain-within (s .args .flags .now) (partOf (s .args .parts .now)) (s .args .mass .now) (s .args .fill .now) (s .args .off .now) (s .args .low) (s .args .c) (tradingOf (s .pre .0)) (s .pre .1) (s .pre .2) i (omega arith) (omega arith) .abs))
+    same (c .traded .ensures ∙ first-is (s .args .flags .now) (partOf (s .args .parts .now)) (s .args .masses .now) (s .args .fills .now) (s .args .off .now) (s .args .low) (s .args .c) i (at-loop .loop .inv .2))
+    (known (gain (s .args .flags .now) (partOf (s .args .parts .now)) (s .args .masses .now) (s .args .fills .now) (s .args .off .now) (s .args .low) (s .args .c) i) 2359296
+    (gain-within (s .args .flags .now) (partOf (s .args .parts .now)) (s .args .masses .now) (s .args .fills .now) (s .args .off .now) (s .args .low) (s .args .c) (tradingOf (s .pre .0)) (s .pre .1) (s .pre .2) i (omega arith) (omega arith) .abs))
 
 abbrev other : (c : tie.After-traded2 Inv-loop μ-loop) → Val (c .traded2 .result)
 other c =
     let at-loop : tie.At-loop Inv-loop μ-loop = search in let s : tie.Start Inv-loop μ-loop = search in
     let i = at-loop .loop .i in
-    same (c .traded2 .ensures ∙ second-is (s .args .flags .now) (partOf (s .args .parts .now)) (s .args .mass .now) (s .args .fill .now) (s .args .off .now) (s .args .low) (s .args .c) i (at-loop .loop .inv .2))
-    (known (gain (s .args .flags .now) (partOf (s .args .parts .now)) (s .args .mass .now) (s .args .fill .now) (s .args .off .now) (s .args .low) (s .args .c) (i + 1)) 2359296
-    (gain-within (s .args .flags .now) (partOf (s .args .parts .now)) (s .args .mass .now) (s .args .fill .now) (s .args .off .now) (s .args .low) (s .args .c) (tradingOf (s .pre .0)) (s .pre .1) (s .pre .2) (i + 1) (omega arith) (omega arith) .abs))
+    same (c .traded2 .ensures ∙ second-is (s .args .flags .now) (partOf (s .args .parts .now)) (s .args .masses .now) (s .args .fills .now) (s .args .off .now) (s .args .low) (s .args .c) i (at-loop .loop .inv .2))
+    (known (gain (s .args .flags .now) (partOf (s .args .parts .now)) (s .args .masses .now) (s .args .fills .now) (s .args .off .now) (s .args .low) (s .args .c) (i + 1)) 2359296
+    (gain-within (s .args .flags .now) (partOf (s .args .parts .now)) (s .args .masses .now) (s .args .fills .now) (s .args .off .now) (s .args .low) (s .args .c) (tradingOf (s .pre .0)) (s .pre .1) (s .pre .2) (i + 1) (omega arith) (omega arith) .abs))
 
 add-m : tie.Need-add-m Inv-loop μ-loop
 add-m c =
@@ -137,14 +137,14 @@ loop-again c =
       omega arith,
       omega arith,
       omega arith,
-      reads-as (search machine depth 20) tt ∙ gained-pair (s .args .flags .now) (partOf (s .args .parts .now)) (s .args .mass .now) (s .args .fill .now) (s .args .off .now) (s .args .low) (s .args .c) (at-loop .loop .i) (omega arith),
+      reads-as (search machine depth 20) tt ∙ gained-pair (s .args .flags .now) (partOf (s .args .parts .now)) (s .args .masses .now) (s .args .fills .now) (s .args .off .now) (s .args .low) (s .args .c) (at-loop .loop .i) (omega arith),
     )
 
 returns : tie.Need-returns Inv-loop μ-loop
 returns c g =
     let s : tie.Start Inv-loop μ-loop = search in
     let e : c .before .loop .i - 1 ≡ 18 = omega arith in
-    c .before .loop .inv .3 ∙ ap (gained (s .args .flags .now) (partOf (s .args .parts .now)) (s .args .mass .now) (s .args .fill .now) (s .args .off .now) (s .args .low) (s .args .c)) e ∙ gained-all (s .args .flags .now) (partOf (s .args .parts .now)) (s .args .mass .now) (s .args .fill .now) (s .args .off .now) (s .args .low) (s .args .c) (d3q19 .weight) g
+    c .before .loop .inv .3 ∙ ap (gained (s .args .flags .now) (partOf (s .args .parts .now)) (s .args .masses .now) (s .args .fills .now) (s .args .off .now) (s .args .low) (s .args .c)) e ∙ gained-all (s .args .flags .now) (partOf (s .args .parts .now)) (s .args .masses .now) (s .args .fills .now) (s .args .off .now) (s .args .low) (s .args .c) (d3q19 .weight) g
 
 pub traded-mass-spec : {M : Type 1} → statement M
 traded-mass-spec =

@@ -24,7 +24,7 @@ streamed9-requires c κs =
 bounded : (c : tie.After-streamed9) → Bounded (c .streamed9 .result) 1073741824 33554432
 bounded c =
     let s : tie.Start = search in
-    bounded-now (spreadLattice .weight) (s .args .flags .now) (partOf9 (s .args .parts .now)) (s .args .fill .now) (s .args .off .now) (s .args .low) (s .args .g) (s .args .b) (c .streamed9 .result) (c .streamed9 .ensures (s .args .g)) light9 (s .pre .0 .cells .bodies)
+    bounded-now (spreadLattice .weight) (s .args .flags .now) (partOf9 (s .args .parts .now)) (s .args .fills .now) (s .args .off .now) (s .args .low) (s .args .g) (s .args .b) (c .streamed9 .result) (c .streamed9 .ensures (s .args .g)) light9 (s .pre .0 .cells .bodies)
     (s .pre .0 .cells .around (s .args .b) (s .pre .1) (wet-low _ (s .pre .2))) (s .pre .2)
 
 flow-of-requires : tie.Need-flow-of-requires
@@ -51,8 +51,8 @@ returns c =
     let l = after-streamed9 .streamed9 .result in
     let e = after-flow-of .flow-of .ensures in
     let p = c .pulled .ensures in
-    let ρ = e .0 ∙ density-now (spreadLattice .weight) (s .args .flags .now) (partOf9 (s .args .parts .now)) (s .args .fill .now) (s .args .off .now) (s .args .low) (s .args .g) (s .args .b) l (after-streamed9 .streamed9 .ensures (s .args .g)) in
-    let j = e .1 ∙ momentum-now (spreadLattice .weight) (s .args .flags .now) (partOf9 (s .args .parts .now)) (s .args .fill .now) (s .args .off .now) (s .args .low) (s .args .g) (s .args .b) l (after-streamed9 .streamed9 .ensures (s .args .g)) in
+    let ρ = e .0 ∙ density-now (spreadLattice .weight) (s .args .flags .now) (partOf9 (s .args .parts .now)) (s .args .fills .now) (s .args .off .now) (s .args .low) (s .args .g) (s .args .b) l (after-streamed9 .streamed9 .ensures (s .args .g)) in
+    let j = e .1 ∙ momentum-now (spreadLattice .weight) (s .args .flags .now) (partOf9 (s .args .parts .now)) (s .args .fills .now) (s .args .off .now) (s .args .low) (s .args .g) (s .args .b) l (after-streamed9 .streamed9 .ensures (s .args .g)) in
     record {
       rho = p .rho ∙ ρ;
       x = p .x ∙ ap₂ (λ (a r : ℤ). a +ℤ pull r (s .args .g .gx)) (ap (λ (v : V3). v .x) j) ρ;

@@ -27,7 +27,7 @@ abbrev μ-loop : tie.MeasureT-loop
 loop-holds : tie.Need-loop-holds Inv-loop μ-loop
 loop-holds c =
     let start : tie.Start Inv-loop μ-loop = search in let a = start .args in
-    let S = sight9 (a .flags .now) (a .parts .now) [] (a .fill .now) (a .off .now) (a .low) (a .g) in
+    let S = sight9 (a .flags .now) (a .parts .now) [] (a .fills .now) (a .off .now) (a .low) (a .g) in
     let w = newlyBorn (a .flags .now) (a .flags2 .now) in
     (omega arith, reached-zero S w (partOf9 (a .parts2 .now)), refl, all-none (laterFair S w))
 
@@ -55,13 +55,13 @@ loop-again c =
     let s : tie.Start Inv-loop μ-loop = search in
     let a = s .args in
     let l = at-loop .loop in
-    let S = sight9 (a .flags .now) (a .parts .now) [] (a .fill .now) (a .off .now) (a .low) (a .g) in
+    let S = sight9 (a .flags .now) (a .parts .now) [] (a .fills .now) (a .off .now) (a .low) (a .g) in
     let w = newlyBorn (a .flags .now) (a .flags2 .now) in
     let h : l .c < length (a .flags .now) = in-loop .loop-test .taken in
     let room : 9 * l .c + 9 ≤ length (l .parts2) = omega (arith, l .inv .2, s .pre .1) in
     let n = c .next-of .ensures in
     let m : c .next-of .result ≤ length (a .flags .now) = omega (arith, n .most, s .pre .0 .count) in
-    let seen = visited-list (a .flags .now) (a .parts .now) (a .fill .now) (a .off .now) (a .low) (a .g) w (l .parts2) (l .c) room (v .visit9 .ensures) in
+    let seen = visited-list (a .flags .now) (a .parts .now) (a .fills .now) (a .off .now) (a .low) (a .g) w (l .parts2) (l .c) room (v .visit9 .ensures) in
     -- up to the next interface cell nothing is born
     let r =
     reached-past S w (partOf9 (a .parts2 .now)) _ (l .c + 1) (c .next-of .result) _ (n .least)
@@ -69,7 +69,7 @@ loop-again c =
       reached-more S w (partOf9 (a .parts2 .now)) (partOf9 (l .parts2)) _ (l .c) (l .inv .1) seen,
       ap₂ (λ (x y : Bool). x && y) (l .inv .3) (v .visit9 .ensures .fair-is) ∙ all-more (l .c) (laterFair S w),
     ) in
-    (m, r .0, visited-size (a .flags .now) (a .parts .now) (a .fill .now) (a .off .now) (a .low) (a .g) w (l .parts2) (l .c) room (v .visit9 .ensures) ∙ l .inv .2, r .1)
+    (m, r .0, visited-size (a .flags .now) (a .parts .now) (a .fills .now) (a .off .now) (a .low) (a .g) w (l .parts2) (l .c) room (v .visit9 .ensures) ∙ l .inv .2, r .1)
 
 same-length : tie.Need-same-length Inv-loop μ-loop
 same-length c = c .before .loop .inv .2
@@ -79,7 +79,7 @@ returns c =
     let s : tie.Start Inv-loop μ-loop = search in
     let a = s .args in
     let l = c .before .loop in
-    let S = sight9 (a .flags .now) (a .parts .now) [] (a .fill .now) (a .off .now) (a .low) (a .g) in
+    let S = sight9 (a .flags .now) (a .parts .now) [] (a .fills .now) (a .off .now) (a .low) (a .g) in
     let w = newlyBorn (a .flags .now) (a .flags2 .now) in
     let e : l .c ≡ length (a .flags .now) = omega arith in
     record {

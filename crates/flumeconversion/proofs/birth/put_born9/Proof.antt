@@ -16,7 +16,7 @@ mean-flow9-requires c κs = search needs
 equilibrium9-requires : tie.Need-equilibrium9-requires
 equilibrium9-requires c κs =
     let s : tie.Start = search in
-    born-tame (spreadLattice .weight) (s .args .flags .now) (partOf9 (s .args .parts .now)) (s .args .fill .now) (s .args .off .now) (s .args .low) (s .args .g) (s .args .c) (s .pre .0 .cells) (s .pre .1) (c .mean-flow9 .ensures) (s .pre .2)
+    born-tame (spreadLattice .weight) (s .args .flags .now) (partOf9 (s .args .parts .now)) (s .args .fills .now) (s .args .off .now) (s .args .low) (s .args .g) (s .args .c) (s .pre .0 .cells) (s .pre .1) (c .mean-flow9 .ensures) (s .pre .2)
 
 paste9-requires : tie.Need-paste9-requires
 paste9-requires c κs = search needs
@@ -33,8 +33,8 @@ returns c =
     let b = after-mean-flow9 .mean-flow9 .ensures in
     let v = after-equilibrium9 .equilibrium9 in
     record {
-      parts = after-paste9 .paste9 .ensures ∙ ap (λ (l : List ℤ). pasted9 (s .args .parts2 .now) (s .args .c) l) (born-list (spreadLattice .weight) (s .args .flags .now) (partOf9 (s .args .parts .now)) (s .args .fill .now) (s .args .off .now) (s .args .low) (s .args .g) (s .args .c) b (v .result) (v .ensures .0));
-      fair-is = c .fair-parts .ensures ∙ born-fair (spreadLattice .weight) (s .args .flags .now) (partOf9 (s .args .parts .now)) (s .args .fill .now) (s .args .off .now) (s .args .low) (s .args .g) (s .args .c) b (v .result) (v .ensures .0);
+      parts = after-paste9 .paste9 .ensures ∙ ap (λ (l : List ℤ). pasted9 (s .args .parts2 .now) (s .args .c) l) (born-list (spreadLattice .weight) (s .args .flags .now) (partOf9 (s .args .parts .now)) (s .args .fills .now) (s .args .off .now) (s .args .low) (s .args .g) (s .args .c) b (v .result) (v .ensures .0));
+      fair-is = c .fair-parts .ensures ∙ born-fair (spreadLattice .weight) (s .args .flags .now) (partOf9 (s .args .parts .now)) (s .args .fills .now) (s .args .off .now) (s .args .low) (s .args .g) (s .args .c) b (v .result) (v .ensures .0);
     }
 
 pub put-born9-spec : {M : Type 1} → statement M

@@ -103,7 +103,7 @@ same-length-2 : tie.Need-same-length-2
 same-length-2 c = let after-parts2 : tie.After-parts2 = search in let after-parts22 : tie.After-parts22 = search in after-parts22 .parts22 .given ∙ after-parts2 .parts2 .given
 
 same-length-3 : tie.Need-same-length-3
-same-length-3 c = let after-mass22 : tie.After-mass22 = search in let after-mass2 : tie.After-mass2 = search in after-mass22 .mass22 .given ∙ after-mass2 .mass2 .given
+same-length-3 c = let after-masses22 : tie.After-masses22 = search in let after-masses2 : tie.After-masses2 = search in after-masses22 .masses22 .given ∙ after-masses2 .masses2 .given
 
 same-length-4 : tie.Need-same-length-4
 same-length-4 c = simp length-set

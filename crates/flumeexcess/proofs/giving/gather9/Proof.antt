@@ -66,7 +66,7 @@ mass-told c = told64 (c .wide .ok) (c .wide .ensures ∙ told (c .before .wide-a
 gifts-told : (c : tie.After-wide Inv-loop μ-loop)
     → let l = c .before .before .before .before .before .before .before in
     let a = l .before .before .before .before .args in
-    toZ w64 (ofZ w64 (c .before .before .gifts9 .result)) ≡ receivedAt (a .flags .now) (a .fill .now) (partOf9 (a .parts .now)) (a .masses .now) (a .marks .now) (a .off .now) (a .low) (l .loop .c)
+    toZ w64 (ofZ w64 (c .before .before .gifts9 .result)) ≡ receivedAt (a .flags .now) (a .fills .now) (partOf9 (a .parts .now)) (a .masses .now) (a .marks .now) (a .off .now) (a .low) (l .loop .c)
 gifts-told c =
     let l = c .before .before .before .before .before .before .before in
     told64 (c .before .before .gifts9 .ok) (c .before .before .gifts9 .ensures

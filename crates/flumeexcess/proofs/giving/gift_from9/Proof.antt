@@ -13,7 +13,7 @@ shared-slice-read-m c = search needs
 returns : tie.Need-returns
 returns c =
     let s = c .before .before .before .before .before in
-    from-none (s .args .flags .now) (s .args .fill .now) (partOf9 (s .args .parts .now)) (s .args .masses .now) (s .args .off .now) (s .args .low) (s .args .marks .now) (s .args .b) (s .args .i) (c .if1 .taken)
+    from-none (s .args .flags .now) (s .args .fills .now) (partOf9 (s .args .parts .now)) (s .args .masses .now) (s .args .off .now) (s .args .low) (s .args .marks .now) (s .args .b) (s .args .i) (c .if1 .taken)
 
 gift9-requires : tie.Need-gift9-requires
 gift9-requires c κs =
@@ -24,7 +24,7 @@ returns-2 : tie.Need-returns-2
 returns-2 c =
     let s = c .before .before .before .before .before .before in
     told64 (c .gift9 .ok) (c .gift9 .ensures)
-    ∙ from-some (s .args .flags .now) (s .args .fill .now) (partOf9 (s .args .parts .now)) (s .args .masses .now) (s .args .off .now) (s .args .low) (s .args .marks .now) (s .args .b) (s .args .i) (c .before .if1 .left)
+    ∙ from-some (s .args .flags .now) (s .args .fills .now) (partOf9 (s .args .parts .now)) (s .args .masses .now) (s .args .off .now) (s .args .low) (s .args .marks .now) (s .args .b) (s .args .i) (c .before .if1 .left)
 
 pub gift-from9-spec : {M : Type 1} → statement M
 gift-from9-spec = tie.close (tie.spec shared-slice-read-m returns gift9-requires returns-2)

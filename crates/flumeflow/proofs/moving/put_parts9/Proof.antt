@@ -59,7 +59,7 @@ returns : tie.Need-returns
 returns c =
     let after-put-moved9 : tie.After-put-moved9 = search in let after-quieted : tie.After-quieted = search in let after-chosen9 : tie.After-chosen9 = search in let t : tie.Then1 = search in
     let s : tie.Start = search in
-    after-put-moved9 .put-moved9 .ensures (s .args .flags .now) (s .args .parts .now) (s .args .fill .now) (s .args .off .now) (s .args .low) (kind t)
+    after-put-moved9 .put-moved9 .ensures (s .args .flags .now) (s .args .parts .now) (s .args .fills .now) (s .args .off .now) (s .args .low) (kind t)
     (after-quieted .quieted .ensures ∙ after-chosen9 .chosen9 .ensures (s .args .g))
 
 dry-out9-requires : tie.Need-dry-out9-requires

@@ -63,11 +63,11 @@ module _ (d : tie.In-loop Inv-loop μ-loop) where
   lowest : low ≡ flumeLow (start .args .s)
   lowest = let after-low-of : tie.After-low-of Inv-loop μ-loop = search in after-low-of .low-of .ensures
 
-  poise : FlumePoised (start .args .s) (alongSettings (start .args .g)) (lent (start .args .flags .now) (start .args .parts .now) (start .args .mass .now) (start .args .fill .now) [])
+  poise : FlumePoised (start .args .s) (alongSettings (start .args .g)) (lent (start .args .flags .now) (start .args .parts .now) (start .args .masses .now) (start .args .fills .now) [])
   poise = start .pre .poised
 
-  walked : Walked (spreadLattice .weight) (start .args .flags .now) (partOf9 (start .args .parts .now)) (start .args .mass .now) (start .args .fill .now) off low (start .args .g) (start .args .marks .now)
-      (partOf9 (d .before .loop .parts2)) (d .before .loop .mass2) (d .before .loop .marks) (d .before .loop .fair) (d .before .loop .calm) cell
+  walked : Walked (spreadLattice .weight) (start .args .flags .now) (partOf9 (start .args .parts .now)) (start .args .masses .now) (start .args .fills .now) off low (start .args .g) (start .args .marks .now)
+      (partOf9 (d .before .loop .parts2)) (d .before .loop .masses2) (d .before .loop .marks) (d .before .loop .fair) (d .before .loop .calm) cell
   walked = d .before .loop .inv .4
 
   is-cell : cell < flumeCells (start .args .s)
@@ -84,10 +84,10 @@ module _ (d : tie.In-loop Inv-loop μ-loop) where
   around-it l =
       subst (λ (n : ℕ). Around n off low cell) (sym (poise .flags)) (around (start .args .s) off low table lowest cell (inner-cell cell is-cell l))
 
-  all-traders : Traders9 (start .args .flags .now) (start .args .parts .now) (start .args .mass .now) (start .args .fill .now)
+  all-traders : Traders9 (start .args .flags .now) (start .args .parts .now) (start .args .masses .now) (start .args .fills .now)
   all-traders = traders (start .args .s) _ _ _ _ _ poise
 
-  putting : Putting9 (start .args .flags .now) (start .args .parts .now) (start .args .fill .now) (d .before .loop .parts2) (getD (d .before .loop .marks) cell 0) off (d .before .before .before .sources9 .result) low cell (start .args .g) (d .before .before .keeping .result)
+  putting : Putting9 (start .args .flags .now) (start .args .parts .now) (start .args .fills .now) (d .before .loop .parts2) (getD (d .before .loop .marks) cell 0) off (d .before .before .before .sources9 .result) low cell (start .args .g) (d .before .before .keeping .result)
   putting = let after-keeping : tie.After-keeping Inv-loop μ-loop = search in let after-sources9 : tie.After-sources9 Inv-loop μ-loop = search in record {
     bodied = all-traders .bodied;
     filled = all-traders .fills-good;
@@ -190,9 +190,9 @@ loop-again c =
       put .ensures .kept ∙ l .inv .1,
       simp length-set (l .inv .2),
       simp length-set (l .inv .3),
-      walked-turn (spreadLattice .weight) (t .args .flags .now) (partOf9 (t .args .parts .now)) (t .args .mass .now) (t .args .fill .now) (off d) (low d) (t .args .g) (t .args .marks .now)
-          (partOf9 (l .parts2)) (partOf9 (put .last .1 .1 .1 .0)) (l .mass2) (l .marks) (l .fair) (l .calm) (l .c) (walked d) (put .result) (put .ensures .told) ok
-          (put-more (t .args .flags .now) (t .args .parts .now) (t .args .fill .now) (off d) (low d) (t .args .g) (l .parts2) (put .last .1 .1 .1 .0) (l .c) (omega (arith, l .inv .1, t .pre .parts-room)) (put .ensures .parts ok))
+      walked-turn (spreadLattice .weight) (t .args .flags .now) (partOf9 (t .args .parts .now)) (t .args .masses .now) (t .args .fills .now) (off d) (low d) (t .args .g) (t .args .marks .now)
+          (partOf9 (l .parts2)) (partOf9 (put .last .1 .1 .1 .0)) (l .masses2) (l .marks) (l .fair) (l .calm) (l .c) (walked d) (put .result) (put .ensures .told) ok
+          (put-more (t .args .flags .now) (t .args .parts .now) (t .args .fills .now) (off d) (low d) (t .args .g) (l .parts2) (put .last .1 .1 .1 .0) (l .c) (omega (arith, l .inv .1, t .pre .parts-room)) (put .ensures .parts ok))
           (gained .result) _ _ _ _ (mark .result) _ (getD-there (t .args .flags .now) (l .c) 0 3 (d .loop-test .taken))
           (omega (arith, l .inv .2, t .pre .masses-room)) (omega (arith, l .inv .3, t .pre .marks-room))
           (gained .ensures (t .args .g)) (toZ-ofZ {w = w32} (record { sfits = after-struct-told .struct-told .given .1 .1 .0 .1 }))
@@ -217,11 +217,11 @@ returns-2 c =
     let e : l .c ≡ flumeCells (t .args .s) = omega (arith, p .flags, l .inv .0) in
     record {
       went = through
-          (walked-moved (spreadLattice .weight) (spreadGrid (flumeGrid (t .args .s))) (t .args .g) (t .args .flags .now) (partOf9 (t .args .parts .now)) (t .args .mass .now) (t .args .fill .now)
+          (walked-moved (spreadLattice .weight) (spreadGrid (flumeGrid (t .args .s))) (t .args .g) (t .args .flags .now) (partOf9 (t .args .parts .now)) (t .args .masses .now) (t .args .fills .now)
           (after-offsets .offsets .result) (after-low-of .low-of .result) (flumeCells (t .args .s)) (λ j h l. placed (t .args .s) _ _ (after-offsets .offsets .ensures) (after-low-of .low-of .ensures) j (liquid-inner (t .args .s) _ _ _ _ _ p j h l))
-          (t .args .marks .now) (partOf9 (l .parts2)) (l .mass2) (l .marks) (l .fair) (l .calm)
+          (t .args .marks .now) (partOf9 (l .parts2)) (l .masses2) (l .marks) (l .fair) (l .calm)
           (l .inv .2 ∙ t .pre .masses-room) (l .inv .3 ∙ t .pre .marks-room)
-          (subst (λ (n : ℕ). Walked (spreadLattice .weight) (t .args .flags .now) (partOf9 (t .args .parts .now)) (t .args .mass .now) (t .args .fill .now) (after-offsets .offsets .result) (after-low-of .low-of .result) (t .args .g) (t .args .marks .now) (partOf9 (l .parts2)) (l .mass2) (l .marks) (l .fair) (l .calm) n) e (l .inv .4)));
+          (subst (λ (n : ℕ). Walked (spreadLattice .weight) (t .args .flags .now) (partOf9 (t .args .parts .now)) (t .args .masses .now) (t .args .fills .now) (after-offsets .offsets .result) (after-low-of .low-of .result) (t .args .g) (t .args .marks .now) (partOf9 (l .parts2)) (l .masses2) (l .marks) (l .fair) (l .calm) n) e (l .inv .4)));
       parts-kept = l .inv .1 ∙ t .pre .parts-room;
       masses-kept = l .inv .2 ∙ t .pre .masses-room;
       marks-kept = l .inv .3 ∙ t .pre .marks-room;

@@ -44,7 +44,7 @@ parts-of s = partOf9 (s .args .parts .now) (s .args .c)
 
 -- what functions of the cell see, under any settings
 abbrev scene : (s : tie.Start Inv-loop μ-loop) → Settings → Scene
-scene s g = sight9 (s .args .flags .now) (s .args .parts .now) [] (s .args .fill .now) (s .args .off .now) (s .args .low) g
+scene s g = sight9 (s .args .flags .now) (s .args .parts .now) [] (s .args .fills .now) (s .args .off .now) (s .args .low) g
 
 -- what streams in by direction k
 abbrev here : (s : tie.Start Inv-loop μ-loop) → Settings → ℕ → ℤ
@@ -267,11 +267,11 @@ loop-again c =
       omega (arith, odd),
       λ g. filled-pair (here s g) (l .loop .f) (l .loop .k) (p .place .result) _ _ (l .loop .inv .1 g) q (omega (arith, odd, in-loop .loop-test .taken)) e
           (toZ-ofZ (sfits-of {w = w32} (c .arriving92 .ok))
-          ∙ c .arriving92 .ensures (s .args .fill .now) (s .args .off .now) (s .args .low) g refl (leans d (p .place .result + 1) (second p) (toZ-ofZ (sfits-of {w = w32} (after-arriving9-arg6 .arriving9-arg6 .given))) g)
+          ∙ c .arriving92 .ensures (s .args .fills .now) (s .args .off .now) (s .args .low) g refl (leans d (p .place .result + 1) (second p) (toZ-ofZ (sfits-of {w = w32} (after-arriving9-arg6 .arriving9-arg6 .given))) g)
           ∙ ap (λ (n : ℕ). arrives (scene s g) (s .args .c) (n + 1) (wide (l .loop .k))) e
           ∙ sym (streamed-odd _ _ _ _ _ _ _ _ (wide (l .loop .k)) (q .odd)))
           (toZ-ofZ (sfits-of {w = w32} (a .arriving9 .ok))
-          ∙ a .arriving9 .ensures (s .args .fill .now) (s .args .off .now) (s .args .low) g refl (leans d (p .place .result) (p .place .ensures .1) (toZ-ofZ (sfits-of {w = w32} (after-arriving9-arg3 .arriving9-arg3 .given))) g)
+          ∙ a .arriving9 .ensures (s .args .fills .now) (s .args .off .now) (s .args .low) g refl (leans d (p .place .result) (p .place .ensures .1) (toZ-ofZ (sfits-of {w = w32} (after-arriving9-arg3 .arriving9-arg3 .given))) g)
           ∙ ap₂ (λ (n m : ℕ). arrives (scene s g) (s .args .c) n m) e (q .next)
           ∙ sym (streamed-even _ _ _ _ _ _ _ _ (wide (l .loop .k)) (q .odd))
           ∙ ap (streamed (scene s g) (s .args .c)) (sym (q .next))),

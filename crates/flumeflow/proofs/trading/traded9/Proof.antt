@@ -68,7 +68,7 @@ apart-is c =
 returns : tie.Need-returns
 returns c =
     let s : tie.Start = search in
-    apart-is (search) ∙ passed-fluid (s .args .flags .now) (partOf9 (s .args .parts .now)) (s .args .fill .now) (s .args .c) (s .args .b) (wide (s .args .k)) (wide (s .args .m)) (s .pre .3) (c .if1 .taken)
+    apart-is (search) ∙ passed-fluid (s .args .flags .now) (partOf9 (s .args .parts .now)) (s .args .fills .now) (s .args .c) (s .args .b) (wide (s .args .k)) (wide (s .args .m)) (s .pre .3) (c .if1 .taken)
 
 mul-both : tie.Need-mul-both
 mul-both c = search needs
@@ -87,7 +87,7 @@ both-requires c κs = search needs
 
 -- the code's sum of fills
 both-is : (c : tie.After-both) → let s = c .before .before .before .before .before .before .before .before .before .before .before in
-    toZ w64 (ofZ w64 (c .both .result)) ≡ pos (getD (s .args .fill .now) (s .args .c) 0 + getD (s .args .fill .now) (s .args .b) 0)
+    toZ w64 (ofZ w64 (c .both .result)) ≡ pos (getD (s .args .fills .now) (s .args .c) 0 + getD (s .args .fills .now) (s .args .b) 0)
 both-is c = held64 (c .both .result) (c .both .ok) ∙ c .both .ensures
 
 exchange-requires : tie.Need-exchange-requires
@@ -107,13 +107,13 @@ returns-2 c =
     held64 (c .exchange .result) (c .exchange .ok)
     ∙ c .exchange .ensures
     ∙ ap (λ (z : ℤ). exchange (natAbs z) (toZ w64 (ofZ w64 (d .difference .result)))) (both-is (search))
-    ∙ ap (λ (z : ℤ). exchange (getD (s .args .fill .now) (s .args .c) 0 + getD (s .args .fill .now) (s .args .b) 0) z) (apart-is d)
-    ∙ passed-interface (s .args .flags .now) (partOf9 (s .args .parts .now)) (s .args .fill .now) (s .args .c) (s .args .b) (wide (s .args .k)) (wide (s .args .m)) (s .pre .3) (then2 .if2 .taken)
+    ∙ ap (λ (z : ℤ). exchange (getD (s .args .fills .now) (s .args .c) 0 + getD (s .args .fills .now) (s .args .b) 0) z) (apart-is d)
+    ∙ passed-interface (s .args .flags .now) (partOf9 (s .args .parts .now)) (s .args .fills .now) (s .args .c) (s .args .b) (wide (s .args .k)) (wide (s .args .m)) (s .pre .3) (then2 .if2 .taken)
 
 returns-3 : tie.Need-returns-3
 returns-3 c =
     let else1 : tie.Else1 = search in let s : tie.Start = search in
-    passed-neither (s .args .flags .now) (partOf9 (s .args .parts .now)) (s .args .fill .now) (s .args .c) (s .args .b) (wide (s .args .k)) (wide (s .args .m)) (s .pre .3) (else1 .if1 .left) (c .if2 .left)
+    passed-neither (s .args .flags .now) (partOf9 (s .args .parts .now)) (s .args .fills .now) (s .args .c) (s .args .b) (wide (s .args .k)) (wide (s .args .m)) (s .pre .3) (else1 .if1 .left) (c .if2 .left)
 
 pub traded9-spec : {M : Type 1} → statement M
 traded9-spec =

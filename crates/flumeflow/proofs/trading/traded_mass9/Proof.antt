@@ -56,7 +56,7 @@ loop-holds c =
       omega arith,
       omega arith,
       refl,
-      held64 (c .wide .result) (c .wide .ok) ∙ c .wide .ensures ∙ held32 (getD (s .args .mass .now) (s .args .c) (pos 0)) (after-wide-arg .wide-arg .given) ∙ amassed-none (getD (s .args .mass .now) (s .args .c) (pos 0)) (gain9 (s .args .flags .now) (s .args .parts .now) (s .args .mass .now) (s .args .fill .now) (s .args .off .now) (s .args .low) (s .args .c)),
+      held64 (c .wide .result) (c .wide .ok) ∙ c .wide .ensures ∙ held32 (getD (s .args .masses .now) (s .args .c) (pos 0)) (after-wide-arg .wide-arg .given) ∙ amassed-none (getD (s .args .masses .now) (s .args .c) (pos 0)) (gain9 (s .args .flags .now) (s .args .parts .now) (s .args .masses .now) (s .args .fills .now) (s .args .off .now) (s .args .low) (s .args .c)),
     )
 
 place-requires : tie.Need-place-requires Inv-loop μ-loop
@@ -87,26 +87,26 @@ abbrev so-far : (c : tie.At-loop Inv-loop μ-loop) → Val (toZ w64 (c .loop .m)
 so-far c =
     let s : tie.Start Inv-loop μ-loop = search in
     same (c .loop .inv .3)
-    (known (gained9 (s .args .flags .now) (s .args .parts .now) (s .args .mass .now) (s .args .fill .now) (s .args .off .now) (s .args .low) (s .args .c) (c .loop .k - 1)) 44826624
-    (gained-within (s .args .flags .now) (s .args .parts .now) (s .args .mass .now) (s .args .fill .now) (s .args .off .now) (s .args .low) (s .args .c) (trading9 (s .pre .0)) (s .pre .1) (s .pre .2) (c .loop .k - 1) (omega arith) .abs))
+    (known (gained9 (s .args .flags .now) (s .args .parts .now) (s .args .masses .now) (s .args .fills .now) (s .args .off .now) (s .args .low) (s .args .c) (c .loop .k - 1)) 44826624
+    (gained-within (s .args .flags .now) (s .args .parts .now) (s .args .masses .now) (s .args .fills .now) (s .args .off .now) (s .args .low) (s .args .c) (trading9 (s .pre .0)) (s .pre .1) (s .pre .2) (c .loop .k - 1) (omega arith) .abs))
 
 abbrev one : (c : tie.After-traded9 Inv-loop μ-loop) → Val (c .traded9 .result)
 one c =
     let at-loop : tie.At-loop Inv-loop μ-loop = search in let p : tie.After-place Inv-loop μ-loop = search in
     let s = start p in
     let k = at-loop .loop .k in
-    same (c .traded9 .ensures ∙ ap (λ (i : ℕ). passed (s .args .flags .now) (partOf9 (s .args .parts .now)) (s .args .fill .now) (s .args .c) (s .args .c - s .args .low + getD (s .args .off .now) i 0) (wide k) (wide (k + 1))) (p .place .ensures .0) ∙ first-is (s .args .flags .now) (s .args .parts .now) (s .args .mass .now) (s .args .fill .now) (s .args .off .now) (s .args .low) (s .args .c) k (at-pair p))
-    (known (gain9 (s .args .flags .now) (s .args .parts .now) (s .args .mass .now) (s .args .fill .now) (s .args .off .now) (s .args .low) (s .args .c) k) 2359296
-    (gain-within (s .args .flags .now) (s .args .parts .now) (s .args .mass .now) (s .args .fill .now) (s .args .off .now) (s .args .low) (s .args .c) (trading9 (s .pre .0)) (s .pre .1) (s .pre .2) k (omega arith) (omega arith) .abs))
+    same (c .traded9 .ensures ∙ ap (λ (i : ℕ). passed (s .args .flags .now) (partOf9 (s .args .parts .now)) (s .args .fills .now) (s .args .c) (s .args .c - s .args .low + getD (s .args .off .now) i 0) (wide k) (wide (k + 1))) (p .place .ensures .0) ∙ first-is (s .args .flags .now) (s .args .parts .now) (s .args .masses .now) (s .args .fills .now) (s .args .off .now) (s .args .low) (s .args .c) k (at-pair p))
+    (known (gain9 (s .args .flags .now) (s .args .parts .now) (s .args .masses .now) (s .args .fills .now) (s .args .off .now) (s .args .low) (s .args .c) k) 2359296
+    (gain-within (s .args .flags .now) (s .args .parts .now) (s .args .masses .now) (s .args .fills .now) (s .args .off .now) (s .args .low) (s .args .c) (trading9 (s .pre .0)) (s .pre .1) (s .pre .2) k (omega arith) (omega arith) .abs))
 
 abbrev other : (c : tie.After-traded92 Inv-loop μ-loop) → Val (c .traded92 .result)
 other c =
     let at-loop : tie.At-loop Inv-loop μ-loop = search in let p : tie.After-place Inv-loop μ-loop = search in
     let s = start p in
     let k = at-loop .loop .k in
-    same (c .traded92 .ensures ∙ ap (λ (i : ℕ). passed (s .args .flags .now) (partOf9 (s .args .parts .now)) (s .args .fill .now) (s .args .c) (s .args .c - s .args .low + getD (s .args .off .now) (i + 1) 0) (wide (k + 1)) (wide k)) (p .place .ensures .0) ∙ second-is (s .args .flags .now) (s .args .parts .now) (s .args .mass .now) (s .args .fill .now) (s .args .off .now) (s .args .low) (s .args .c) k (at-pair p))
-    (known (gain9 (s .args .flags .now) (s .args .parts .now) (s .args .mass .now) (s .args .fill .now) (s .args .off .now) (s .args .low) (s .args .c) (k + 1)) 2359296
-    (gain-within (s .args .flags .now) (s .args .parts .now) (s .args .mass .now) (s .args .fill .now) (s .args .off .now) (s .args .low) (s .args .c) (trading9 (s .pre .0)) (s .pre .1) (s .pre .2) (k + 1) (omega arith) (omega arith) .abs))
+    same (c .traded92 .ensures ∙ ap (λ (i : ℕ). passed (s .args .flags .now) (partOf9 (s .args .parts .now)) (s .args .fills .now) (s .args .c) (s .args .c - s .args .low + getD (s .args .off .now) (i + 1) 0) (wide (k + 1)) (wide k)) (p .place .ensures .0) ∙ second-is (s .args .flags .now) (s .args .parts .now) (s .args .masses .now) (s .args .fills .now) (s .args .off .now) (s .args .low) (s .args .c) k (at-pair p))
+    (known (gain9 (s .args .flags .now) (s .args .parts .now) (s .args .masses .now) (s .args .fills .now) (s .args .off .now) (s .args .low) (s .args .c) (k + 1)) 2359296
+    (gain-within (s .args .flags .now) (s .args .parts .now) (s .args .masses .now) (s .args .fills .now) (s .args .off .now) (s .args .low) (s .args .c) (trading9 (s .pre .0)) (s .pre .1) (s .pre .2) (k + 1) (omega arith) (omega arith) .abs))
 
 add-m : tie.Need-add-m Inv-loop μ-loop
 add-m c =
@@ -162,14 +162,14 @@ loop-again c =
       omega arith,
       omega arith,
       omega arith,
-      reads-as (search machine depth 20) tt ∙ amassed-pair (getD (s .args .mass .now) (s .args .c) (pos 0)) (gain9 (s .args .flags .now) (s .args .parts .now) (s .args .mass .now) (s .args .fill .now) (s .args .off .now) (s .args .low) (s .args .c)) (l .loop .k) (omega arith),
+      reads-as (search machine depth 20) tt ∙ amassed-pair (getD (s .args .masses .now) (s .args .c) (pos 0)) (gain9 (s .args .flags .now) (s .args .parts .now) (s .args .masses .now) (s .args .fills .now) (s .args .off .now) (s .args .low) (s .args .c)) (l .loop .k) (omega arith),
     )
 
 returns : tie.Need-returns Inv-loop μ-loop
 returns c g =
     let s : tie.Start Inv-loop μ-loop = search in
     let e : c .before .loop .k - 1 ≡ 8 = omega arith in
-    c .before .loop .inv .3 ∙ ap (gained9 (s .args .flags .now) (s .args .parts .now) (s .args .mass .now) (s .args .fill .now) (s .args .off .now) (s .args .low) (s .args .c)) e ∙ gained-all (s .args .flags .now) (s .args .parts .now) (s .args .mass .now) (s .args .fill .now) (s .args .off .now) (s .args .low) (s .args .c) g
+    c .before .loop .inv .3 ∙ ap (gained9 (s .args .flags .now) (s .args .parts .now) (s .args .masses .now) (s .args .fills .now) (s .args .off .now) (s .args .low) (s .args .c)) e ∙ gained-all (s .args .flags .now) (s .args .parts .now) (s .args .masses .now) (s .args .fills .now) (s .args .off .now) (s .args .low) (s .args .c) g
 
 pub traded-mass9-spec : {M : Type 1} → statement M
 traded-mass9-spec =

@@ -13,10 +13,10 @@ use Rattle.flumegrid.proofs.entry.entered.Statement.{statement}
 use Rattle.flumegrid.proofs.entry.entered.Tie as tie
 
 abbrev first : tie.Start → Lent
-first w = lent (w .args .flags .now) (w .args .parts .now) (w .args .mass .now) (w .args .fill .now) (w .args .carry .now)
+first w = lent (w .args .flags .now) (w .args .parts .now) (w .args .masses .now) (w .args .fills .now) (w .args .carry .now)
 
 abbrev second : tie.Start → Lent
-second w = lent (w .args .flags2 .now) (w .args .parts2 .now) (w .args .mass2 .now) (w .args .fill2 .now) (w .args .carry2 .now)
+second w = lent (w .args .flags2 .now) (w .args .parts2 .now) (w .args .masses2 .now) (w .args .fills2 .now) (w .args .carry2 .now)
 
 sides-good : (d : tie.Else1) → flumeSidesGood (d .before .before .before .before .before .before .before .args .s) ≡ true
 sides-good d = sym (d .before .good-sides .ensures) ∙ not-false _ (d .if1 .left)

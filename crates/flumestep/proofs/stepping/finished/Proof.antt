@@ -35,10 +35,10 @@ same-length-2 : tie.Need-same-length-2
 same-length-2 c = let after-parts2 : tie.After-parts2 = search in after-parts2 .parts2 .given
 
 same-length-3 : tie.Need-same-length-3
-same-length-3 c = let after-mass2 : tie.After-mass2 = search in after-mass2 .mass2 .given
+same-length-3 c = let after-masses2 : tie.After-masses2 = search in after-masses2 .masses2 .given
 
 same-length-4 : tie.Need-same-length-4
-same-length-4 c = let after-fill2 : tie.After-fill2 = search in after-fill2 .fill2 .given
+same-length-4 c = let after-fills2 : tie.After-fills2 = search in after-fills2 .fills2 .given
 
 same-length-5 : tie.Need-same-length-5
 same-length-5 c = let after-carry2 : tie.After-carry2 = search in after-carry2 .carry2 .given
@@ -65,10 +65,10 @@ same-length-8 : tie.Need-same-length-8
 same-length-8 c = let after-parts2 : tie.After-parts2 = search in after-parts2 .parts2 .given
 
 same-length-9 : tie.Need-same-length-9
-same-length-9 c = let after-mass2 : tie.After-mass2 = search in after-mass2 .mass2 .given
+same-length-9 c = let after-masses2 : tie.After-masses2 = search in after-masses2 .masses2 .given
 
 same-length-10 : tie.Need-same-length-10
-same-length-10 c = let after-fill2 : tie.After-fill2 = search in after-fill2 .fill2 .given
+same-length-10 c = let after-fills2 : tie.After-fills2 = search in after-fills2 .fills2 .given
 
 same-length-11 : tie.Need-same-length-11
 same-length-11 c = let after-carry2 : tie.After-carry2 = search in after-carry2 .carry2 .given

@@ -17,7 +17,7 @@ use Rattle.flumestep.proofs.stepping.judged.Statement.{statement}
 use Rattle.flumestep.proofs.stepping.judged.Tie as tie
 
 abbrev second : tie.Start → Lent
-second w = lent (w .args .flags2 .now) (w .args .parts2 .now) (w .args .mass2 .now) (w .args .fill2 .now) (w .args .carry2 .now)
+second w = lent (w .args .flags2 .now) (w .args .parts2 .now) (w .args .masses2 .now) (w .args .fills2 .now) (w .args .carry2 .now)
 
 abbrev broken : tie.Start → ℕ
 broken w = badRule d2q9 (length (w .args .flags2 .now)) (stateOf 8 (second w))

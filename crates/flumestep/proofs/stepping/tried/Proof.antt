@@ -30,7 +30,7 @@ same-length : tie.Need-same-length
 same-length c = let after-parts2 : tie.After-parts2 = search in after-parts2 .parts2 .given
 
 same-length-2 : tie.Need-same-length-2
-same-length-2 c = let after-mass2 : tie.After-mass2 = search in after-mass2 .mass2 .given
+same-length-2 c = let after-masses2 : tie.After-masses2 = search in after-masses2 .masses2 .given
 
 same-length-3 : tie.Need-same-length-3
 same-length-3 c = let after-marks2 : tie.After-marks2 = search in let after-marks : tie.After-marks = search in after-marks2 .marks2 .given ∙ after-marks .marks .given
@@ -45,10 +45,10 @@ same-length-5 : tie.Need-same-length-5
 same-length-5 c = let after-parts22 : tie.After-parts22 = search in let after-parts2 : tie.After-parts2 = search in after-parts22 .parts22 .given ∙ after-parts2 .parts2 .given
 
 same-length-6 : tie.Need-same-length-6
-same-length-6 c = let after-mass22 : tie.After-mass22 = search in let after-mass2 : tie.After-mass2 = search in after-mass22 .mass22 .given ∙ after-mass2 .mass2 .given
+same-length-6 c = let after-masses22 : tie.After-masses22 = search in let after-masses2 : tie.After-masses2 = search in after-masses22 .masses22 .given ∙ after-masses2 .masses2 .given
 
 same-length-7 : tie.Need-same-length-7
-same-length-7 c = let after-fill2 : tie.After-fill2 = search in after-fill2 .fill2 .given
+same-length-7 c = let after-fills2 : tie.After-fills2 = search in after-fills2 .fills2 .given
 
 same-length-8 : tie.Need-same-length-8
 same-length-8 c = let after-carry2 : tie.After-carry2 = search in after-carry2 .carry2 .given

@@ -7,11 +7,9 @@ use Rattle.grid.proofs.neighbours.low_of.Reads as reads
 use Rattle.grid.proofs.neighbours.low_of.Lts as lts
 use Rattle.grid.proofs.neighbours.cell_at.Reads as cell-at-reads
 
--- src/neighbours.rt:23:5
 cell-at-requires : tie.Need-cell-at-requires
 cell-at-requires c κs = search needs
 
--- src/neighbours.rt:19:1
 returns : tie.Need-returns
 unfolding lowOf
 returns c = c .cell-at .ensures

@@ -17,7 +17,7 @@ from-there c =
     let s = c .before .before .before in
     subst (λ (n : ℕ). n < length (s .args .flags .now)) (sym (c .seen .ensures)) (seen-in (s .args .flags .now) (s .args .c) (s .args .from) (s .pre .1) (s .pre .0))
 
-from-in : (c : tie.After-seen) → getD (c .before .before .before .args .fill .now) (c .seen .result) 0 ≤ 65536
+from-in : (c : tie.After-seen) → getD (c .before .before .before .args .fills .now) (c .seen .result) 0 ≤ 65536
 from-in c = c .before .before .before .pre .4 (c .seen .result) (from-there c)
 
 to-there : (c : tie.After-seen2) → c .seen2 .result < length (c .before .before .before .before .before .args .flags .now)
@@ -25,7 +25,7 @@ to-there c =
     let s = c .before .before .before .before .before in
     subst (λ (n : ℕ). n < length (s .args .flags .now)) (sym (c .seen2 .ensures)) (seen-in (s .args .flags .now) (s .args .c) (s .args .to) (s .pre .2) (s .pre .0))
 
-to-in : (c : tie.After-seen2) → getD (c .before .before .before .before .before .args .fill .now) (c .seen2 .result) 0 ≤ 65536
+to-in : (c : tie.After-seen2) → getD (c .before .before .before .before .before .args .fills .now) (c .seen2 .result) 0 ≤ 65536
 to-in c = c .before .before .before .before .before .pre .4 (c .seen2 .result) (to-there c)
 
 seen-requires : tie.Need-seen-requires
@@ -57,7 +57,7 @@ sub-result c = does-fit (v+ (n32 (from-in (c .before .before .before))) (vneg (n
 
 returns : tie.Need-returns
 returns c =
-    let fills = c .before .before .before .before .before .before .args .fill .now in
+    let fills = c .before .before .before .before .before .before .args .fills .now in
     reads-as (v32 (v+ (n32 (from-in (c .before .before .before))) (vneg (n32 (to-in (c .before)))))) tt
     ∙ ap₂ (λ (x y : ℕ). pos (getD fills x 0) -ℤ pos (getD fills y 0)) (c .before .before .before .seen .ensures) (c .before .seen2 .ensures)
 

@@ -11,10 +11,10 @@ use Rattle.record.specs.Reading.{sidesIn}
 use Rattle.record.proofs.Answers.{chain-ok}
 use Rattle.record.proofs.Shaped.{opens}
 use Rattle.index.specs.Index.{Index, index}
-use Rattle.index.proofs.Answers.{few-cells}
 use Rattle.intake.proofs.Readings.{stops, first-section, sides-pass, wrong-index, opens-all, fits-told}
 use Rattle.intake.proofs.reader.opened.Statement.{statement}
 use Rattle.intake.proofs.reader.opened.Tie as tie
+use Rattle.grid.proofs.Inside.{few as few-cells}
 
 abbrev held : tie.Start → Index
 held d = index (d .args .words .now) (d .args .count .now)

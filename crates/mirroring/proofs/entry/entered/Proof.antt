@@ -10,10 +10,10 @@ use Rattle.grid.specs.State.{Lent, lent}
 use Rattle.pumps.specs.Three.{threeLengths}
 use Rattle.index.specs.Index.{index, indexSized}
 use Rattle.index.specs.Held.{Held, held}
-use Rattle.index.proofs.Answers.{few-cells}
 use Rattle.mirroring.proofs.Answers.{sides-refused, lengths-told, lengths-refused, axis-refused, then-tested, first-three}
 use Rattle.mirroring.proofs.entry.entered.Statement.{statement}
 use Rattle.mirroring.proofs.entry.entered.Tie as tie
+use Rattle.grid.proofs.Inside.{few as few-cells}
 
 abbrev first : tie.Start → Lent
 first w = lent (w .args .flags .now) (w .args .parts .now) (w .args .masses .now) (w .args .fills .now) (w .args .carry .now)

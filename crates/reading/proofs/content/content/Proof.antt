@@ -24,19 +24,15 @@ use Rattle.record.proofs.given.good_site.Reads as good-site-reads
 use Rattle.record.proofs.given.settings_in.Reads as settings-in-reads
 use Rattle.record.proofs.given.site_in.Reads as site-in-reads
 
--- src/content.rt:52:19
 settings-in-requires : tie.Need-settings-in-requires
 settings-in-requires c κs = search needs
 
--- src/content.rt:52:37
 site-in-requires : tie.Need-site-in-requires
 site-in-requires c κs = search needs
 
--- src/content.rt:52:9
 good-site-requires : tie.Need-good-site-requires
 good-site-requires c κs = search needs
 
--- src/content.rt:53:9
 -- the test is of the record's own settings and origin
 site-is : (c : tie.After-good-site) → let r = now (c .before .before .before .before .args .rec) in c .good-site .result ≡ siteGood (settingsIn r) (siteIn r)
 site-is c =
@@ -51,11 +47,9 @@ returns c =
     let five = ifNone n 5 (badFluid 18 (gridOf (sidesIn r)) (flagIn r)) (ifNone (suc n) 6 (badRule d3q19 n (stateIn r)) (orRefuse (totalsGood (pouredIn r) (takenIn r)) 6 n Done)) in
     sym (or-fail 3 0 five (sym (site-is (c .before)) ∙ not-true _ (c .if1 .taken)))
 
--- src/content.rt:55:5
 cell-tests-requires : tie.Need-cell-tests-requires
 cell-tests-requires c κs = search needs
 
--- src/content.rt:47:1
 returns-2 : tie.Need-returns-2
 unfolding contentAnswer
 returns-2 c =

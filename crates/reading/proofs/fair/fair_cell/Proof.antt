@@ -29,25 +29,20 @@ use Rattle.reading.proofs.load.parts_at.Reads as parts-at-reads
 use Rattle.record.proofs.number.i32_at.Reads as i32-at-reads
 use Rattle.whole.proofs.wide.Reads as wide-reads
 
--- src/fair.rt:40:8
 one-liquid-requires : tie.Need-one-liquid-requires
 one-liquid-requires c κs = search needs
 
--- src/fair.rt:41:9
 returns : tie.Need-returns
 returns c =
     let a = c .before .before .before .args in
     sym (fair-dry d3q19 (a .flag) (i32At (now (a .rec)) (a .m)) (λ k. i32At (now (a .rec)) (a .p + 4 * k)) (sym (c .before .one-liquid .ensures) ∙ c .if1 .taken))
 
--- src/fair.rt:43:19
 parts-at-requires : tie.Need-parts-at-requires
 parts-at-requires c κs = search needs
 
--- src/fair.rt:43:9
 good-body-requires : tie.Need-good-body-requires
 good-body-requires c κs = search needs
 
--- src/fair.rt:44:9
 -- the parts, tested in the array that they were read into
 body : (c : tie.After-good-body) → c .good-body .result ≡ bodyGood d3q19 (λ k. i32At (now (c .before .before .before .before .before .args .rec)) (c .before .before .before .before .before .args .p + 4 * k))
 body c =
@@ -59,13 +54,11 @@ returns-2 c =
     let a = c .before .before .before .before .before .before .args in
     sym (fair-not d3q19 (a .flag) (i32At (now (a .rec)) (a .m)) (λ k. i32At (now (a .rec)) (a .p + 4 * k)) (λ e. c .before .before .before .if1 .left (c .before .before .before .before .one-liquid .ensures ∙ e)) (sym (body (c .before)) ∙ not-true _ (c .if2 .taken)))
 
--- src/fair.rt:47:9
 returns-3 : tie.Need-returns-3
 returns-3 c =
     let a = c .before .before .before .before .before .before .before .args in
     sym (fair-fluid d3q19 (a .flag) (i32At (now (a .rec)) (a .m)) (λ k. i32At (now (a .rec)) (a .p + 4 * k)) (c .if3 .taken) (sym (body (c .before .before)) ∙ not-false _ (c .before .if2 .left)))
 
--- src/fair.rt:49:20
 is-one : (c : tie.Else3) → c .before .before .before .before .before .before .before .args .flag ≡ 1
 is-one c = omega arith
 
@@ -74,15 +67,12 @@ i32-at-requires c κs =
     let d = c .before .before .before .before .before .before .before in
     subst (λ (f : ℕ). d .args .m + 4 * cond (eqb f 1) 1 0 ≤ length (now (d .args .rec))) (is-one c) (d .pre .0)
 
--- src/fair.rt:49:15
 wide-requires : tie.Need-wide-requires
 wide-requires c κs = search needs
 
--- src/fair.rt:49:5
 fair-mass-requires : tie.Need-fair-mass-requires
 fair-mass-requires c κs = search needs
 
--- src/fair.rt:35:1
 returns-4 : tie.Need-returns-4
 returns-4 c =
     let a = c .before .before .before .before .before .before .before .before .before .before .args in

@@ -36,7 +36,6 @@ Inv-loop rec flags masses parts m₀ p₀ c₀ m p c =
 abbrev μ-loop : tie.MeasureT-loop
 μ-loop rec flags masses parts m₀ p₀ c₀ m p c = length flags - c
 
--- src/fair.rt:61:5
 -- this cell's numbers are in the record
 masses-inside : (c : tie.In-loop Inv-loop μ-loop)
     → c .before .loop .m + 4 * cond (eqb (getD (now (c .before .before .before .before .args .flags)) (c .before .loop .c) 0) 1) 1 0 ≤ length (now (c .before .before .before .before .args .rec))
@@ -65,15 +64,12 @@ loop-holds : tie.Need-loop-holds Inv-loop μ-loop
 unfolding interfaces liquids count
 loop-holds c = (omega arith, omega arith, omega arith, λ j h. absurd (not-suc-le-zero h))
 
--- src/fair.rt:62:20
 shared-slice-read-flag : tie.Need-shared-slice-read-flag Inv-loop μ-loop
 shared-slice-read-flag c = omega arith
 
--- src/fair.rt:63:13
 fair-cell-requires : tie.Need-fair-cell-requires Inv-loop μ-loop
 fair-cell-requires c κs = (masses-inside (c .before), parts-inside (c .before))
 
--- src/fair.rt:64:13
 returns : tie.Need-returns Inv-loop μ-loop
 returns c =
     let l = c .before .before .before .before in
@@ -81,39 +77,30 @@ returns c =
     let bad : ℕ → Bool = λ j. not (fairAt (now (a .rec)) (now (a .flags)) (a .masses) (a .parts) j) in
     sym (first-is (length (now (a .flags))) bad (l .loop .c) (c .before .before .before .loop-test .taken) (λ j h. ap not (l .loop .inv .3 j h)) (ap not (sym (here (c .before))) ∙ c .if1 .taken))
 
--- src/fair.rt:66:18
 one-interface-requires : tie.Need-one-interface-requires Inv-loop μ-loop
 one-interface-requires c κs = search needs
 
--- src/fair.rt:66:14
 mul-m : tie.Need-mul-m Inv-loop μ-loop
 mul-m c = record { fits = omega (arith, c .one-interface .ensures, masses-inside (c .before .before .before .before), c .before .before .before .before .before .before .before .before .good .0 .0) }
 
--- src/fair.rt:66:9
 add-m : tie.Need-add-m Inv-loop μ-loop
 add-m c = record { fits = omega (arith, c .one-interface .ensures, masses-inside (c .before .before .before .before), c .before .before .before .before .before .before .before .before .good .0 .0) }
 
--- src/fair.rt:67:19
 one-liquid-requires : tie.Need-one-liquid-requires Inv-loop μ-loop
 one-liquid-requires c κs = search needs
 
--- src/fair.rt:67:14
 mul-p : tie.Need-mul-p Inv-loop μ-loop
 mul-p c = record { fits = omega (arith, c .one-liquid .ensures, parts-inside (c .before .before .before .before .before), c .before .before .before .before .before .before .before .before .before .good .0 .0) }
 
--- src/fair.rt:67:9
 add-p : tie.Need-add-p Inv-loop μ-loop
 add-p c = record { fits = omega (arith, c .one-liquid .ensures, parts-inside (c .before .before .before .before .before), c .before .before .before .before .before .before .before .before .before .good .0 .0) }
 
--- src/fair.rt:68:9
 add-c : tie.Need-add-c Inv-loop μ-loop
 add-c c = record { fits = omega arith }
 
--- src/fair.rt:61:5
 loop-less : tie.Need-loop-less Inv-loop μ-loop
 loop-less c = omega arith
 
--- src/fair.rt:61:5
 loop-again : tie.Need-loop-again Inv-loop μ-loop
 loop-again c =
     let l = c .before .before .before .before .before .before in
@@ -127,7 +114,6 @@ loop-again c =
           (sym (here (c .before .before .before)) ∙ not-false _ (c .before .before .if1 .left)),
     )
 
--- src/fair.rt:53:1
 returns-2 : tie.Need-returns-2 Inv-loop μ-loop
 returns-2 c =
     let l = c .before in

@@ -10,19 +10,15 @@ use Rattle.reading.proofs.fair.good_body.Lts as lts
 use Rattle.lattice.proofs.rules.all_inside.Reads as all-inside-reads
 use Rattle.lattice.proofs.rules.fair_parts.Reads as fair-parts-reads
 
--- src/fair.rt:28:9
 all-inside-requires : tie.Need-all-inside-requires
 all-inside-requires c κs = search needs
 
--- src/fair.rt:29:9
 returns : tie.Need-returns
 returns c = sym (no-parts (c .before .before .args .f) (sym (c .before .all-inside .ensures) ∙ not-true _ (c .if1 .taken)))
 
--- src/fair.rt:31:5
 fair-parts-requires : tie.Need-fair-parts-requires
 fair-parts-requires c κs = inside-bounded (c .before .before .args .f) (sym (c .before .all-inside .ensures) ∙ not-false _ (c .if1 .left))
 
--- src/fair.rt:25:1
 returns-2 : tie.Need-returns-2
 returns-2 c = search needs
 

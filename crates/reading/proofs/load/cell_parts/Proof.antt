@@ -17,7 +17,6 @@ use Rattle.reading.proofs.load.cell_parts.Lts as lts
 use Rattle.record.proofs.count.one_liquid.Reads as one-liquid-reads
 use Rattle.reading.proofs.load.parts_at.Reads as parts-at-reads
 
--- src/load.rt:36:8
 abbrev held : ℕ → (ℕ → ℤ) → ℕ → ℤ
 held f g k = byFlag f (pos 0) (g k) (g k) (pos 0)
 
@@ -37,17 +36,14 @@ wet (suc (suc (suc f))) g h = absurd (h refl)
 one-liquid-requires : tie.Need-one-liquid-requires
 one-liquid-requires c κs = search needs
 
--- src/load.rt:37:9
 returns : tie.Need-returns
 returns c =
     let a = c .before .before .before .args in
     dry (a .flag) (λ k. i32At (now (a .rec)) (a .at + 4 * k)) (sym (c .before .one-liquid .ensures) ∙ c .if1 .taken)
 
--- src/load.rt:39:5
 parts-at-requires : tie.Need-parts-at-requires
 parts-at-requires c κs = search needs
 
--- src/load.rt:32:1
 returns-2 : tie.Need-returns-2
 returns-2 c =
     let a = c .before .before .before .before .args in

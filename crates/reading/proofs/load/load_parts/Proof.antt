@@ -35,7 +35,6 @@ Inv-loop rec flags from parts₀ at₀ c₀ parts at c = (c ≤ length flags) ×
 abbrev μ-loop : tie.MeasureT-loop
 μ-loop rec flags from parts₀ at₀ c₀ parts at c = length flags - c
 
--- src/load.rt:50:5
 -- the parts up to this cell, this one's too, are in the record
 inside : (c : tie.In-loop Inv-loop μ-loop)
     → c .before .loop .at + 76 * cond (liquid (getD (now (c .before .before .before .before .args .flags)) (c .before .loop .c) 0)) 1 0 ≤ length (now (c .before .before .before .before .args .rec))
@@ -55,43 +54,33 @@ loop-holds : tie.Need-loop-holds Inv-loop μ-loop
 unfolding liquids count
 loop-holds c = (omega arith, omega arith, refl, blocks-zero (held (c .before .before .args .rec .now) (c .before .before .args .flags .now) (c .before .before .args .from)) (c .before .before .args .parts .now))
 
--- src/load.rt:51:20
 shared-slice-read-flag : tie.Need-shared-slice-read-flag Inv-loop μ-loop
 shared-slice-read-flag c = omega arith
 
--- src/load.rt:52:22
 mul-paste : tie.Need-mul-paste Inv-loop μ-loop
 mul-paste c = record { fits = omega (arith, c .before .before .before .before .before .before .pre .1, c .before .before .before .before .before .before .good .1 .1 .1 .0) }
 
--- src/load.rt:52:30
 cell-parts-requires : tie.Need-cell-parts-requires Inv-loop μ-loop
 cell-parts-requires c κs = omega (arith, inside (c .before .before))
 
--- src/load.rt:52:9
 paste-requires : tie.Need-paste-requires Inv-loop μ-loop
 paste-requires c κs = omega (arith, c .before .before .before .before .before .before .before .pre .1, c .before .before .before .before .loop .inv .2, c .before .before .before .loop-test .taken)
 
--- src/load.rt:53:20
 one-liquid-requires : tie.Need-one-liquid-requires Inv-loop μ-loop
 one-liquid-requires c κs = search needs
 
--- src/load.rt:53:15
 mul-at : tie.Need-mul-at Inv-loop μ-loop
 mul-at c = record { fits = omega (arith, c .one-liquid .ensures, inside (c .before .before .before .before .before .before), c .before .before .before .before .before .before .before .before .before .before .good .0 .0) }
 
--- src/load.rt:53:9
 add-at : tie.Need-add-at Inv-loop μ-loop
 add-at c = record { fits = omega (arith, c .one-liquid .ensures, inside (c .before .before .before .before .before .before), c .before .before .before .before .before .before .before .before .before .before .good .0 .0) }
 
--- src/load.rt:54:9
 add-c : tie.Need-add-c Inv-loop μ-loop
 add-c c = record { fits = omega arith }
 
--- src/load.rt:50:5
 loop-less : tie.Need-loop-less Inv-loop μ-loop
 loop-less c = omega arith
 
--- src/load.rt:50:5
 loop-again : tie.Need-loop-again Inv-loop μ-loop
 loop-again c =
     let l = c .before .before .before .before .before .before .before in
@@ -110,11 +99,9 @@ loop-again c =
       subst (λ (o : List ℤ). Blocks (held r s (d .args .from)) o (k + 1)) (sym now-is) (blocks-more (held r s (d .args .from)) (l .loop .parts) v k fits is (l .loop .inv .3)),
     )
 
--- src/load.rt:43:1
 same-length : tie.Need-same-length Inv-loop μ-loop
 same-length c = c .before .loop .inv .2
 
--- src/load.rt:43:1
 returns : tie.Need-returns Inv-loop μ-loop
 returns c =
     let d = c .before .before .before .before in

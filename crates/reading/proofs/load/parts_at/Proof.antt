@@ -21,39 +21,30 @@ Inv-loop rec at v₀ k₀ v k = (k ≤ 19) × (length v ≡ 19) × Upto (pos 0) 
 abbrev μ-loop : tie.MeasureT-loop
 μ-loop rec at v₀ k₀ v k = 19 - k
 
--- src/load.rt:23:5
 loop-holds : tie.Need-loop-holds Inv-loop μ-loop
 loop-holds c = (omega arith, refl, upto-zero (pos 0) _ (replicate 19 (pos 0)))
 
--- src/load.rt:24:34
 mul-i32-at : tie.Need-mul-i32-at Inv-loop μ-loop
 mul-i32-at c = search needs
 
--- src/load.rt:24:29
 add-i32-at : tie.Need-add-i32-at Inv-loop μ-loop
 add-i32-at c = search needs
 
--- src/load.rt:24:13
 i32-at-requires : tie.Need-i32-at-requires Inv-loop μ-loop
 i32-at-requires c κs = search needs
 
--- src/load.rt:25:9
 mul-v : tie.Need-mul-v Inv-loop μ-loop
 mul-v c = search needs
 
--- src/load.rt:25:9
 array-set-from-v : tie.Need-array-set-from-v Inv-loop μ-loop
 array-set-from-v c = search needs
 
--- src/load.rt:26:9
 add-k : tie.Need-add-k Inv-loop μ-loop
 add-k c = search needs
 
--- src/load.rt:23:5
 loop-less : tie.Need-loop-less Inv-loop μ-loop
 loop-less c = search needs
 
--- src/load.rt:23:5
 loop-again : tie.Need-loop-again Inv-loop μ-loop
 loop-again c =
     let l = c .before .before in
@@ -65,7 +56,6 @@ loop-again c =
           (toZ-ofZ w32 (c .i32-at .result) (record { sfits = c .i32-at .ok }) ∙ c .i32-at .ensures),
     )
 
--- src/load.rt:17:1
 returns : tie.Need-returns Inv-loop μ-loop
 returns c =
     let e : c .before .loop .k ≡ 19 = omega arith in

@@ -32,7 +32,6 @@ use Rattle.record.proofs.section.passed.Reads as passed-reads
 use Rattle.reading.proofs.shape.shape.Reads as shape-reads
 use Rattle.reading.proofs.take.take.Reads as take-reads
 
--- src/reader.rt:40:9
 abbrev own : tie.Start → Lent
 own d = lent [] (now (d .args .parts)) (now (d .args .masses)) (now (d .args .fills)) (now (d .args .carry))
 
@@ -74,15 +73,12 @@ done c =
 shape-requires : tie.Need-shape-requires
 shape-requires c κs = search needs
 
--- src/reader.rt:41:9
 passed-requires : tie.Need-passed-requires
 passed-requires c κs = search needs
 
--- src/reader.rt:42:9
 refused-requires : tie.Need-refused-requires
 refused-requires c κs = search needs
 
--- src/reader.rt:42:9
 returns : tie.Need-returns
 unfolding readAnswer
 returns c =
@@ -92,23 +88,18 @@ returns c =
     (sym (c .before .before .passed .ensures) ∙ not-true _ (c .before .if1 .taken))
     (c .refused .ensures)
 
--- src/reader.rt:44:9
 sides-in-requires : tie.Need-sides-in-requires
 sides-in-requires c κs = is-sound c .first .inside
 
--- src/reader.rt:45:9
 content-requires : tie.Need-content-requires
 content-requires c κs = (is-sound (c .before), c .sides-in .ensures)
 
--- src/reader.rt:46:9
 passed-requires-2 : tie.Need-passed-requires-2
 passed-requires-2 c κs = search needs
 
--- src/reader.rt:47:9
 refused-requires-2 : tie.Need-refused-requires-2
 refused-requires-2 c κs = search needs
 
--- src/reader.rt:47:9
 returns-2 : tie.Need-returns-2
 returns-2 c =
     let d = c .before .before .before .before .before .before .before .before .before .before in
@@ -117,11 +108,9 @@ returns-2 c =
     (sym (c .before .before .passed2 .ensures) ∙ not-true _ (c .before .if2 .taken))
     (c .refused2 .ensures)
 
--- src/reader.rt:49:15
 cells-requires : tie.Need-cells-requires
 cells-requires c κs = ap sidesGood (c .before .before .before .sides-in .ensures) ∙ is-sound (c .before .before .before .before) .sides
 
--- src/reader.rt:49:5
 cells-are : (c : tie.After-cells) → c .cells .result ≡ cellsIn (now (c .before .before .before .before .before .before .before .before .before .before .args .rec))
 unfolding cellsIn
 cells-are c = c .cells .ensures ∙ ap cellsOf (c .before .before .before .before .sides-in .ensures)
@@ -151,31 +140,24 @@ take-requires c κs =
       ),
     )
 
--- src/reader.rt:50:9
 settings-in-requires : tie.Need-settings-in-requires
 settings-in-requires c κs = is-sound (c .before .before .before .before .before .before .before .before .before .before .before .before .before .before .before) .settings .inside
 
--- src/reader.rt:51:9
 site-in-requires : tie.Need-site-in-requires
 site-in-requires c κs = is-sound (c .before .before .before .before .before .before .before .before .before .before .before .before .before .before .before .before) .origin .inside
 
--- src/reader.rt:31:1
 same-length : tie.Need-same-length
 same-length c = search needs
 
--- src/reader.rt:31:1
 same-length-2 : tie.Need-same-length-2
 same-length-2 c = search needs
 
--- src/reader.rt:31:1
 same-length-3 : tie.Need-same-length-3
 same-length-3 c = search needs
 
--- src/reader.rt:31:1
 same-length-4 : tie.Need-same-length-4
 same-length-4 c = search needs
 
--- src/reader.rt:31:1
 returns-3 : tie.Need-returns-3
 returns-3 c =
     let e = c .before .before .before .before .before .before .before .before .before .before .before .before .before in

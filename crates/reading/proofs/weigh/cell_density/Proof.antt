@@ -17,22 +17,18 @@ use Rattle.grid.proofs.cells.own.Reads as own-reads
 use Rattle.lattice.proofs.moments.density.Reads as density-reads
 use Rattle.record.proofs.count.one_liquid.Reads as one-liquid-reads
 
--- src/weigh.rt:32:8
 one-liquid-requires : tie.Need-one-liquid-requires
 one-liquid-requires c κs = search needs
 
--- src/weigh.rt:33:9
 returns : tie.Need-returns
 returns c =
     let a = c .before .before .args in
     let ρ = density d3q19 (λ k. getD (now (a .parts)) (19 * a .c + k) (pos 0)) in
     sym (by-dry (a .flag) (pos 0) ρ ρ (sym (c .before .one-liquid .ensures) ∙ c .if1 .taken))
 
--- src/weigh.rt:35:13
 own-requires : tie.Need-own-requires
 own-requires c κs = search needs
 
--- src/weigh.rt:35:5
 wet-here : (c : tie.Else1) → Dry (c .before .before .args .flag) → ⊥
 wet-here c e = c .if1 .left (c .before .one-liquid .ensures ∙ e)
 
@@ -42,7 +38,6 @@ density-requires c κs =
     let a = d .args in
     bounded-by (λ k. getD (now (a .parts)) (19 * a .c + k) (pos 0)) (c .own .result) (c .own .ensures) (d .pre .1 (wet (a .flag) (wet-here (c .before))))
 
--- src/weigh.rt:27:1
 returns-2 : tie.Need-returns-2
 returns-2 c =
     let a = c .before .before .before .before .args in

@@ -20,15 +20,12 @@ use Rattle.reading.proofs.weigh.cell_fill.Lts as lts
 use Rattle.lattice.proofs.fill.part_fill.Reads as part-fill-reads
 use Rattle.whole.proofs.wide.Reads as wide-reads
 
--- src/weigh.rt:57:26
 wide-requires : tie.Need-wide-requires
 wide-requires c κs = search needs
 
--- src/weigh.rt:57:35
 wide-requires-2 : tie.Need-wide-requires-2
 wide-requires-2 c κs = search needs
 
--- src/weigh.rt:57:9
 -- the density as it passed the calls
 rho-is : (c : tie.After-wide2) → toZ w64 (ofZ w64 (c .wide2 .result)) ≡ c .before .before .before .args .rho
 rho-is c =
@@ -46,7 +43,6 @@ part-fill-requires c κs =
     subst (λ (z : ℤ). (pos 0 <ℤ z) × Within z 1099511627776) (sym (rho-is c))
     (dense-positive (d .pre (c .before .before .if1 .taken)), record { abs = omega (arith, natAbs-le (d .args .rho) (d .fits .rho .sfits)) })
 
--- src/weigh.rt:57:9
 returns : tie.Need-returns
 unfolding fillFor
 returns c =
@@ -55,12 +51,10 @@ returns c =
     ∙ ap₂ fillOf (mass-is (c .before)) (rho-is (c .before))
     ∙ sym (ap (λ (f : ℕ). fillFor f (a .m) (a .rho)) (c .before .before .before .if1 .taken))
 
--- src/weigh.rt:60:9
 returns-2 : tie.Need-returns-2
 unfolding fillFor
 returns-2 c = let a = c .before .before .args in sym (ap (λ (f : ℕ). fillFor f (a .m) (a .rho)) (c .if2 .taken))
 
--- src/weigh.rt:52:1
 returns-3 : tie.Need-returns-3
 unfolding fillFor
 returns-3 c = let a = c .before .before .args in sym (by-other (a .flag) 0 (fillOf (a .m) (a .rho)) 65536 (c .before .if1 .left) (c .if2 .left))

@@ -17,13 +17,11 @@ use Rattle.reading.proofs.weigh.cell_mass.Reads as reads
 use Rattle.reading.proofs.weigh.cell_mass.Lts as lts
 use Rattle.record.proofs.number.i32_at.Reads as i32-at-reads
 
--- src/weigh.rt:44:9
 i32-at-requires : tie.Need-i32-at-requires
 i32-at-requires c κs =
     let d = c .before .before in
     subst (λ (f : ℕ). d .args .at + 4 * cond (eqb f 1) 1 0 ≤ length (now (d .args .rec))) (c .if1 .taken) (d .pre)
 
--- src/weigh.rt:44:9
 returns : tie.Need-returns
 returns c =
     let a = c .before .before .before .args in
@@ -31,14 +29,12 @@ returns c =
     ∙ c .i32-at .ensures
     ∙ sym (ap (λ (f : ℕ). byFlag f (pos 0) (i32At (now (a .rec)) (a .at)) (a .rho) (pos 0)) (c .before .if1 .taken))
 
--- src/weigh.rt:47:9
 returns-2 : tie.Need-returns-2
 returns-2 c =
     let d = c .before .before .before in
     let a = d .args in
     toZ-ofZ w32 (a .rho) (d .fits .rho) ∙ sym (ap (λ (f : ℕ). byFlag f (pos 0) (i32At (now (a .rec)) (a .at)) (a .rho) (pos 0)) (c .if2 .taken))
 
--- src/weigh.rt:39:1
 returns-3 : tie.Need-returns-3
 returns-3 c =
     let a = c .before .before .before .args in

@@ -44,7 +44,6 @@ Inv-loop rec flags from parts masses₀ fills₀ at₀ c₀ masses fills at c =
 abbrev μ-loop : tie.MeasureT-loop
 μ-loop rec flags from parts masses₀ fills₀ at₀ c₀ masses fills at c = length flags - c
 
--- src/weigh.rt:83:5
 abbrev ρ-of : List ℤ → ℕ → ℤ
 ρ-of parts c = density d3q19 (λ k. getD parts (19 * c + k) (pos 0))
 
@@ -99,11 +98,9 @@ loop-holds c =
       upto-zero 0 (loadedFill (now (a .rec)) (now (a .flags)) (a .from) (now (a .parts))) (now (a .fills)),
     )
 
--- src/weigh.rt:84:20
 shared-slice-read-flag : tie.Need-shared-slice-read-flag Inv-loop μ-loop
 shared-slice-read-flag c = omega arith
 
--- src/weigh.rt:85:13
 cell-density-requires : tie.Need-cell-density-requires Inv-loop μ-loop
 cell-density-requires c κs =
     let l = c .before .before in
@@ -111,19 +108,15 @@ cell-density-requires c κs =
     let h = c .before .loop-test .taken in
     (omega (arith, d .pre .1 .0, h), λ e. d .pre .1 .1 .1 .1 .inside (l .loop .c) h (ap liquid (sym (getD-there (now (d .args .flags)) (l .loop .c) 0 3 h)) ∙ e))
 
--- src/weigh.rt:86:13
 cell-mass-requires : tie.Need-cell-mass-requires Inv-loop μ-loop
 cell-mass-requires c κs = inside (c .before .before)
 
--- src/weigh.rt:87:9
 mul-m : tie.Need-mul-m Inv-loop μ-loop
 mul-m c = record { fits = omega (arith, c .before .before .before .loop-test .taken, c .before .before .before .before .before .before .before .before .pre .1 .0, c .before .before .before .before .before .before .before .before .good .1 .1 .1 .0) }
 
--- src/weigh.rt:87:9
 slice-set-from-m : tie.Need-slice-set-from-m Inv-loop μ-loop
 slice-set-from-m c = omega (arith, c .before .before .before .before .loop .inv .2 .0, c .before .before .before .before .before .before .before .before .pre .1 .1 .0, c .before .before .before .loop-test .taken)
 
--- src/weigh.rt:88:20
 cell-fill-requires : tie.Need-cell-fill-requires Inv-loop μ-loop
 cell-fill-requires c κs =
     λ e.
@@ -134,35 +127,27 @@ cell-fill-requires c κs =
     subst (λ (z : ℤ). pos 294912 ≤ℤ z) (sym (ρ-is (c .before) ∙ ap (λ (f : ℕ). byFlag f (pos 0) p p (pos 0)) e))
     (d .pre .1 .1 .1 .1 .heavy (l .loop .c) h (sym (getD-there (now (d .args .flags)) (l .loop .c) 0 3 h) ∙ e))
 
--- src/weigh.rt:88:9
 mul-fills : tie.Need-mul-fills Inv-loop μ-loop
 mul-fills c = record { fits = omega (arith, c .before .before .before .before .loop-test .taken, c .before .before .before .before .before .before .before .before .before .pre .1 .0, c .before .before .before .before .before .before .before .before .before .good .1 .1 .1 .0) }
 
--- src/weigh.rt:88:9
 slice-write-fills : tie.Need-slice-write-fills Inv-loop μ-loop
 slice-write-fills c = omega (arith, c .before .before .before .before .before .loop .inv .2 .1, c .before .before .before .before .before .before .before .before .before .pre .1 .1 .1 .0, c .before .before .before .before .loop-test .taken)
 
--- src/weigh.rt:89:19
 one-interface-requires : tie.Need-one-interface-requires Inv-loop μ-loop
 one-interface-requires c κs = search needs
 
--- src/weigh.rt:89:15
 mul-at : tie.Need-mul-at Inv-loop μ-loop
 mul-at c = record { fits = omega (arith, c .one-interface .ensures, inside (c .before .before .before .before .before), c .before .before .before .before .before .before .before .before .before .before .good .0 .0) }
 
--- src/weigh.rt:89:9
 add-at : tie.Need-add-at Inv-loop μ-loop
 add-at c = record { fits = omega (arith, c .one-interface .ensures, inside (c .before .before .before .before .before), c .before .before .before .before .before .before .before .before .before .before .good .0 .0) }
 
--- src/weigh.rt:90:9
 add-c : tie.Need-add-c Inv-loop μ-loop
 add-c c = record { fits = omega (arith, c .before .before .before .before .before .loop-test .taken, c .before .before .before .before .before .before .before .before .before .before .good .1 .0) }
 
--- src/weigh.rt:83:5
 loop-less : tie.Need-loop-less Inv-loop μ-loop
 loop-less c = omega (arith, c .before .before .before .before .before .loop-test .taken)
 
--- src/weigh.rt:83:5
 loop-again : tie.Need-loop-again Inv-loop μ-loop
 loop-again c =
     let l = c .before .before .before .before .before .before in
@@ -187,15 +172,12 @@ loop-again c =
       upto-more 0 (loadedFill r s (a .from) ps) (l .loop .fills) k fill (omega (arith, l .loop .inv .2 .1, d .pre .1 .1 .1 .0, h)) (l .loop .inv .4) fill-now,
     )
 
--- src/weigh.rt:66:1
 same-length : tie.Need-same-length Inv-loop μ-loop
 same-length c = c .before .loop .inv .2 .0
 
--- src/weigh.rt:66:1
 same-length-2 : tie.Need-same-length-2 Inv-loop μ-loop
 same-length-2 c = c .before .loop .inv .2 .1
 
--- src/weigh.rt:66:1
 returns : tie.Need-returns Inv-loop μ-loop
 returns c =
     let l = c .before in

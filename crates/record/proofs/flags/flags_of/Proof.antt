@@ -13,26 +13,21 @@ use Rattle.record.proofs.flags.flags_of.Reads as reads
 use Rattle.record.proofs.flags.flags_of.Lts as lts
 use Rattle.record.proofs.flags.span.Reads as span-reads
 
--- src/flags.rt:33:9
 span-requires : tie.Need-span-requires
 span-requires c κs = search needs
 
--- src/flags.rt:36:5
 inside : (c : tie.After-span) → Inside (length (now (c .before .before .args .rec))) (c .span .result)
 inside c = let a = c .before .before .args in subst (Inside (length (now (a .rec)))) (sym (c .span .ensures)) (span-inside (now (a .rec)) (a .h))
 
 sub-result : tie.Need-sub-result
 sub-result c = inside c .order
 
--- src/flags.rt:36:5
 part-result-start : tie.Need-part-result-start
 part-result-start c = inside c .order
 
--- src/flags.rt:36:5
 part-result-end : tie.Need-part-result-end
 part-result-end c = inside c .most
 
--- src/flags.rt:30:1
 returns : tie.Need-returns
 returns c =
     let s = c .before .before .before .args .rec in

@@ -17,10 +17,10 @@ same-length-2 : tie.Need-same-length-2
 same-length-2 c = let after-parts : tie.After-parts = search in after-parts .parts .given
 
 same-length-3 : tie.Need-same-length-3
-same-length-3 c = let after-mass : tie.After-mass = search in after-mass .mass .given
+same-length-3 c = let after-masses : tie.After-masses = search in after-masses .masses .given
 
 same-length-4 : tie.Need-same-length-4
-same-length-4 c = let after-fill : tie.After-fill = search in after-fill .fill .given
+same-length-4 c = let after-fills : tie.After-fills = search in after-fills .fills .given
 
 same-length-5 : tie.Need-same-length-5
 same-length-5 c = c .carry .given
@@ -65,10 +65,10 @@ same-length-17 : tie.Need-same-length-17
 same-length-17 c = let after-parts2 : tie.After-parts2 = search in after-parts2 .parts2 .given
 
 same-length-18 : tie.Need-same-length-18
-same-length-18 c = let after-mass2 : tie.After-mass2 = search in after-mass2 .mass2 .given
+same-length-18 c = let after-masses2 : tie.After-masses2 = search in after-masses2 .masses2 .given
 
 same-length-19 : tie.Need-same-length-19
-same-length-19 c = let after-fill2 : tie.After-fill2 = search in after-fill2 .fill2 .given
+same-length-19 c = let after-fills2 : tie.After-fills2 = search in after-fills2 .fills2 .given
 
 same-length-20 : tie.Need-same-length-20
 same-length-20 c = c .carry2 .given

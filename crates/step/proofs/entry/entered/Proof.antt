@@ -9,16 +9,16 @@ use lib.ListN.{length}
 use Rattle.grid.specs.Grid.{sidesGood, cellsOf}
 use Rattle.grid.specs.State.{Lent, lent}
 use Rattle.grid.specs.Outcome.{lengthsGood, settingsGood}
-use Rattle.flow.proofs.Poise.{few}
 use Rattle.step.proofs.Entrance.{lengths-told, settings-told, refuses-sides, refuses-lengths, refuses-settings, first-good, then-good}
 use Rattle.step.proofs.entry.entered.Statement.{statement}
 use Rattle.step.proofs.entry.entered.Tie as tie
+use Rattle.grid.proofs.Inside.{few}
 
 abbrev first : tie.Start → Lent
-first w = lent (w .args .flags .now) (w .args .parts .now) (w .args .mass .now) (w .args .fill .now) (w .args .carry .now)
+first w = lent (w .args .flags .now) (w .args .parts .now) (w .args .masses .now) (w .args .fills .now) (w .args .carry .now)
 
 abbrev second : tie.Start → Lent
-second w = lent (w .args .flags2 .now) (w .args .parts2 .now) (w .args .mass2 .now) (w .args .fill2 .now) (w .args .carry2 .now)
+second w = lent (w .args .flags2 .now) (w .args .parts2 .now) (w .args .masses2 .now) (w .args .fills2 .now) (w .args .carry2 .now)
 
 sides-good : (d : tie.Else1) → sidesGood (d .before .before .before .before .before .before .before .args .s) ≡ true
 sides-good d = let after-good-sides : tie.After-good-sides = search in sym (after-good-sides .good-sides .ensures) ∙ not-false _ (d .if1 .left)

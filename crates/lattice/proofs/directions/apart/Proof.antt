@@ -1,11 +1,11 @@
--- `lattice::moments::apart`: the difference of two parts that are within ±2^25 fits. Assumes nothing.
+-- `lattice::directions::apart`: the difference of two parts that are within ±2^25 fits. Assumes nothing.
 use Prim.Native.Nat.{_+_, _*_}
 use native.Mathlib.Omega.{arith}
 use Rattle.whole.specs.laws.Machine.{does-fit, reads-as}
 use Rattle.lattice.proofs.Reading.{reading}
 use borrow.Author.Needs.{needs}
-use Rattle.lattice.proofs.moments.apart.Statement.{statement}
-use Rattle.lattice.proofs.moments.apart.Tie as tie
+use Rattle.lattice.proofs.directions.apart.Statement.{statement}
+use Rattle.lattice.proofs.directions.apart.Tie as tie
 
 mul-result : tie.Need-mul-result
 mul-result c = search needs

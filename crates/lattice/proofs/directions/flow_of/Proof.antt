@@ -1,4 +1,4 @@
--- `lattice::moments::flow_of`: density by its own function, and each component by its five pairs. Assumes nothing.
+-- `lattice::directions::flow_of`: density by its own function, and each component by its five pairs. Assumes nothing.
 use borrow.Author.Needs.{needs}
 use mathlib.Core.Path.{_≡_, _∙_}
 use Prim.Native.Nat.{ℕ, _<_}
@@ -8,8 +8,8 @@ use Rattle.whole.specs.laws.Machine.{Val, machine, same, does-fit, reads-as}
 use Rattle.lattice.specs.inner.Held.{partsOf}
 use Rattle.lattice.proofs.Momentum.{pair, pair-in, density-in, x-pairs, y-pairs, z-pairs, same-vector}
 use Rattle.lattice.proofs.Reading.{inside}
-use Rattle.lattice.proofs.moments.flow_of.Statement.{statement}
-use Rattle.lattice.proofs.moments.flow_of.Tie as tie
+use Rattle.lattice.proofs.directions.flow_of.Statement.{statement}
+use Rattle.lattice.proofs.directions.flow_of.Tie as tie
 
 -- a call's result that is pair h's difference, of the parts that the function was given
 abbrev pair-is : (s : tie.Start) (h : ℕ) {r : ℤ} → h < 9 → r ≡ pair (partsOf (s .args .f)) h → Val r

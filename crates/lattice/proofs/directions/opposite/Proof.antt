@@ -1,8 +1,8 @@
--- `excess::giving::opposite` is the lattice's pairing. Assumes nothing.
+-- `lattice::directions::opposite` is the lattice's pairing. Assumes nothing.
 use borrow.Author.Needs.{needs}
-use Rattle.excess.proofs.Sent.{opposite-odd, opposite-even}
-use Rattle.excess.proofs.giving.opposite.Statement.{statement}
-use Rattle.excess.proofs.giving.opposite.Tie as tie
+use Rattle.lattice.proofs.Opposites.{opposite-odd, opposite-even}
+use Rattle.lattice.proofs.directions.opposite.Statement.{statement}
+use Rattle.lattice.proofs.directions.opposite.Tie as tie
 
 add-result : tie.Need-add-result
 add-result c = search needs
