@@ -1,4 +1,3 @@
-pub mod Counts
 pub mod Nearests
 pub mod Digits
 pub mod Flagged
