@@ -4,7 +4,7 @@ use mathlib.Core.List.{List, [], _∷_}
 use native.Mathlib.Omega.{arith}
 use lib.IntN.{ℤ}
 use lib.ListN.{length, set}
-use Rattle.calls.specs.Promise.{carriedWith}
+use Rattle.calls.specs.inner.Totals.{carriedWith}
 
 pub carry-put : (l : List ℤ) (z : ℤ) → length l ≡ 3 → set l 0 z ≡ carriedWith z l
 carry-put [] z e = absurd (omega arith)

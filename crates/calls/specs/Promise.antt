@@ -2,8 +2,6 @@
 use mathlib.Core.Path.{_≡_}
 use mathlib.Core.List.{List, [], _∷_}
 use Prim.Native.Nat.{ℕ}
-use lib.IntN.{ℤ, pos}
-use lib.ListN.{getD}
 use Rattle.lattice.specs.declared.Settings.{Settings}
 use Rattle.grid.specs.declared.Sides.{Sides}
 use Rattle.grid.specs.declared.Answer.{Answer}
@@ -15,7 +13,3 @@ pub record Stepped (s : Sides) (g : Settings) (a b : Held) (marks : List ℕ) (a
   pub answer-is : answer ≡ stepAnswer s g a b marks
   pub second-is : second ≡ stepSecond s g a b marks
   pub marks-are : after ≡ stepMarks s g a b marks
-
--- ---- what an inner function tells: three totals, the carry given and the other two from another slice
-abbrev pub carriedWith : ℤ → List ℤ → List ℤ
-carriedWith carry totals = carry ∷ getD totals 1 (pos 0) ∷ getD totals 2 (pos 0) ∷ []

@@ -1,7 +1,7 @@
 // The totals of a set that the base made, which is lent the carry alone.
 ghost use mathlib.Core.Path.{_≡_};
 ghost use lib.ListN.{length};
-ghost use Rattle.calls.specs.Promise.{carriedWith};
+ghost use Rattle.calls.specs.inner.Totals.{carriedWith};
 
 // Its carry, beside the poured and taken that it has.
 pub fn put_carry(carry: i64, totals: &mut [i64])

@@ -11,7 +11,8 @@ use lib.Dec.{leb, ltb}
 use lib.ListN.{length, drop, getD, drop-of-length-le}
 use lib.Seq.{drop-cons}
 use Rattle.console.specs.declared.decimal.Spelled.the-variants.{Number, Unreadable}
-use Rattle.console.specs.Decimal.{isDigit, areDigits, numberAfter, spelledBy, oneMore}
+use Rattle.console.specs.Decimal.{isDigit, areDigits, numberAfter, spelledBy}
+use Rattle.console.specs.inner.Digit.{oneMore}
 
 -- ---- one digit
 -- what a number that was read says of the digit

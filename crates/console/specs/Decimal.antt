@@ -24,7 +24,3 @@ numberAfter n (b ∷ t) = numberAfter (10 * n + (b - 48)) t
 -- a text spells a number if it is one digit or more and nothing else; one above `most` cannot be read
 unfoldable pub spelledBy : List ℕ → ℕ → Spelled
 spelledBy t most = cond (ltb 0 (length t) && areDigits t && leb (numberAfter 0 t) most) (Number (numberAfter 0 t)) Unreadable
-
--- one digit more after others that spell n
-abbrev pub oneMore : ℕ → ℕ → ℕ → Spelled
-oneMore n b most = cond (isDigit b && leb (10 * n + (b - 48)) most) (Number (10 * n + (b - 48))) Unreadable

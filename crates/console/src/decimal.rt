@@ -1,6 +1,7 @@
 // Whole numbers as an argument spells them, digit by digit.
 ghost use mathlib.Core.Path.{_≡_};
-ghost use Rattle.console.specs.Decimal.{oneMore, spelledBy};
+ghost use Rattle.console.specs.Decimal.{spelledBy};
+ghost use Rattle.console.specs.inner.Digit.{oneMore};
 
 // What a text spells: a number, or nothing that can be read as one.
 pub enum Spelled {

@@ -5,7 +5,8 @@ use Prim.Native.Nat.{ℕ, _+_, _≤_}
 use native.Mathlib.Omega.{arith}
 use lib.IntN.{ℤ}
 use lib.ListN.{length, length-append}
-use Rattle.spelling.specs.Spelling.{metresOf, Put}
+use Rattle.spelling.specs.Spelling.{metresOf}
+use Rattle.spelling.specs.inner.Put.{Put}
 use Rattle.spelling.proofs.Putting.{put-none, put-long, put-as, put-then}
 use Rattle.depths.specs.Map.{lineText}
 use Rattle.depths.proofs.Texts.{line-then}

@@ -14,7 +14,8 @@ ghost use Prim.Native.Nat.{_+_, _≤_, _<_};
 ghost use lib.IntN.{natAbs};
 ghost use lib.ListN.{length};
 ghost use lib.Seq.{sets};
-ghost use Rattle.spelling.specs.Spelling.{spellOf, wholeOf, metresOf, Put};
+ghost use Rattle.spelling.specs.Spelling.{spellOf, wholeOf, metresOf};
+ghost use Rattle.spelling.specs.inner.Put.{Put};
 ghost use Rattle.depths.specs.Map.{headerText, depthAt, behind, rowText, rowsText, mapText};
 ghost use Rattle.depths.specs.inner.Asks.{Measured};
 

@@ -15,7 +15,7 @@ use Rattle.tunnel.specs.declared.CellPoint.{CellPoint}
 use Rattle.tunnel.specs.declared.Depth.{Depth}
 use Rattle.tunnel.specs.declared.Depth.the-variants.{Deep}
 use Rattle.tunnel.specs.Refusal.{orElse}
-use Rattle.tunnel.specs.Exact.{Parts}
+use Rattle.tunnel.specs.inner.Parts.{Parts}
 use Rattle.tunnel.specs.Point.{WholePoint, PointIs, refused, centreOf, pointOf}
 use Rattle.tunnel.specs.Depth.{DepthIs, depthOf}
 use Rattle.tunnel.proofs.Cells.{coordinates}

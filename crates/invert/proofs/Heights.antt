@@ -16,7 +16,8 @@ use Rattle.whole.specs.laws.Bounds.{abs-mul, abs-quot, fits-abs}
 use Rattle.whole.specs.Fold.{firstFrom}
 use Rattle.whole.specs.laws.Search.{first-is, first-all}
 use Rattle.heights.specs.declared.text.Span.{Span}
-use Rattle.heights.specs.Text.{word, afterWord, nextLine, Next}
+use Rattle.heights.specs.Text.{word, afterWord, nextLine}
+use Rattle.heights.specs.inner.Places.{Next}
 use Rattle.heights.specs.Number.{numberOf}
 use Rattle.heights.specs.Header.{isNoData}
 use Rattle.invert.specs.Invert.{orZero, solidAt}

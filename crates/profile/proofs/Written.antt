@@ -13,15 +13,16 @@ use Rattle.whole.specs.laws.Tab.{upto-more, upto-all}
 use Rattle.grid.specs.declared.Sides.{Sides}
 use Rattle.tunnel.specs.declared.Placed.{Placed}
 use Rattle.tunnel.specs.declared.Placed.the-variants.{Refused, Cell}
-use Rattle.tunnel.specs.Exact.{Exactly, Parts}
+use Rattle.tunnel.specs.Exact.{Exactly}
+use Rattle.tunnel.specs.inner.Parts.{Parts}
 use Rattle.tunnel.specs.declared.Depth.{Depth}
 use Rattle.tunnel.specs.Depth.{Reading, zeroFloat, toldOf, DepthIs}
 use Rattle.tunnel.proofs.Fractions.{exactly-number}
 use Rattle.tunnel.proofs.Few.{few-depth}
-use Rattle.profile.specs.Kinds.{lineFor, lineKind, depthLine}
+use Rattle.profile.specs.Kinds.{lineFor, lineKind}
+use Rattle.profile.specs.inner.Lines.{depthLine, LinesTo}
 use Rattle.profile.specs.Profile.{Survey, placedAt, columnOf, shownBy, seen, depthAt}
 use Rattle.profile.specs.Outcome.{DepthsOf}
-use Rattle.profile.specs.inner.Lines.{LinesTo}
 
 -- a depth is below 2^24 65,536ths
 few-shown : (s : Sides) (flags fills : List ℕ) (p : Placed) → shownBy s flags fills p .sum < 16777216

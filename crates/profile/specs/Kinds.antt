@@ -1,7 +1,6 @@
 -- A line's kind, by the kind that depth tells. Assumes nothing.
 use Prim.Native.Nat.{ℕ, zero, suc}
-use Rattle.tunnel.specs.declared.Depth.{Depth}
-use Rattle.tunnel.specs.Depth.{Reading, toldOf}
+use Rattle.tunnel.specs.Depth.{Reading}
 
 -- 1 solid, 2 dry, 3 deep, as depth has them; 4 outside, where it has 0
 abbrev pub lineFor : ℕ → ℕ
@@ -10,7 +9,3 @@ lineFor (suc kind) = suc kind
 
 abbrev pub lineKind : Reading → ℕ
 lineKind w = lineFor (w .kind)
-
--- alike of the code's enum: for inner functions, no promise of a public function cites it
-abbrev pub depthLine : Depth → ℕ
-depthLine a = lineFor (toldOf a .kind)

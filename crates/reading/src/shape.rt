@@ -19,7 +19,8 @@ ghost use Rattle.grid.specs.declared.Answer.the-variants.{Done};
 ghost use Rattle.grid.specs.Grid.{sidesGood, gridOf};
 ghost use Rattle.grid.specs.Good.{badFlag};
 ghost use Rattle.grid.specs.Outcome.{ifNone};
-ghost use Rattle.record.specs.Reading.{sidesIn, flagsAt, cellsIn, flagIn, interfacesIn, liquidsIn, ends, behindFlags, shapeAnswer};
+ghost use Rattle.record.specs.Reading.{sidesIn, flagsAt, cellsIn, flagIn, interfacesIn, liquidsIn, shapeAnswer};
+ghost use Rattle.record.specs.inner.Behind.{ends, behindFlags};
 
 // Test 4 of the flags, the sections behind them, and that nothing follows.
 fn behind(rec: &[u8], s: Sides) -> Answer

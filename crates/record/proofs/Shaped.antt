@@ -13,7 +13,8 @@ use Rattle.grid.specs.Good.{badFlag}
 use Rattle.grid.specs.Outcome.{accepted, ifNone}
 use Rattle.grid.proofs.Accepted.{accepted-done}
 use Rattle.record.specs.Places.{counts, settingsFrom, originFrom, totalsFrom, cellsFrom}
-use Rattle.record.specs.Reading.{opensOn, frontsOn, ends, behindFlags, slicesFit, sidesIn, totalsIn, cellsIn, flagIn, interfacesIn, liquidsIn, shapeAnswer, contentAnswer, readAnswer}
+use Rattle.record.specs.Reading.{opensOn, frontsOn, slicesFit, sidesIn, totalsIn, cellsIn, flagIn, interfacesIn, liquidsIn, shapeAnswer, contentAnswer, readAnswer}
+use Rattle.record.specs.inner.Behind.{ends, behindFlags}
 use Rattle.record.specs.Bytes.{Held}
 use Rattle.record.specs.inner.Passes.{Sound}
 use Rattle.record.proofs.Answers.{Chain, chain-both}

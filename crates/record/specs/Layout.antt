@@ -46,12 +46,6 @@ cellNumbers w part = gathered w (λ k. i32Of (part k))
 unfoldable pub partNumbers : ℕ → ℕ → (ℕ → ℕ) → (ℕ → ℕ → ℤ) → List ℕ
 partNumbers w n flag part = gathered n (λ c. byFlag (flag c) [] (cellNumbers w (part c)) (cellNumbers w (part c)) [])
 
-abbrev pub cellBytes : (ℕ → ℤ) → List ℕ
-cellBytes = cellNumbers 19
-
-abbrev pub partBytes : ℕ → (ℕ → ℕ) → (ℕ → ℕ → ℤ) → List ℕ
-partBytes = partNumbers 19
-
 -- sections 1 to 3: 3 sides (u32); 5 settings p, gx, gy, gz, edge (i32); 3 origin (i64)
 unfoldable pub siteBytes : Sides → Settings → Site → List ℕ
 siteBytes s g t =

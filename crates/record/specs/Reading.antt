@@ -175,14 +175,6 @@ frontsOn r K k n rest =
 abbrev pub shapesOn : List ℕ → Counts → ℕ → ℕ → ℕ → ℕ → Bool → Bool → ℕ → Answer → Answer
 shapesOn r K k n i m sides fit bad rest = opensOn r K sides fit (frontsOn r K k n (ifNone n 4 bad (endsOn r (massesFrom K k n) i m rest)))
 
--- 19 parts a cell
-abbrev pub ends : List ℕ → ℕ → ℕ → ℕ → Answer → Answer
-ends r from i l rest = endsOn r from i (19 * l) rest
-
--- where they begin in a record
-abbrev pub behindFlags : List ℕ → ℕ
-behindFlags r = massesFrom counts (totalsIn r) (cellsIn r)
-
 -- test 2, by the lengths of parts, masses, fills and carry: the reader's set lacks the flags
 abbrev pub slicesOf : ℕ → ℕ → ℕ → ℕ → ℕ → ℕ → ℕ → Bool
 slicesOf w k n parts masses fills carry = eqb parts (w * n) && eqb masses n && eqb fills n && eqb carry k

@@ -8,7 +8,8 @@ ghost use Prim.Native.Nat.{_≤_};
 ghost use Rattle.grid.specs.Outcome.{accepted};
 ghost use Rattle.grid.specs.declared.Answer.the-variants.{Done};
 ghost use Rattle.record.specs.Places.{counts, settingsFrom, originFrom, totalsFrom, cellsFrom};
-ghost use Rattle.record.specs.Reading.{totalsIn, whole, frontsOn, endsOn, ends};
+ghost use Rattle.record.specs.Reading.{totalsIn, whole, frontsOn, endsOn};
+ghost use Rattle.record.specs.inner.Behind.{ends};
 
 pub fn passed(a: Answer) -> bool
     ensures { λ r. ⌜ r ≡ accepted a ⌝ }

@@ -24,7 +24,7 @@ use Rattle.pumps.specs.Three.{headOf}
 use Rattle.index.specs.Index.{Index, indexOf}
 use Rattle.index.specs.Held.{Held, held}
 use Rattle.calls.specs.Outcome.{kept, entryAnswer}
-use Rattle.calls.specs.Promise.{carriedWith}
+use Rattle.calls.specs.inner.Totals.{carriedWith}
 use Rattle.calls.proofs.Outcomes.{may-alone, made-held}
 use Rattle.runs.specs.Outcome.{runEntry, runCount, runAnswer, runFirst, runSecond, runMarks}
 use Rattle.runs.specs.Promise.{RanTo}

@@ -13,7 +13,8 @@ use lib.ListN.{length, take, drop, getD, set, length-append}
 use lib.Seq.{sets, length-sets, take-all, take-take, take-at, getD-take, getD-at, drop-cons, drop-length, set-comm}
 use lib.Signed.{leZ}
 use Rattle.record.proofs.Numbers.{then-put}
-use Rattle.spelling.specs.Spelling.{digitsOf, widthFrom, width, spellOf, signOf, wholeOf, metresOf, Put}
+use Rattle.spelling.specs.Spelling.{digitsOf, widthFrom, width, spellOf, signOf, wholeOf, metresOf}
+use Rattle.spelling.specs.inner.Put.{Put}
 use Rattle.spelling.proofs.Widths.{length-digits, width-step, width-last, plain-sign, minus-sign}
 
 -- ---- the width, digit by digit

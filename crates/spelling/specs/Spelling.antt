@@ -5,8 +5,6 @@ use mathlib.Core.List.{List, [], _∷_, _++_}
 use Prim.Native.Nat.{ℕ, zero, suc, _+_, _/_, _%_}
 use lib.Dec.{ltb}
 use lib.IntN.{ℤ, pos, natAbs}
-use lib.ListN.{length}
-use lib.Seq.{sets}
 use lib.Signed.{ltZ}
 
 -- the k lowest digits of n
@@ -35,11 +33,6 @@ wholeOf z = signOf z ++ spellOf (natAbs z)
 
 unfoldable pub metresOf : ℤ → List ℕ
 metresOf z = signOf z ++ (spellOf (natAbs z / 1000) ++ 46 ∷ digitsOf 3 (natAbs z % 1000))
-
--- bytes stored in a room from a place on, and the place behind them
-pub record Put (room : List ℕ) (at : ℕ) (bytes after : List ℕ) (r : ℕ) : Type 0 where
-  pub room-is : after ≡ sets room at bytes
-  pub end : r ≡ at + length bytes
 
 -- names every definition of this file: whoever unfolds this computes with all of them
 unfoldable pub open-spelling : Unit {0}

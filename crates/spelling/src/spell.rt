@@ -5,7 +5,8 @@ ghost use mathlib.Core.List.{[], _∷_};
 ghost use Prim.Native.Nat.{_+_, _≤_};
 ghost use lib.ListN.{length};
 ghost use Rattle.spelling.specs.Spelling as spelling;
-ghost use Rattle.spelling.specs.Spelling.{digitsOf, spellOf, signOf, wholeOf, metresOf, Put};
+ghost use Rattle.spelling.specs.Spelling.{digitsOf, spellOf, signOf, wholeOf, metresOf};
+ghost use Rattle.spelling.specs.inner.Put.{Put};
 
 // How many digits a number has.
 pub fn width(n: u64) -> usize

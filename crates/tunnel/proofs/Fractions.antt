@@ -11,7 +11,8 @@ use lib.Ieee.Exact.{HasValue}
 use lib.Ieee.Back.{unsigned-back}
 use lib.Ieee.Scale.{round-same}
 use lib.Ieee.Fits.{down-pos}
-use Rattle.tunnel.specs.Exact.{Exactly, Parts}
+use Rattle.tunnel.specs.Exact.{Exactly}
+use Rattle.tunnel.specs.inner.Parts.{Parts}
 
 -- the product is the float of n
 product-is : (x : Float) (n k : ℕ) → HasValue x false n (2 ^ k) → mul binary32 x (fin false 1 (pos k)) ≡ ofInt binary32 (pos n)

@@ -9,9 +9,3 @@ use lib.Ieee.Exact.{HasValue}
 pub record Exactly (x : Float) (n d : ℕ) : Type 0 where
   pub holds : T (fits binary32 x)
   pub value : HasValue x false n d
-
--- x is n/d exactly, for some n below 2^24
-pub record Parts (x : Float) (d : ℕ) : Type 0 where
-  pub count : ℕ
-  pub few : count < 16777216
-  pub is : Exactly x count d

@@ -1,6 +1,7 @@
 // Exact f32: a whole number below 2^24, cast and divided by a power of two; and back, the number that it is.
 ghost use Prim.Native.Nat.{_+_, _*_, _<_};
-ghost use Rattle.tunnel.specs.Exact.{Exactly, Parts};
+ghost use Rattle.tunnel.specs.Exact.{Exactly};
+ghost use Rattle.tunnel.specs.inner.Parts.{Parts};
 
 // (2x + 1)/2, the centre of cell x of an axis.
 pub(crate) fn centre(x: usize) -> f32

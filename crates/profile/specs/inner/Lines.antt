@@ -10,12 +10,13 @@ use lib.ListN.{length, getD}
 use Rattle.whole.specs.Fold.{tab}
 use Rattle.grid.specs.Grid.{sidesGood}
 use Rattle.tunnel.specs.Exact.{Exactly}
-use Rattle.tunnel.specs.Depth.{zeroFloat}
+use Rattle.tunnel.specs.Depth.{zeroFloat, toldOf}
 use Rattle.profile.specs.declared.Frame.{Frame}
 use Rattle.profile.specs.declared.writing.Best.{Best}
-use Rattle.profile.specs.Kinds.{lineKind}
+use Rattle.profile.specs.Kinds.{lineKind, lineFor}
 use Rattle.profile.specs.Profile.{Survey, survey, seen, depthAt, deepest}
 use Rattle.profile.specs.Outcome.{DepthsOf}
+use Rattle.tunnel.specs.declared.Depth.{Depth}
 
 -- the deeper of the best so far and point i
 unfoldable pub bestOf : Best → ℕ → ℕ → Best
@@ -48,3 +49,7 @@ pub record Written (f : Frame) (flags fills : List ℕ) (points : List ℤ) (m a
   pub at-is : at ≡ deepest (survey f flags fills points) m
   pub kinds-are : kinds ≡ tab m (λ i. lineKind (seen (survey f flags fills points) i))
   pub depths-are : DepthsOf (survey f flags fills points) m depths
+
+-- alike of the code's enum: for inner functions, no promise of a public function cites it
+abbrev pub depthLine : Depth → ℕ
+depthLine a = lineFor (toldOf a .kind)

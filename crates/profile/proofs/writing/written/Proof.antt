@@ -4,7 +4,7 @@ use mathlib.Core.Path.{_≡_, sym, _∙_, subst}
 use Prim.Native.Nat.{ℕ, _+_, _-_, _≤_}
 use native.Mathlib.Omega.{arith}
 use lib.Ieee.{Float}
-use Rattle.tunnel.specs.Exact.{Parts}
+use Rattle.tunnel.specs.inner.Parts.{Parts}
 use Rattle.profile.specs.declared.writing.Best.{Best}
 use Rattle.profile.specs.Profile.{Survey, survey, depthAt}
 use Rattle.profile.specs.inner.Lines.{IsBest, LinesTo}

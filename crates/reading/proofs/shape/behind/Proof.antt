@@ -11,7 +11,8 @@ use Rattle.grid.specs.declared.Answer.the-variants.{Done, Refused}
 use Rattle.grid.specs.Grid.{gridOf, cellsOf}
 use Rattle.grid.specs.Good.{badFlag}
 use Rattle.grid.proofs.GoodSides.{good-sides}
-use Rattle.record.specs.Reading.{sidesIn, cellsIn, flagIn, interfacesIn, liquidsIn, ends, behindFlags}
+use Rattle.record.specs.Reading.{sidesIn, cellsIn, flagIn, interfacesIn, liquidsIn}
+use Rattle.record.specs.inner.Behind.{ends, behindFlags}
 use Rattle.record.proofs.Answers.{or-pass, or-fail}
 use Rattle.record.proofs.Gathered.{interfaces-most, liquids-most}
 use Rattle.record.proofs.FlagPart.{totals-few, interfaces-are, liquids-are, bad-flag-is}

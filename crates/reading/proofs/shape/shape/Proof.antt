@@ -9,7 +9,8 @@ use Rattle.grid.specs.declared.Answer.the-variants.{Done}
 use Rattle.grid.specs.Grid.{sidesGood, cellsOf}
 use Rattle.grid.specs.Outcome.{accepted}
 use Rattle.grid.proofs.GoodSides.{good-sides}
-use Rattle.record.specs.Reading.{sidesIn, cellsIn, interfacesIn, liquidsIn, ends, behindFlags}
+use Rattle.record.specs.Reading.{sidesIn, cellsIn, interfacesIn, liquidsIn}
+use Rattle.record.specs.inner.Behind.{ends, behindFlags}
 use Rattle.record.proofs.Answers.{chain-stops, chain-ok}
 use Rattle.record.proofs.Shaped.{opens, fronts, flagged, chain-opens, chain-fronts, opened, fronted, shape-is}
 use Rattle.reading.proofs.shape.shape.Statement.{statement}

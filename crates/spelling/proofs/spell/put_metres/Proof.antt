@@ -6,7 +6,8 @@ use lib.IntN.{ℤ, natAbs}
 use lib.ListN.{length}
 use denote.Ref.{now}
 use mir.Facts.{toZ-ofZ}
-use Rattle.spelling.specs.Spelling.{signOf, spellOf, Put}
+use Rattle.spelling.specs.Spelling.{signOf, spellOf}
+use Rattle.spelling.specs.inner.Put.{Put}
 use Rattle.spelling.proofs.Putting.{put-long, sign-told, metres-put, metres-long}
 use borrow.Author.Needs.{needs}
 use Rattle.spelling.proofs.spell.put_metres.Statement.{statement}
