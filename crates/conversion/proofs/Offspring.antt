@@ -37,7 +37,7 @@ use Rattle.whole.specs.laws.Counts.{count-cong}
 
 -- ---- counts
 
--- what is not too fast is dense and slow
+-- what is not unsteady is dense and slow
 steady-both : (l d s : Bool) → l ≡ true → (l && not (d && s)) ≡ false → (d ≡ true) × (s ≡ true)
 steady-both true true true w e = (refl, refl)
 steady-both true true false w e = absurd (false≢true (sym e))

@@ -1,4 +1,4 @@
--- The passes over marks, by offsets: the range that their loops go over is the cells with neighbours; and in the box what they find is what the grid's
+-- Pass 0 over marks, by offsets: the range that a loop over marks goes over is the cells with neighbours; and in the box what it finds is what the grid's
 -- neighbours have. Assumes nothing.
 use mathlib.Core.Path.{_≡_, refl, ap, ap₂, _∙_}
 use mathlib.Core.Bool.{Bool, true, false, _&&_, cond, false≢true}

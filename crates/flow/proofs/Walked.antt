@@ -159,7 +159,7 @@ module _ (weights : ℕ → ℕ) (G : Grid) (g : Settings) (flags : List ℕ) (p
   fast-same : (c : ℕ) → c < n → unsteady (seen weights flags part masses fills off low g) c ≡ unsteady step c
   fast-same c h = fast-seen weights G g flags part masses fills (pos 0) off low c (placed c h)
 
-  -- the cell that stopped the pass is the lowest that is too fast
+  -- the cell that stopped the pass is the lowest that is unsteady
   pub walked-stopped : (marks₀ : List ℕ) (part2 : ℕ → ℕ → ℤ) (masses2 : List ℤ) (marks : List ℕ) (fair calm : Bool) (c : ℕ) → c < n
       → Walked weights flags part masses fills off low g marks₀ part2 masses2 marks fair calm c → unsteady (seen weights flags part masses fills off low g) c ≡ true
       → first n (unsteady step) ≡ c

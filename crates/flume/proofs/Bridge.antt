@@ -132,7 +132,7 @@ module _ (S : Scene) where
   abbrev pub Outside : Type 0
   Outside = (c : ℕ) → S .grid .cells ≤ c → S .old .flag c ≡ 3
 
-  -- no cell is too fast
+  -- no cell is unsteady
   pub steady : Outside → S .grid .cells ≤ first (S .grid .cells) (unsteady P) → Steady S
   unfolding unsteady
   steady o e c l = go (leb (S .grid .cells) c) refl

@@ -1,4 +1,4 @@
--- Stages 6 and 7 give the same among the nineteen places as on the flume's own lattice, where no cell is too fast: a cell that gives is no target of its
+-- Stages 6 and 7 give the same among the nineteen places as on the flume's own lattice, where no cell is unsteady: a cell that gives is no target of its
 -- own, and a cell that receives gives nothing, so that an idle direction, which leads to the cell itself, carries no gift. Assumes nothing.
 use mathlib.Core.Path.{_≡_, refl, sym, ap, ap₂, _∙_}
 use mathlib.Core.Bool.{Bool, true, false, _&&_, _||_, not, cond, false≢true}

@@ -29,7 +29,7 @@ module _ (s : FlumeSides) (g : FlumeSettings) (a : Lent) where
     unfolding flumeScene
     flume-move = move-answer-same (flumeScene s g a) outside
 
-    -- no cell is too fast: the next state as a set
+    -- no cell is unsteady: the next state as a set
     module _ (e : flumeCells s ≤ first (flumeCells s) (unsteady T)) where
       slow-enough : flumeScene s g a .grid .cells ≤ first (flumeScene s g a .grid .cells) (unsteady (flumeScene s g a))
       unfolding flumeScene flumeGrid flumeCells flume

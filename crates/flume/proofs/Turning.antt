@@ -1,4 +1,4 @@
--- Stage 5 gives the same among the nineteen places as on the flume's own lattice, where no cell is too fast: an idle direction leads to the cell itself,
+-- Stage 5 gives the same among the nineteen places as on the flume's own lattice, where no cell is unsteady: an idle direction leads to the cell itself,
 -- which is neither filled beside an empty cell, nor emptied beside a fluid one, nor emptied where it is filled. Assumes nothing.
 use mathlib.Core.Path.{_≡_, refl, sym, ap, ap₂, _∙_}
 use mathlib.Core.Bool.{Bool, true, false, _&&_, not, cond, false≢true}

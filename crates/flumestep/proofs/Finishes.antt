@@ -127,7 +127,7 @@ module _ (s : FlumeSides) (g : FlumeSettings) (a : Lent) where
     move-is : moveAnswer S ≡ moveAnswer (flumeScene s g a)
     move-is = ap moveAnswer (flume-scene s g a) ∙ flume-move s g a (r .sized .flags)
 
-    -- a cell that is too fast: refusal 7 there
+    -- a cell that is unsteady: refusal 7 there
     pub stopped-answer : {c : ℕ} → c < n → first n (unsteady U) ≡ c → Refused 7 c ≡ moveAnswer (flumeScene s g a)
     stopped-answer h e = Tests.stopped-answer F (field .stands) h (sym (ap (first n) fast-carried) ∙ e) ∙ move-is
 

@@ -94,7 +94,7 @@ module _ (s : Sides) (g : Settings) (a : Lent) where
     field : Sound (fieldOf s g a)
     field = ready-field s g a r
 
-    -- a cell that is too fast: refusal 7 there
+    -- a cell that is unsteady: refusal 7 there
     pub stopped-answer : {c : ℕ} → c < cellsOf s → first (cellsOf s) (unsteady U) ≡ c → Refused 7 c ≡ moveAnswer S
     unfolding sceneOf stateOf
     stopped-answer h e = Tests.stopped-answer (fieldOf s g a) (field .stands) h (sym (ap (first (cellsOf s)) fast-carried) ∙ e)

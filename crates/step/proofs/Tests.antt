@@ -1,4 +1,4 @@
--- Tests 7 and 8 of a step in any field: refusal 7 at the lowest cell that is too fast; done where every pass found all fair; else what the scan of the next
+-- Tests 7 and 8 of a step in any field: refusal 7 at the lowest cell that is unsteady; done where every pass found all fair; else what the scan of the next
 -- state answers. Assumes nothing.
 use mathlib.Core.Path.{_≡_, refl, sym, ap, _∙_, subst}
 use mathlib.Core.Bool.{Bool, true, false, _&&_}
@@ -48,7 +48,7 @@ module _ (F : Field) (r : Standing F) where
   abbrev last : Answer
   last = ifNone (suc N) 8 (badRule (S .lat) N (next S)) Done
 
-  -- a cell that is too fast: refusal 7 there
+  -- a cell that is unsteady: refusal 7 there
   pub stopped-answer : {c : ℕ} → c < n → first n (unsteady S) ≡ c → Refused 7 c ≡ moveAnswer S
   unfolding moveAnswer
   stopped-answer {c} h e = sym (stop N 7 (first N (unsteady S)) last (subst (λ (k : ℕ). first k (unsteady S) < k) (sym (r .cells-are)) (subst (λ (m : ℕ). m < n) (sym e) h)) ∙ ap (Refused 7) found)

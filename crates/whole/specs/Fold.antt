@@ -1,5 +1,6 @@
 -- Sums, tests, counts and searches over the numbers below n and over the directions 1 to q, and lists by tabulating: the words that document 01's
--- definitions are written in. Their laws are in laws/Sums, Search and Tab.
+-- definitions are written in. With them a direction, and the
+-- two parts of a whole number. Their laws are in laws/Sums, Search, Counts and Tab.
 -- Use: `sum 3 f` is f 0 + f 1 + f 2; `first 5 bad` is the lowest bad number below 5, or 5; `tab 3 f` is the list f 0, f 1, f 2. Assumes nothing.
 use Prim.Native.Nat.{ℕ, zero, suc, _+_, _<_, _≤_}
 use mathlib.Core.Bool.{Bool, true, false, _&&_, _||_, cond}

@@ -39,7 +39,7 @@ pub record MovedTo (S : Scene) (n : ℕ) (part : ℕ → ℕ → ℤ) (masses : 
   pub fair-tells : fair ≡ true → (c : ℕ) → c < n → liquid (flagAt S c) ≡ true → bodyGood d3q19 (collided S c) ≡ true
   pub calm-tells : calm ≡ true → (c : ℕ) → c < n → firstMark S c ≡ 0
 
--- the lowest cell that is too fast, or all of stages 1 to 4; the lengths are kept in either case
+-- the lowest cell that is unsteady, or all of stages 1 to 4; the lengths are kept in either case
 pub data Went (S : Scene) (n : ℕ) : Passed → List ℤ → List ℤ → List ℕ → Type 0 where
   stopped : {c : ℕ} {parts masses : List ℤ} {marks : List ℕ} → c < n → first n (unsteady S) ≡ c → Went S n (Stopped c) parts masses marks
   through : {fair calm : Bool} {parts masses : List ℤ} {marks : List ℕ} → Moved S n parts masses marks fair calm → Went S n (Through fair calm) parts masses marks

@@ -1,4 +1,4 @@
--- Stage 6 of the flume over the lists that its functions are lent. Gifts, what strays and what settles are the box's formulas with nine stored parts among
+-- Stage 6 of the flume over the lists that its functions are lent. Gifts and what strays are the box's formulas with nine stored parts among
 -- the nineteen places; here stands what the passes ask of the lists. Assumes nothing.
 use mathlib.Core.Path.{_≡_}
 use mathlib.Core.List.{List}

@@ -42,7 +42,7 @@ pub record FlumeFlowable (s : FlumeSides) (g : Settings) (flags : List ℕ) (par
   pub marked : (c : ℕ) → c < flumeCells s → liquid (getD flags c 3) ≡ true → getD marks c 0 ≡ 1
       → (k : ℕ) → Dir 8 k → liquid (getD flags (flumeGrid s .near c k) 3) ≡ true
 
--- the lowest cell that is too fast, or all of stages 1 to 4; the lengths are kept in either case
+-- the lowest cell that is unsteady, or all of stages 1 to 4; the lengths are kept in either case
 pub data FlumeWent (T : Scene) (n : ℕ) : Passed → List ℤ → List ℤ → List ℕ → Type 0 where
   stopped : {c : ℕ} {parts masses : List ℤ} {marks : List ℕ} → c < n → first n (unsteady T) ≡ c → FlumeWent T n (Stopped c) parts masses marks
   through : {fair calm : Bool} {parts masses : List ℤ} {marks : List ℕ} → MovedTo T n (partOf9 parts) masses marks fair calm

@@ -26,7 +26,7 @@ pub record Alike (a b : Lent) : Type 0 where
   pub fills : length (b .fills) ≡ length (a .fills)
   pub carry : length (b .carry) ≡ length (a .carry)
 
--- stages 1 to 4 are made and no cell was too fast; fair: each liquid cell's parts keep test 6's rules; calm: nothing converts
+-- stages 1 to 4 are made and no cell was unsteady; fair: each liquid cell's parts keep test 6's rules; calm: nothing converts
 pub record Moved (S : Scene) (n : ℕ) (parts masses : List ℤ) (marks : List ℕ) (fair calm : Bool) : Type 0 where
   pub steady : n ≤ first n (unsteady S)
   pub parts-are : parts ≡ tab (19 * n) (λ m. movedPart S (m / 19) (m % 19))

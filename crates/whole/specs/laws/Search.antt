@@ -1,4 +1,4 @@
--- Laws of the tests and searches of Fold: what `any` finds has a place, `all` holds at each, `first` is the lowest place or finds nothing.
+-- Laws of the tests and searches of Fold: what `any` finds has a place, `all` holds at each, `first` is the lowest place or finds nothing; tests one after the other.
 -- Use: `first-none n bad h c k` is that cell c is not bad, from `h : n ≤ first n bad`; `first-is n bad c k below here` that c is the lowest. Assumes nothing.
 use mathlib.Core.Path.{_≡_, refl, sym, ap, ap₂, _∙_, subst}
 use mathlib.Core.Logic.{_⊎_, inl, inr}

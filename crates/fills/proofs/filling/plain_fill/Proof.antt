@@ -1,4 +1,4 @@
--- `conversion::filling::plain_fill`: by the flag. Assumes nothing.
+-- `fills::filling::plain_fill`: by the flag. Assumes nothing.
 use Rattle.fills.proofs.Weighed.{plain-fluid, plain-dry}
 use Rattle.fills.proofs.filling.plain_fill.Statement.{statement}
 use Rattle.fills.proofs.filling.plain_fill.Tie as tie

@@ -1,4 +1,4 @@
--- `conversion::filling::plain_fills` stores what each flag says: cell by cell. Assumes nothing.
+-- `fills::filling::plain_fills` stores what each flag says: cell by cell. Assumes nothing.
 use borrow.Author.Needs.{needs}
 use mathlib.Core.Path.{_≡_, refl, _∙_, subst}
 use Prim.Native.Nat.{ℕ, _-_, _<_, _≤_}

@@ -35,7 +35,7 @@ Inv-loop flags parts mass fill parts2₀ mass2₀ marks₀ g off low from keep f
 abbrev μ-loop : tie.MeasureT-loop
 μ-loop flags parts mass fill parts2₀ mass2₀ marks₀ g off low from keep fair₀ still₀ c₀ parts2 mass2 marks fair calm c = length flags - c
 
--- a cell that did not pass is too fast
+-- a cell that did not pass is unsteady
 is-unsteady : {ok t : Bool} → ok ≡ not t → ok ≡ false → t ≡ true
 is-unsteady {t = true} e f = refl
 is-unsteady {t = false} e f = sym f ∙ e

@@ -1,4 +1,4 @@
--- `flumeconversion::filling::new_fills9`: from one interface cell to the next; the cells passed have their fills, the others what their flag says. Assumes nothing.
+-- `flumefills::filling::new_fills9`: from one interface cell to the next; the cells passed have their fills, the others what their flag says. Assumes nothing.
 use borrow.Author.Needs.{needs}
 use mathlib.Core.Path.{_≡_, sym, _∙_, ap, subst₂}
 use mathlib.Core.Bool.{Bool, _&&_}

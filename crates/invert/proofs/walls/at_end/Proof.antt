@@ -1,4 +1,4 @@
--- `heights::walls::at_end`: the first or the last. Assumes nothing.
+-- `invert::walls::at_end`: the first or the last. Assumes nothing.
 use borrow.Author.Tests.{eq-eqb}
 use Rattle.invert.proofs.Spread.{end-is}
 use borrow.Author.Needs.{needs}

@@ -1,4 +1,4 @@
--- `heights::walls::cell_wall`: outer on one of three axes, or among the column's walls. Assumes nothing.
+-- `invert::walls::cell_wall`: outer on one of three axes, or among the column's walls. Assumes nothing.
 use mathlib.Core.Path.{_≡_, sym, _∙_}
 use mathlib.Core.Bool.{true, false}
 use Prim.Native.Nat.{_+_, _*_, _/_, _%_, _≤_, _<_}

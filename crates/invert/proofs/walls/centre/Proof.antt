@@ -1,4 +1,4 @@
--- `heights::walls::centre`: a product of at most 257,000. Assumes nothing.
+-- `invert::walls::centre`: a product of at most 257,000. Assumes nothing.
 use native.Mathlib.Omega.{arith}
 use mir.Syntax.{w64}
 use mir.ValLaws.{toZ-pos}

@@ -1,4 +1,4 @@
--- `heights::walls::invert_flags`: the layer, then all cells. Assumes nothing.
+-- `invert::walls::invert_flags`: the layer, then all cells. Assumes nothing.
 use mathlib.Core.Path.{_≡_, ap, _∙_}
 use mathlib.Core.List.{List}
 use Prim.Native.Nat.{ℕ, _≤_}

@@ -1,4 +1,4 @@
--- `heights::walls::layer`: row by row, the highest first. Assumes nothing.
+-- `invert::walls::layer`: row by row, the highest first. Assumes nothing.
 use mathlib.Core.Path.{_≡_, _∙_}
 use Prim.Native.Nat.{_+_, _-_, _*_, _≤_}
 use native.Mathlib.Omega.{arith}

@@ -1,4 +1,4 @@
--- `heights::walls::row_walls`: column by column. Assumes nothing.
+-- `invert::walls::row_walls`: column by column. Assumes nothing.
 use mathlib.Core.Path.{_≡_, _∙_}
 use Prim.Native.Nat.{_-_, _≤_}
 use native.Mathlib.Omega.{arith}

@@ -1,4 +1,4 @@
--- `heights::walls::solid`: no height, or the centre below it. Assumes nothing.
+-- `invert::walls::solid`: no height, or the centre below it. Assumes nothing.
 use mathlib.Core.Path.{_≡_, sym, ap, ap₂, _∙_}
 use lib.IntN.{ℤ, pos, _*ℤ_}
 use lib.Signed.{quotZ, ltZ}

@@ -1,4 +1,4 @@
--- `heights::walls::spread`: from the last cell down. Assumes nothing.
+-- `invert::walls::spread`: from the last cell down. Assumes nothing.
 use Rattle.invert.proofs.Spread.{cells-few}
 use mathlib.Core.Path.{_≡_, _∙_}
 use Prim.Native.Nat.{_-_, _*_, _%_, _≤_}

@@ -1,4 +1,4 @@
--- `heights::walls::twice`: twice the units, which fits. Assumes nothing.
+-- `invert::walls::twice`: twice the units, which fits. Assumes nothing.
 use mathlib.Core.Path.{_≡_, sym, ap, _∙_, subst}
 use lib.IntN.{ℤ, pos, _*ℤ_}
 use lib.Signed.{quotZ}

@@ -1,4 +1,4 @@
--- `heights::walls::value_or_zero`: the number, where there is one. Assumes nothing.
+-- `invert::walls::value_or_zero`: the number, where there is one. Assumes nothing.
 use mathlib.Core.Path.{_≡_, sym, ap, _∙_}
 use mir.Syntax.{w64}
 use mir.Val.{toZ, ofZ}

@@ -1,4 +1,4 @@
--- `heights::walls::walls_at`: the number there, and its column. Assumes nothing.
+-- `invert::walls::walls_at`: the number there, and its column. Assumes nothing.
 use Prim.Native.Nat.{_-_, _≤_}
 use lib.ListN.{take, drop}
 use Rattle.heights.specs.Number.{numberOf}

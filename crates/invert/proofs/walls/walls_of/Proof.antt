@@ -1,4 +1,4 @@
--- `heights::walls::walls_of`: the lowest cell that is not wall. Assumes nothing.
+-- `invert::walls::walls_of`: the lowest cell that is not wall. Assumes nothing.
 use mir.Syntax.{w64}
 use mir.Val.{toZ}
 use Rattle.invert.specs.inner.Walls.{heightOf}

@@ -1,4 +1,4 @@
--- `surface::stream::rebuilt`: every product fits for a tame flow, and the density's square is not 0. Assumes nothing.
+-- `surface::stream::gas_pair`: every product fits for a tame flow, and the density's square is not 0. Assumes nothing.
 use borrow.Author.Needs.{needs}
 use mathlib.Core.Path.{sym, _∙_, ap}
 use Prim.Native.Nat.{_<_, _≤_}
