@@ -19,13 +19,14 @@ pub fn flowing(
     parts: &[i32],
     masses: &[i32],
     fills: &[u32],
+    flags2: &[u8],
     parts2: &mut [i32],
     masses2: &mut [i32],
     marks: &mut [u8],
     s: Sides,
     g: Settings,
 ) -> Passed
-    requires { ⌜ Flowable s g (now flags) (now parts) (now masses) (now fills) (now parts2) (now masses2) (now marks) ⌝ }
+    requires { ⌜ Flowable s g (now flags) (now parts) (now masses) (now fills) (now flags2) (now parts2) (now masses2) (now marks) ⌝ }
     ensures { λ r. ⌜ Flowed s g (now (flags .entry)) (now (parts .entry)) (now (masses .entry)) (now (fills .entry)) r (now (parts2 .exit)) (now (masses2 .exit)) (now (marks .exit)) ⌝ }
 {
     let off = neighbours::offsets(s);
