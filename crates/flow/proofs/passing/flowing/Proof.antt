@@ -28,12 +28,12 @@ use Rattle.flow.proofs.passing.flowing.Statement.{statement}
 use Rattle.flow.proofs.passing.flowing.Tie as tie
 
 abbrev Inv-loop : tie.InvT-loop
-Inv-loop flags parts mass fill parts2₀ mass2₀ marks₀ g off low from keep fair₀ still₀ c₀ parts2 mass2 marks fair calm c =
+Inv-loop flags parts mass fill flags2 parts2₀ mass2₀ marks₀ g off low from keep fair₀ still₀ c₀ parts2 mass2 marks fair calm c =
     (c ≤ length flags) × (length parts2 ≡ length parts2₀) × (length mass2 ≡ length mass2₀) × (length marks ≡ length marks₀)
     × Walked (d3q19 .weight) flags (partOf parts) mass fill off low g marks₀ (partOf parts2) mass2 marks fair calm c
 
 abbrev μ-loop : tie.MeasureT-loop
-μ-loop flags parts mass fill parts2₀ mass2₀ marks₀ g off low from keep fair₀ still₀ c₀ parts2 mass2 marks fair calm c = length flags - c
+μ-loop flags parts mass fill flags2 parts2₀ mass2₀ marks₀ g off low from keep fair₀ still₀ c₀ parts2 mass2 marks fair calm c = length flags - c
 
 -- a cell that did not pass is unsteady
 is-unsteady : {ok t : Bool} → ok ≡ not t → ok ≡ false → t ≡ true

@@ -1,58 +1,21 @@
 -- `grid::copying::clear` leaves zeros. Assumes nothing.
 use borrow.Author.Needs.{needs}
-use borrow.Author.Fill.{fill-none, fill-more}
-use mathlib.Core.Path.{_≡_, refl, _∙_}
-use mathlib.Core.List.{_++_, append-nil}
-use Prim.Native.Nat.{_-_, _≤_, _<_}
-use native.Mathlib.Omega.{arith}
-use lib.ListN.{length, replicate, drop, length-set}
-use lib.Seq.{drop-length}
 use Rattle.grid.proofs.copying.clear.Statement.{statement}
 use Rattle.grid.proofs.copying.clear.Tie as tie
 
-abbrev Inv-loop : tie.InvT-loop
-Inv-loop marks₀ i₀ marks i = (i ≤ length marks₀) × (length marks ≡ length marks₀) × (marks ≡ replicate i 0 ++ drop i marks₀)
+put-all-requires : tie.Need-put-all-requires
+put-all-requires c κs = search needs
 
-abbrev μ-loop : tie.MeasureT-loop
-μ-loop marks₀ i₀ marks i = length marks₀ - i
+same-length : tie.Need-same-length
+same-length c = search needs
 
-loop-holds : tie.Need-loop-holds Inv-loop μ-loop
-loop-holds c = (omega arith, refl, fill-none _ 0)
-
-slice-write-marks : tie.Need-slice-write-marks Inv-loop μ-loop
-slice-write-marks c = search needs
-
-add-i : tie.Need-add-i Inv-loop μ-loop
-add-i c = search needs
-
-loop-less : tie.Need-loop-less Inv-loop μ-loop
-loop-less c = search needs
-
-loop-again : tie.Need-loop-again Inv-loop μ-loop
-loop-again c =
-    let l = c .before in
-    let h : l .loop .i < length (l .before .args .marks .now) = omega (arith, l .loop .inv .1, c .loop-test .taken) in
-    (omega arith, simp length-set (l .loop .inv .1), rw (l .loop .inv .2) (fill-more _ 0 _ h))
-
-same-length : tie.Need-same-length Inv-loop μ-loop
-same-length c = c .before .loop .inv .1
-
-returns : tie.Need-returns Inv-loop μ-loop
-returns c =
-    let l = c .before in
-    let e : l .loop .i ≡ length (l .before .args .marks .now) = omega (arith, l .loop .inv .0, l .loop .inv .1, c .loop-test .left) in
-    l .loop .inv .2 ∙ rw (e, drop-length) (append-nil _)
+returns : tie.Need-returns
+returns c = let after-put-all : tie.After-put-all = search in after-put-all .put-all .ensures
 
 pub clear-spec : {M : Type 1} → statement M
 clear-spec =
     tie.close
     (tie.spec
-    Inv-loop
-    μ-loop
-    loop-holds
-    slice-write-marks
-    add-i
-    loop-less
-    loop-again
+    put-all-requires
     same-length
     returns)
