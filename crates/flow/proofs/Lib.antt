@@ -8,6 +8,7 @@ pub mod Mirrored
 pub mod Paces
 pub mod Plain
 pub mod Collisions
+pub mod Gentle
 pub mod Marking
 pub mod Poise
 pub mod Modes

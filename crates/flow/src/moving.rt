@@ -5,9 +5,12 @@ use collision::collide::collided;
 use collision::gravity::pulled;
 use grid::cells::own;
 use grid::cells::paste;
+use lattice::Flow;
 use lattice::Settings;
 use lattice::directions::flow_of;
+use lattice::moments::speed_squared;
 use lattice::moments::steady;
+use lattice::moments::times;
 use lattice::rules::all_inside;
 use lattice::rules::all_zero;
 ghost use mathlib.Core.Path.{_≡_};
@@ -18,7 +21,7 @@ ghost use lib.IntN.{ℤ, pos, natAbs};
 ghost use lib.ListN.{length, getD, replicate};
 ghost use Rattle.whole.specs.Fold.{tab};
 ghost use Rattle.lattice.specs.Lattice.{d3q19};
-ghost use Rattle.lattice.specs.inner.Held.{partsOf, Bounded};
+ghost use Rattle.lattice.specs.inner.Held.{partsOf, Bounded, Tame, steadyFlow};
 ghost use Rattle.lattice.specs.Body.{bodyGood};
 ghost use Rattle.turbulence.specs.inner.Post.{Keeps};
 ghost use Rattle.grid.specs.State.{liquid};
@@ -26,6 +29,7 @@ ghost use Rattle.grid.specs.Step.{streamed};
 ghost use Rattle.grid.specs.Outcome.{settingsGood};
 ghost use Rattle.grid.specs.inner.Pasted.{pasted};
 ghost use Rattle.grid.specs.inner.Sight.{boxSight};
+ghost use Rattle.flow.specs.inner.Gentle.{gentle, Follows};
 ghost use Rattle.flow.specs.inner.PutAt.{PutAt, Putting};
 
 // Whether a cell passed stage 3's test; if so, whether its new parts keep test 6's rules, and its density.
@@ -41,12 +45,23 @@ fn wet(f: u8) -> bool
     (f == 1) | (f == 2)
 }
 
-// Whether new parts keep test 6's rules. As lattice's `fair_parts`, which has other callers: with one alone it melts into the pass over all
-// cells, and the parts stay in registers.
-fn fair(f: [i32; 19]) -> bool
-    requires { ⌜ Bounded f 1073741824 33554432 ⌝ }
+// Whether a flow is so far below the limit of speed that its collision cannot reach it.
+fn gentle(v: Flow) -> bool
+    requires { ⌜ Tame v ⌝ }
+    ensures { λ r. ⌜ r ≡ gentle v ⌝ }
+{
+    10 * speed_squared(v) <= times(v.rho, v.rho)
+}
+
+// Whether new parts keep test 6's rules, where v is the flow that they were collided at: only where that is near the limit are they added up.
+// As lattice's `fair_parts`, which has other callers: with one alone it melts into the pass over all cells, and the parts stay in registers.
+fn fair(f: [i32; 19], v: Flow) -> bool
+    requires { ⌜ Bounded f 1073741824 33554432 × (steadyFlow v ≡ true) × Follows v f ⌝ }
     ensures { λ r. ⌜ r ≡ bodyGood d3q19 (partsOf f) ⌝ }
 {
+    if gentle(v) {
+        return all_inside(f);
+    }
     all_inside(f) & steady(flow_of(f))
 }
 
@@ -74,7 +89,7 @@ fn put_moved(
     paste(parts2, 19 * c, r);
     Put {
         ok: true,
-        fair: fair(r),
+        fair: fair(r, v),
         rho: v.rho,
     }
 }
