@@ -98,7 +98,18 @@ fn tried(
     ensures { λ r. ⌜ Tried s g (lent (now (flags .entry)) (now (parts .entry)) (now (masses .entry)) (now (fills .entry)) (now (carry .entry))) r (lent (now (flags2 .exit)) (now (parts2 .exit)) (now (masses2 .exit)) (now (fills2 .exit)) (now (carry2 .exit))) (now (marks .exit)) ⌝ }
 {
     marks::mark_open(flags, marks, s);
-    let a = passing::flowing(flags, parts, masses, fills, flags2, parts2, masses2, marks, s, g);
+    let a = passing::flowing(
+        flags,
+        parts,
+        masses,
+        fills,
+        flags2,
+        parts2,
+        masses2,
+        marks,
+        s,
+        g,
+    );
     match a {
         Passed::Stopped(c) => Answer::Refused(7, c),
         Passed::Through(fair, calm) => finished(

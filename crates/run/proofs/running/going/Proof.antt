@@ -109,9 +109,10 @@ loop-less c = let in-loop : tie.In-loop Inv-loop μ-loop = search in omega (arit
 
 loop-again : tie.Need-loop-again Inv-loop μ-loop
 loop-again c =
-    let in-loop : tie.In-loop Inv-loop μ-loop = search in let t = made c in
-    (going-dry _ _ _ _ _ _ _ _ _ _ _ _ _ _ (before-turn t .loop .inv .1) (t .turn .ensures),
-    going-on _ _ _ _ _ _ (in-loop .loop-test .taken) _ _ _ _ _ _ _ _ (c .enum-told .given .1) (before-turn t .loop .inv .1) (t .turn .ensures))
+    let in-loop : tie.In-loop Inv-loop μ-loop = search in let t = made c in (
+      going-dry _ _ _ _ _ _ _ _ _ _ _ _ _ _ (before-turn t .loop .inv .1) (t .turn .ensures),
+      going-on _ _ _ _ _ _ (in-loop .loop-test .taken) _ _ _ _ _ _ _ _ (c .enum-told .given .1) (before-turn t .loop .inv .1) (t .turn .ensures),
+    )
 
 evened-requires : tie.Need-evened-requires Inv-loop μ-loop
 evened-requires c κs = let at-loop : tie.At-loop Inv-loop μ-loop = search in going-alike _ _ _ _ _ _ _ _ _ _ (at-loop .loop .inv .1)
