@@ -5,6 +5,7 @@ use collision::collide::collided;
 use collision::gravity::pulled;
 use grid::cells::own;
 use grid::cells::paste;
+use grid::kinds::is_liquid;
 use lattice::Settings;
 use lattice::directions::flow_of;
 use lattice::moments::steady;
@@ -33,12 +34,6 @@ pub struct Put {
     pub ok: bool,
     pub fair: bool,
     pub rho: i32,
-}
-
-fn wet(f: u8) -> bool
-    ensures { λ r. ⌜ r ≡ liquid f ⌝ }
-{
-    (f == 1) | (f == 2)
 }
 
 // Whether new parts keep test 6's rules. As lattice's `fair_parts`, which has other callers: with one alone it melts into the pass over all
@@ -107,7 +102,7 @@ pub(crate) fn put_parts(
     requires { ⌜ Putting (now flags) (now parts) (now fills) (now parts2) mark (now off) (now from) low c g keep ⌝ }
     ensures { λ r. ⌜ PutAt (boxSight (now (flags .entry)) (now (parts .entry)) [] (now (fills .entry)) (now (off .entry)) low g) c (now (parts2 .entry)) (now (parts2 .exit)) r ⌝ }
 {
-    if wet(flags[c]) {
+    if is_liquid(flags[c]) {
         return put_moved(
             chosen(flags, parts, fills, mark, off, from, low, c),
             parts2,
