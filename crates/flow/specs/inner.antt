@@ -3,4 +3,5 @@ pub mod Trade
 pub mod Sources
 pub mod PutAt
 pub mod Flowed
+pub mod Skipped
 pub mod Relaxed
