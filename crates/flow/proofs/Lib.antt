@@ -13,4 +13,5 @@ pub mod Marking
 pub mod Poise
 pub mod Modes
 pub mod Onward
+pub mod Clears
 pub mod Walked

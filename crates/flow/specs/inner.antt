@@ -3,5 +3,6 @@ pub mod Trade
 pub mod Sources
 pub mod PutAt
 pub mod Flowed
+pub mod Skipped
 pub mod Relaxed
 pub mod Gentle

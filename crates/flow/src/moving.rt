@@ -5,6 +5,7 @@ use collision::collide::collided;
 use collision::gravity::pulled;
 use grid::cells::own;
 use grid::cells::paste;
+use grid::kinds::is_liquid;
 use lattice::Flow;
 use lattice::Settings;
 use lattice::directions::flow_of;
@@ -37,12 +38,6 @@ pub struct Put {
     pub ok: bool,
     pub fair: bool,
     pub rho: i32,
-}
-
-fn wet(f: u8) -> bool
-    ensures { λ r. ⌜ r ≡ liquid f ⌝ }
-{
-    (f == 1) | (f == 2)
 }
 
 // Whether a flow is so far below the limit of speed that its collision cannot reach it.
@@ -122,7 +117,7 @@ pub(crate) fn put_parts(
     requires { ⌜ Putting (now flags) (now parts) (now fills) (now parts2) mark (now off) (now from) low c g keep ⌝ }
     ensures { λ r. ⌜ PutAt (boxSight (now (flags .entry)) (now (parts .entry)) [] (now (fills .entry)) (now (off .entry)) low g) c (now (parts2 .entry)) (now (parts2 .exit)) r ⌝ }
 {
-    if wet(flags[c]) {
+    if is_liquid(flags[c]) {
         return put_moved(
             chosen(flags, parts, fills, mark, off, from, low, c),
             parts2,

@@ -4,14 +4,50 @@ use crate::relaxing;
 use crate::streaming;
 use crate::trading;
 use grid::Sides;
+use grid::kinds;
 use grid::neighbours;
+use grid::seeking;
 use lattice::Settings;
+ghost use Prim.Native.Nat.{_≤_};
+ghost use lib.IntN.{pos};
+ghost use lib.ListN.{length};
 ghost use Rattle.flow.specs.inner.Flowed.{Flowable, Flowed};
+ghost use Rattle.flow.specs.inner.Skipped.{Cleared, Skippable, Skipped};
 
 // The cell that refusal 7 names; or whether every new part keeps test 6's rules, and whether nothing converts.
 pub enum Passed {
     Stopped(usize),
     Through(bool, bool),
+}
+
+// Neither mass nor mark from cell a to cell b − 1. Two plain loops, each of which becomes wide stores.
+fn clear(masses2: &mut [i32], marks: &mut [u8], a: usize, b: usize)
+    requires { ⌜ (a ≤ b) × (b ≤ length (now masses2)) × (b ≤ length (now marks)) ⌝ }
+    ensures { λ r. ⌜ Cleared (pos 0) (now (masses2 .entry)) a b (now (masses2 .exit)) × Cleared 0 (now (marks .entry)) a b (now (marks .exit)) ⌝ }
+{
+    let mut c = a;
+    while c < b {
+        masses2[c] = 0;
+        c += 1;
+    }
+    c = a;
+    while c < b {
+        marks[c] = 0;
+        c += 1;
+    }
+}
+
+// Neither mass nor mark in cell c, which is dry in both sets and so has no parts already, and in those after it that are so too, 32 at a time;
+// the next cell to look at.
+fn skip_dry(flags: &[u8], flags2: &[u8], masses2: &mut [i32], marks: &mut [u8], c: usize) -> usize
+    requires { ⌜ Skippable (now flags) (now flags2) (now masses2) (now marks) c ⌝ }
+    ensures { λ r. ⌜ Skipped (now (flags .entry)) (now (flags2 .entry)) (now (masses2 .entry)) (now (marks .entry)) c r (now (masses2 .exit)) (now (marks .exit)) ⌝ }
+{
+    masses2[c] = 0;
+    marks[c] = 0;
+    let e = seeking::past_dry(flags, flags2, c + 1);
+    clear(masses2, marks, c + 1, e);
+    e
 }
 
 pub fn flowing(
@@ -37,29 +73,33 @@ pub fn flowing(
     let mut calm = true;
     let mut c = 0;
     while c < flags.len() {
-        let o = moving::put_parts(
-            flags,
-            parts,
-            fills,
-            parts2,
-            marks[c],
-            &off,
-            &from,
-            low,
-            c,
-            g,
-            keep,
-        );
-        if !o.ok {
-            return Passed::Stopped(c);
+        if kinds::either_liquid(flags, flags2, c) {
+            let o = moving::put_parts(
+                flags,
+                parts,
+                fills,
+                parts2,
+                marks[c],
+                &off,
+                &from,
+                low,
+                c,
+                g,
+                keep,
+            );
+            if !o.ok {
+                return Passed::Stopped(c);
+            }
+            let m = trading::new_mass(flags, parts, masses, fills, &off, low, c, o.rho);
+            let k = trading::new_mark(flags[c], m, o.rho);
+            masses2[c] = m;
+            marks[c] = k;
+            fair = fair & o.fair;
+            calm = calm & (k == 0);
+            c += 1;
+        } else {
+            c = skip_dry(flags, flags2, masses2, marks, c);
         }
-        let m = trading::new_mass(flags, parts, masses, fills, &off, low, c, o.rho);
-        let k = trading::new_mark(flags[c], m, o.rho);
-        masses2[c] = m;
-        marks[c] = k;
-        fair = fair & o.fair;
-        calm = calm & (k == 0);
-        c += 1;
     }
     Passed::Through(fair, calm)
 }
