@@ -4,3 +4,4 @@ pub mod Sources
 pub mod PutAt
 pub mod Flowed
 pub mod Relaxed
+pub mod Marks
