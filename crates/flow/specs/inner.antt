@@ -5,4 +5,5 @@ pub mod PutAt
 pub mod Flowed
 pub mod Skipped
 pub mod Relaxed
+pub mod Marks
 pub mod Gentle
