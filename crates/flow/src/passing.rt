@@ -37,16 +37,13 @@ fn clear(masses2: &mut [i32], marks: &mut [u8], a: usize, b: usize)
     }
 }
 
-// Neither mass nor mark in cell c, which is dry in both sets and so has no parts already, and in those after it that are so too, 32 at a time;
-// the next cell to look at.
+// Neither mass nor mark in cell c, which is dry in both sets and so has no parts already, and in those after it that are so too; the next cell that is not.
 fn skip_dry(flags: &[u8], flags2: &[u8], masses2: &mut [i32], marks: &mut [u8], c: usize) -> usize
     requires { ⌜ Skippable (now flags) (now flags2) (now masses2) (now marks) c ⌝ }
     ensures { λ r. ⌜ Skipped (now (flags .entry)) (now (flags2 .entry)) (now (masses2 .entry)) (now (marks .entry)) c r (now (masses2 .exit)) (now (marks .exit)) ⌝ }
 {
-    masses2[c] = 0;
-    marks[c] = 0;
-    let e = seeking::past_dry(flags, flags2, c + 1);
-    clear(masses2, marks, c + 1, e);
+    let e = seeking::next_wet(flags, flags2, c);
+    clear(masses2, marks, c, e);
     e
 }
 

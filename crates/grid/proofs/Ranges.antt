@@ -53,11 +53,6 @@ past-more {P} {n} {a} {c} k u h z = record { least = omega (arith, u .least); mo
 pub past-together : {P : ℕ → Type 0} {n a c : ℕ} (f : ℕ → Bool) → ((j : ℕ) → f j ≡ true → P j) → Past P n a c → c + 32 ≤ n → all 32 (λ i. f (c + i)) ≡ true → Past P n a (c + 32)
 past-together {P} {n} {a} {c} f tells u h e = past-more 32 u h (λ i l. tells (c + i) (all-at 32 (λ i. f (c + i)) e i l))
 
--- one more in front
-pub past-front : {P : ℕ → Type 0} {n a r : ℕ} → P a → Past P n (a + 1) r → Past P n a r
-past-front {P} {n} {a} {r} p u =
-    record { least = omega (arith, u .least); most = u .most; before = λ j h l. ⊎-elim (λ m. u .before j m l) (λ m. subst P (omega arith) p) (≤-or (a + 1) j) }
-
 module _ {ℓ} {A : Type ℓ} (d : A) (f : ℕ → A) (old : List A) (a b : ℕ) where
   abbrev pub ranged : ℕ → A
   ranged j = cond (leb a j && ltb j b) (f j) (getD old j d)

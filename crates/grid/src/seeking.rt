@@ -6,7 +6,7 @@ ghost use Prim.Native.Nat.{_+_, _≤_};
 ghost use lib.Dec.{eqb};
 ghost use lib.ListN.{length, getD};
 ghost use Rattle.whole.specs.Fold.{all};
-ghost use Rattle.grid.specs.inner.Passes.{Dry, Lacking, NextOf, NextMarked, Unmarked, eitherLiquid};
+ghost use Rattle.grid.specs.inner.Passes.{Dry, Lacking, NextOf, NextWet, NextMarked, Unmarked, eitherLiquid};
 
 // Whether none of 32 cells from a on is of a kind. By no way out, so that they are looked at together.
 fn lacking(flags: &[u8], a: usize, kind: u8) -> bool
@@ -111,7 +111,7 @@ fn dry(flags: &[u8], flags2: &[u8], a: usize) -> bool
 }
 
 // Past cells from a on that are dry in both sets, 32 at a time.
-pub fn past_dry(flags: &[u8], flags2: &[u8], a: usize) -> usize
+fn past_dry(flags: &[u8], flags2: &[u8], a: usize) -> usize
     requires { ⌜ (a ≤ length (now flags)) × (length (now flags2) ≡ length (now flags)) ⌝ }
     ensures { λ r. ⌜ Dry (now (flags .entry)) (now (flags2 .entry)) a r ⌝ }
 {
@@ -121,6 +121,21 @@ pub fn past_dry(flags: &[u8], flags2: &[u8], a: usize) -> usize
             return c;
         }
         c += 32;
+    }
+    c
+}
+
+// The next cell that is liquid in one of two sets, from a on; the number of cells if there is none.
+pub fn next_wet(flags: &[u8], flags2: &[u8], a: usize) -> usize
+    requires { ⌜ (a ≤ length (now flags)) × (length (now flags2) ≡ length (now flags)) ⌝ }
+    ensures { λ r. ⌜ NextWet (now (flags .entry)) (now (flags2 .entry)) a r ⌝ }
+{
+    let mut c = past_dry(flags, flags2, a);
+    while c < flags.len() {
+        if either_liquid(flags, flags2, c) {
+            return c;
+        }
+        c += 1;
     }
     c
 }

@@ -152,6 +152,11 @@ eitherLiquid flags flags2 c = liquid (flagOf flags c) || liquid (flagOf flags2 c
 abbrev pub Dry : List ℕ → List ℕ → ℕ → ℕ → Type 0
 Dry flags flags2 a = Past (λ j. eitherLiquid flags flags2 j ≡ false) (length flags) a
 
+-- r is the lowest cell from a on that is liquid in one of two sets, the number of cells if none is
+pub record NextWet (flags flags2 : List ℕ) (a r : ℕ) : Type 0 where
+  pub past : Dry flags flags2 a r
+  pub here : r < length flags → eitherLiquid flags flags2 r ≡ true
+
 -- r is the lowest place from a on that has a mark, the number of places if none has
 pub record NextMarked (marks : List ℕ) (a r : ℕ) : Type 0 where
   pub past : Unmarked marks a r
