@@ -1,3 +1,4 @@
+pub mod Stretches
 pub mod Held
 pub mod Trades
 pub mod Stores
@@ -13,5 +14,4 @@ pub mod Marking
 pub mod Poise
 pub mod Modes
 pub mod Onward
-pub mod Clears
 pub mod Walked

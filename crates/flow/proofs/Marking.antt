@@ -5,10 +5,9 @@ use mathlib.Core.Bool.{Bool, true, false, _&&_, cond, false≢true}
 use mathlib.Core.List.{List}
 use Prim.Native.Nat.{ℕ, _+_, _-_, _*_, _≤_, _<_}
 use native.Mathlib.Omega.{arith}
-use native.Mathlib.Decide.{ℕ-discrete, decLt}
+use native.Mathlib.Decide.{decLt}
 use lib.Dec.{leb, ltb}
-use lib.ListN.{length, getD, set, length-set}
-use lib.Seq.{getD-set-same, getD-set-other}
+use lib.ListN.{length, getD}
 use borrow.Author.Tests.{leb-true, ltb-true, le-leb, lt-ltb, ne-eqb}
 use Rattle.whole.specs.laws.Bools.{and-left, and-right, and-true, cond-yes, cond-no}
 use Rattle.whole.specs.Fold.{tab}
@@ -18,7 +17,8 @@ use Rattle.grid.specs.Grid.{cellsOf}
 use Rattle.grid.specs.inner.Passes.{amid, Inner, lowOf, inside, besideAt, besideIn, openMark, openedBy, openedMark}
 use Rattle.grid.proofs.Beside.{Offsets, beside-is}
 use Rattle.grid.proofs.Ranges.{ltb-same, ranged, Ranged, ranged-all}
-use Rattle.flow.specs.inner.Marks.{Spanned, openedAt}
+use Rattle.flow.specs.inner.Marks.{openedAt}
+use Rattle.flow.specs.inner.Stretch.{Stretch}
 
 pub inside-inner : (s : Sides) (c : ℕ) → inside s c ≡ true → Inner s c
 unfolding inside
@@ -48,27 +48,10 @@ cond-cong t false x y z e f = cond-no x z e
 
 -- ---- pass 0
 
--- a loop over the places from a on: none is done, and one more
-pub spanned-first : (f : ℕ → ℕ) (a : ℕ) (old : List ℕ) → Spanned f a a old old
-spanned-first f a old = record { size = refl; before = λ c h. refl; here = λ c h k. absurd (omega arith); after = λ c h. refl }
-
-pub spanned-more : (f : ℕ → ℕ) (a c x : ℕ) (old out : List ℕ) → Spanned f a c old out → a ≤ c → c < length old → x ≡ f c → Spanned f a (c + 1) old (set out c x)
-spanned-more f a c x old out s h k e =
-    record {
-      size = simp length-set (s .size);
-      before = λ j l. getD-set-other out c j x 0 (λ p. omega arith) ∙ s .before j l;
-      here = λ j l m. at j l m (ℕ-discrete j c);
-      after = λ j l. getD-set-other out c j x 0 (λ p. omega arith) ∙ s .after j (omega arith);
-    }
-  where
-    at : (j : ℕ) → a ≤ j → j < c + 1 → Dec (j ≡ c) → getD (set out c x) j 0 ≡ f j
-    at j l m (yes p) = ap (λ (i : ℕ). getD (set out c x) i 0) p ∙ getD-set-same out c x 0 (omega (arith, s .size)) ∙ e ∙ ap f (sym p)
-    at j l m (no n) = getD-set-other out c j x 0 n ∙ s .here j l (omega arith)
-
 -- the places from c to e − 1 are done together, by what is f there
-pub ranged-span : (f g : ℕ → ℕ) (old : List ℕ) (a b c e : ℕ) (out new : List ℕ) → Ranged 0 f old a b out c → Spanned g c e out new → c ≤ e → e ≤ b
+pub ranged-stretch : (f g : ℕ → ℕ) (old : List ℕ) (a b c e : ℕ) (out new : List ℕ) → Ranged 0 f old a b out c → Stretch 0 g c e out new → c ≤ e → e ≤ b
     → ((j : ℕ) → c ≤ j → j < e → g j ≡ f j) → Ranged 0 f old a b new e
-ranged-span f g old a b c e out new r s h k same =
+ranged-stretch f g old a b c e out new r s h k same =
     record {
       from = omega (arith, r .from);
       to = k;

@@ -34,7 +34,7 @@ use Rattle.grid.proofs.Same.{body-same}
 use Rattle.flow.specs.declared.moving.Put.{Put}
 use Rattle.flow.specs.inner.PutAt.{Told}
 use Rattle.flow.specs.inner.Flowed.{MovedTo}
-use Rattle.flow.specs.inner.Skipped.{Cleared}
+use Rattle.flow.specs.inner.Stretch.{Cleared}
 use Rattle.flow.specs.inner.Trade.{markFor}
 use Rattle.flow.proofs.Collisions.{by-dry, part-none, steady-dry}
 use Rattle.flow.proofs.Onward.{stepOn, fast-seen, part-seen, mass-seen, mark-seen, collided-seen}
@@ -152,13 +152,13 @@ module _ (weights : ℕ → ℕ) (flags : List ℕ) (part : ℕ → ℕ → ℤ)
     fair-dry j l m = by-dry (getD flags j 3) true (bodyGood d3q19 (collided seen j)) (bodyGood d3q19 (collided seen j)) (dry j l m)
 
     pub walked-dry : {marks₀ : List ℕ} {part2 : ℕ → ℕ → ℤ} {masses2 after : List ℤ} {marks new : List ℕ} {fair calm : Bool} → Walked marks₀ part2 masses2 marks fair calm c
-        → ((j k : ℕ) → c ≤ j → j < e → k < 19 → part2 j k ≡ pos 0) → Cleared (pos 0) masses2 c e after → Cleared 0 marks c e new → Walked marks₀ part2 after new fair calm e
+        → ((j k : ℕ) → c ≤ j → j < e → k < 19 → part2 j k ≡ pos 0) → Cleared (pos 0) c e masses2 after → Cleared 0 c e marks new → Walked marks₀ part2 after new fair calm e
     walked-dry {part2 = part2} {after = after} {new = new} w none zm zk = record {
       steady = both (λ j. unsteady seen j ≡ false) (w .steady) (λ j l m. steady-dry weights flags part fills off low g j (dry j l m));
       parts-done = λ j k l n. both (λ j. part2 j k ≡ movedPart seen j k) (λ j l. w .parts-done j k l n) (λ j l m. none j k l m n ∙ sym (part-none weights flags part fills off low g j (dry j l m) k)) j l;
-      masses-done = both (λ j. getD after j (pos 0) ≡ massOf j) (λ j l. zm .low j l ∙ w .masses-done j l) (λ j l m. zm .here j l m ∙ sym (mass-none j l m));
-      marks-done = both (λ j. getD new j 0 ≡ markOf j) (λ j l. zk .low j l ∙ w .marks-done j l) (λ j l m. zk .here j l m ∙ sym (mark-none j l m));
-      marks-left = λ j l. zk .high j l ∙ w .marks-left j (omega arith);
+      masses-done = both (λ j. getD after j (pos 0) ≡ massOf j) (λ j l. zm .before j l ∙ w .masses-done j l) (λ j l m. zm .here j l m ∙ sym (mass-none j l m));
+      marks-done = both (λ j. getD new j 0 ≡ markOf j) (λ j l. zk .before j l ∙ w .marks-done j l) (λ j l m. zk .here j l m ∙ sym (mark-none j l m));
+      marks-left = λ j l. zk .after j l ∙ w .marks-left j (omega arith);
       fair-tells = λ f. both (λ j. fairOf j ≡ true) (w .fair-tells f) fair-dry;
       calm-tells = λ f. both (λ j. markOf j ≡ 0) (w .calm-tells f) mark-none;
     }

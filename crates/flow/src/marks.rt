@@ -9,7 +9,8 @@ ghost use lib.ListN.{length};
 ghost use Rattle.whole.specs.Fold.{tab};
 ghost use Rattle.grid.specs.Grid.{sidesGood, cellsOf};
 ghost use Rattle.grid.specs.inner.Passes.{Reaching, openMark, openedBy, openedMark};
-ghost use Rattle.flow.specs.inner.Marks.{Spanned, openedAt};
+ghost use Rattle.flow.specs.inner.Marks.{openedAt};
+ghost use Rattle.flow.specs.inner.Stretch.{Stretch, Cleared};
 
 pub fn open_mark(f: u8, walled: bool) -> u8
     ensures { λ r. ⌜ r ≡ openMark f walled ⌝ }
@@ -31,9 +32,9 @@ fn least(a: usize, b: usize) -> usize
 }
 
 // Cells a to b - 1 get no mark.
-fn unmark(marks: &mut [u8], a: usize, b: usize)
+pub(crate) fn unmark(marks: &mut [u8], a: usize, b: usize)
     requires { ⌜ (a ≤ b) × (b ≤ length (now marks)) ⌝ }
-    ensures { λ r. ⌜ Spanned (λ c. 0) a b (now (marks .entry)) (now (marks .exit)) ⌝ }
+    ensures { λ r. ⌜ Cleared 0 a b (now (marks .entry)) (now (marks .exit)) ⌝ }
 {
     let mut c = a;
     while c < b {
@@ -45,7 +46,7 @@ fn unmark(marks: &mut [u8], a: usize, b: usize)
 // Cells a to b - 1 get pass 0's mark. All in one way, so that many are looked at together.
 fn mark_span(flags: &[u8], marks: &mut [u8], off: &[usize; 19], low: usize, a: usize, b: usize)
     requires { ⌜ Reaching (length (now flags)) (now off) low × (length (now marks) ≡ length (now flags)) × (low ≤ a) × (a ≤ b) × (b + low ≤ length (now flags)) ⌝ }
-    ensures { λ r. ⌜ Spanned (openedAt (now (flags .entry)) (now (off .entry)) low) a b (now (marks .entry)) (now (marks .exit)) ⌝ }
+    ensures { λ r. ⌜ Stretch 0 (openedAt (now (flags .entry)) (now (off .entry)) low) a b (now (marks .entry)) (now (marks .exit)) ⌝ }
 {
     let mut c = a;
     while c < b {

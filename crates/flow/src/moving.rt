@@ -89,8 +89,8 @@ fn put_moved(
     }
 }
 
-// Zeros for cell c, which is dry. A cell that was dry a step or two ago has them already, and looking costs half of what writing does: where most
-// cells are dry a step then takes half the time.
+// Zeros for cell c, which is dry. Where nothing is known of the second set, as in a single step, most dry cells have them already, and looking costs
+// half of what writing does.
 fn dry_out(parts2: &mut [i32], c: usize)
     requires { ⌜ 19 * c + 19 ≤ length (now parts2) ⌝ }
     ensures { λ r. ⌜ now (parts2 .exit) ≡ pasted (now (parts2 .entry)) (19 * c) (replicate 19 (pos 0)) ⌝ }

@@ -1,4 +1,5 @@
 // Pass 1: stages 1 to 4 of every cell, and the marks that stage 5 makes of it.
+use crate::marks;
 use crate::moving;
 use crate::relaxing;
 use crate::streaming;
@@ -12,7 +13,8 @@ ghost use Prim.Native.Nat.{_≤_};
 ghost use lib.IntN.{pos};
 ghost use lib.ListN.{length};
 ghost use Rattle.flow.specs.inner.Flowed.{Flowable, Flowed};
-ghost use Rattle.flow.specs.inner.Skipped.{Cleared, Skippable, Skipped};
+ghost use Rattle.flow.specs.inner.Stretch.{Cleared};
+ghost use Rattle.flow.specs.inner.Skipped.{Skippable, Skipped};
 
 // The cell that refusal 7 names; or whether every new part keeps test 6's rules, and whether nothing converts.
 pub enum Passed {
@@ -20,19 +22,14 @@ pub enum Passed {
     Through(bool, bool),
 }
 
-// Neither mass nor mark from cell a to cell b − 1. Two plain loops, each of which becomes wide stores.
-fn clear(masses2: &mut [i32], marks: &mut [u8], a: usize, b: usize)
-    requires { ⌜ (a ≤ b) × (b ≤ length (now masses2)) × (b ≤ length (now marks)) ⌝ }
-    ensures { λ r. ⌜ Cleared (pos 0) (now (masses2 .entry)) a b (now (masses2 .exit)) × Cleared 0 (now (marks .entry)) a b (now (marks .exit)) ⌝ }
+// Cells a to b - 1 get no mass.
+fn unload(masses2: &mut [i32], a: usize, b: usize)
+    requires { ⌜ (a ≤ b) × (b ≤ length (now masses2)) ⌝ }
+    ensures { λ r. ⌜ Cleared (pos 0) a b (now (masses2 .entry)) (now (masses2 .exit)) ⌝ }
 {
     let mut c = a;
     while c < b {
         masses2[c] = 0;
-        c += 1;
-    }
-    c = a;
-    while c < b {
-        marks[c] = 0;
         c += 1;
     }
 }
@@ -43,7 +40,8 @@ fn skip_dry(flags: &[u8], flags2: &[u8], masses2: &mut [i32], marks: &mut [u8], 
     ensures { λ r. ⌜ Skipped (now (flags .entry)) (now (flags2 .entry)) (now (masses2 .entry)) (now (marks .entry)) c r (now (masses2 .exit)) (now (marks .exit)) ⌝ }
 {
     let e = seeking::next_wet(flags, flags2, c);
-    clear(masses2, marks, c, e);
+    unload(masses2, c, e);
+    marks::unmark(marks, c, e);
     e
 }
 

@@ -2,18 +2,11 @@
 use mathlib.Core.Path.{_≡_}
 use mathlib.Core.Bool.{false}
 use mathlib.Core.List.{List}
-use Prim.Native.Nat.{ℕ, _≤_, _<_}
+use Prim.Native.Nat.{ℕ, _<_}
 use lib.IntN.{ℤ, pos}
-use lib.ListN.{length, getD}
+use lib.ListN.{length}
 use Rattle.grid.specs.inner.Passes.{Dry, eitherLiquid}
-
--- a list's places from a to b − 1 hold z now, the others what they held
-module _ {A : Type 0} (z : A) where
-  pub record Cleared (before : List A) (a b : ℕ) (after : List A) : Type 0 where
-    pub size : length after ≡ length before
-    pub low : (j : ℕ) → j < a → getD after j z ≡ getD before j z
-    pub here : (j : ℕ) → a ≤ j → j < b → getD after j z ≡ z
-    pub high : (j : ℕ) → b ≤ j → getD after j z ≡ getD before j z
+use Rattle.flow.specs.inner.Stretch.{Cleared}
 
 -- what is asked at cell c: it is dry in both sets
 pub record Skippable (flags flags2 : List ℕ) (masses : List ℤ) (marks : List ℕ) (c : ℕ) : Type 0 where
@@ -27,5 +20,5 @@ pub record Skippable (flags flags2 : List ℕ) (masses : List ℤ) (marks : List
 pub record Skipped (flags flags2 : List ℕ) (masses : List ℤ) (marks : List ℕ) (c e : ℕ) (masses2 : List ℤ) (marks2 : List ℕ) : Type 0 where
   pub onward : c < e
   pub dry : Dry flags flags2 c e
-  pub massless : Cleared (pos 0) masses c e masses2
-  pub unmarked : Cleared 0 marks c e marks2
+  pub massless : Cleared (pos 0) c e masses masses2
+  pub unmarked : Cleared 0 c e marks marks2

@@ -6,7 +6,7 @@ use Prim.Native.Nat.{_-_, _≤_, _<_}
 use native.Mathlib.Omega.{arith}
 use Rattle.grid.proofs.Ranges.{Ranged, ranged-first}
 use Rattle.flow.specs.inner.Marks.{openedAt}
-use Rattle.flow.proofs.Marking.{ranged-span, dry-unmarked, opened}
+use Rattle.flow.proofs.Marking.{ranged-stretch, dry-unmarked, opened}
 use Rattle.flow.proofs.marks.mark_open_by.Statement.{statement}
 use Rattle.flow.proofs.marks.mark_open_by.Tie as tie
 
@@ -77,8 +77,8 @@ loop-again c =
     let l : tie.At-loop Inv-loop μ-loop = search in
     let a : tie.Start Inv-loop μ-loop = search in
     let f = openedAt (a .args .flags .now) (a .args .off .now) (a .args .low) in
-    ranged-span f f (a .args .marks .now) _ _ _ _ _ _
-    (ranged-span f (λ j. 0) (a .args .marks .now) _ _ _ _ (l .loop .marks) _ (l .loop .inv) (after-unmark .unmark .ensures) (steps b .0) (after-least .least .ensures .1)
+    ranged-stretch f f (a .args .marks .now) _ _ _ _ _ _
+    (ranged-stretch f (λ j. 0) (a .args .marks .now) _ _ _ _ (l .loop .marks) _ (l .loop .inv) (after-unmark .unmark .ensures) (steps b .0) (after-least .least .ensures .1)
     (λ j h k. dry-unmarked (a .args .flags .now) (a .args .off .now) (a .args .low) j (after-next-of .next-of .ensures .before j h (omega (arith, after-least .least .ensures .0)))))
     (after-mark-span .mark-span .ensures) (steps b .1) (b .least2 .ensures .1) (λ j h k. refl)
 

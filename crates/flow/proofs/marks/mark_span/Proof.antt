@@ -1,24 +1,25 @@
 -- `flow::marks::mark_span`: the cells from a to c − 1 have their mark. Assumes nothing.
 use borrow.Author.Needs.{needs}
-use mathlib.Core.Path.{refl, ap, _∙_, subst}
-use Prim.Native.Nat.{ℕ, _-_, _≤_}
+use mathlib.Core.Path.{refl, ap, _∙_}
+use Prim.Native.Nat.{_-_, _≤_}
 use native.Mathlib.Omega.{arith}
 use lib.ListN.{getD}
 use Rattle.grid.specs.inner.Passes.{openMark}
 use Rattle.grid.proofs.Inside.{reach-by}
-use Rattle.flow.specs.inner.Marks.{Spanned, openedAt}
-use Rattle.flow.proofs.Marking.{spanned-first, spanned-more}
+use Rattle.flow.specs.inner.Marks.{openedAt}
+use Rattle.flow.specs.inner.Stretch.{Stretch}
+use Rattle.flow.proofs.Stretches.{stretch-first, stretch-more, stretch-all}
 use Rattle.flow.proofs.marks.mark_span.Statement.{statement}
 use Rattle.flow.proofs.marks.mark_span.Tie as tie
 
 abbrev Inv-loop : tie.InvT-loop
-Inv-loop flags marks₀ off low a b c₀ marks c = (a ≤ c) × (c ≤ b) × Spanned (openedAt flags off low) a c marks₀ marks
+Inv-loop flags marks₀ off low a b c₀ marks c = (a ≤ c) × (c ≤ b) × Stretch 0 (openedAt flags off low) a c marks₀ marks
 
 abbrev μ-loop : tie.MeasureT-loop
 μ-loop flags marks₀ off low a b c₀ marks c = b - c
 
 loop-holds : tie.Need-loop-holds Inv-loop μ-loop
-loop-holds c = let start : tie.Start Inv-loop μ-loop = search in (omega arith, start .pre .3, spanned-first _ _ _)
+loop-holds c = let start : tie.Start Inv-loop μ-loop = search in (omega arith, start .pre .3, stretch-first 0 _ _ _)
 
 shared-slice-read-open-mark : tie.Need-shared-slice-read-open-mark Inv-loop μ-loop
 shared-slice-read-open-mark c = let start : tie.Start Inv-loop μ-loop = search in let in-loop : tie.In-loop Inv-loop μ-loop = search in omega (arith, start .pre .4, in-loop .loop-test .taken)
@@ -51,7 +52,7 @@ loop-again c =
     let a : tie.Start Inv-loop μ-loop = search in (
       omega (arith, l .loop .inv .0),
       omega (arith, in-loop .loop-test .taken),
-      spanned-more _ _ (l .loop .c) _ (a .args .marks .now) (l .loop .marks) (l .loop .inv .2) (l .loop .inv .0) (omega (arith, a .pre .1, a .pre .4, in-loop .loop-test .taken))
+      stretch-more 0 _ _ (a .args .marks .now) (l .loop .c) _ (l .loop .marks) (l .loop .inv .2) (l .loop .inv .0) (omega (arith, a .pre .1, a .pre .4, in-loop .loop-test .taken))
           (c .open-mark .ensures ∙ ap (openMark (getD (a .args .flags .now) (l .loop .c) 0)) (after-beside .beside .ensures)),
     )
 
@@ -61,8 +62,7 @@ same-length c = let l : tie.At-loop Inv-loop μ-loop = search in l .loop .inv .2
 returns : tie.Need-returns Inv-loop μ-loop
 returns c =
     let a : tie.Start Inv-loop μ-loop = search in let l : tie.At-loop Inv-loop μ-loop = search in
-    subst (λ (e : ℕ). Spanned (openedAt (a .args .flags .now) (a .args .off .now) (a .args .low)) (a .args .a) e (a .args .marks .now) (l .loop .marks))
-    (omega (arith, l .loop .inv .1, c .loop-test .left)) (l .loop .inv .2)
+    stretch-all 0 _ (a .args .a) (a .args .marks .now) (a .args .b) (l .loop .c) (l .loop .marks) (l .loop .inv .2) (l .loop .inv .1) (c .loop-test .left)
 
 pub mark-span-spec : {M : Type 1} → statement M
 mark-span-spec =

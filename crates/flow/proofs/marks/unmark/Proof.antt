@@ -1,21 +1,21 @@
 -- `flow::marks::unmark`: the cells from a to c − 1 have no mark. Assumes nothing.
 use borrow.Author.Needs.{needs}
-use mathlib.Core.Path.{refl, subst}
-use Prim.Native.Nat.{ℕ, _-_, _≤_}
+use mathlib.Core.Path.{refl}
+use Prim.Native.Nat.{_-_, _≤_}
 use native.Mathlib.Omega.{arith}
-use Rattle.flow.specs.inner.Marks.{Spanned}
-use Rattle.flow.proofs.Marking.{spanned-first, spanned-more}
+use Rattle.flow.specs.inner.Stretch.{Cleared}
+use Rattle.flow.proofs.Stretches.{stretch-first, stretch-more, stretch-all}
 use Rattle.flow.proofs.marks.unmark.Statement.{statement}
 use Rattle.flow.proofs.marks.unmark.Tie as tie
 
 abbrev Inv-loop : tie.InvT-loop
-Inv-loop marks₀ a b c₀ marks c = (a ≤ c) × (c ≤ b) × Spanned (λ j. 0) a c marks₀ marks
+Inv-loop marks₀ a b c₀ marks c = (a ≤ c) × (c ≤ b) × Cleared 0 a c marks₀ marks
 
 abbrev μ-loop : tie.MeasureT-loop
 μ-loop marks₀ a b c₀ marks c = b - c
 
 loop-holds : tie.Need-loop-holds Inv-loop μ-loop
-loop-holds c = let start : tie.Start Inv-loop μ-loop = search in (omega arith, start .pre .0, spanned-first _ _ _)
+loop-holds c = let start : tie.Start Inv-loop μ-loop = search in (omega arith, start .pre .0, stretch-first 0 _ _ _)
 
 slice-write-marks : tie.Need-slice-write-marks Inv-loop μ-loop
 slice-write-marks c =
@@ -33,7 +33,7 @@ loop-again c =
     let start : tie.Start Inv-loop μ-loop = search in let l : tie.At-loop Inv-loop μ-loop = search in let in-loop : tie.In-loop Inv-loop μ-loop = search in (
       omega (arith, l .loop .inv .0),
       omega (arith, in-loop .loop-test .taken),
-      spanned-more (λ j. 0) _ (l .loop .c) 0 _ (l .loop .marks) (l .loop .inv .2) (l .loop .inv .0) (omega (arith, start .pre .1, in-loop .loop-test .taken)) refl,
+      stretch-more 0 _ _ _ (l .loop .c) 0 (l .loop .marks) (l .loop .inv .2) (l .loop .inv .0) (omega (arith, start .pre .1, in-loop .loop-test .taken)) refl,
     )
 
 same-length : tie.Need-same-length Inv-loop μ-loop
@@ -42,7 +42,7 @@ same-length c = let l : tie.At-loop Inv-loop μ-loop = search in l .loop .inv .2
 returns : tie.Need-returns Inv-loop μ-loop
 returns c =
     let start : tie.Start Inv-loop μ-loop = search in let l : tie.At-loop Inv-loop μ-loop = search in
-    subst (λ (e : ℕ). Spanned (λ j. 0) (start .args .a) e (start .args .marks .now) (l .loop .marks)) (omega (arith, l .loop .inv .1, c .loop-test .left)) (l .loop .inv .2)
+    stretch-all 0 _ (start .args .a) (start .args .marks .now) (start .args .b) (l .loop .c) (l .loop .marks) (l .loop .inv .2) (l .loop .inv .1) (c .loop-test .left)
 
 pub unmark-spec : {M : Type 1} → statement M
 unmark-spec =

@@ -19,28 +19,34 @@ not-here s e m n w =
 next-wet-requires : tie.Need-next-wet-requires
 next-wet-requires c κs = let start : tie.Start = search in (omega (arith, start .pre .is-cell), start .pre .flags-room)
 
-clear-requires : tie.Need-clear-requires
-clear-requires c κs =
+unload-requires : tie.Need-unload-requires
+unload-requires c κs =
     let start : tie.Start = search in let after-next-wet : tie.After-next-wet = search in
     let d = after-next-wet .next-wet .ensures .past in
-    (d .least, omega (arith, d .most, start .pre .masses-room), omega (arith, d .most, start .pre .marks-room))
+    (d .least, omega (arith, d .most, start .pre .masses-room))
+
+unmark-requires : tie.Need-unmark-requires
+unmark-requires c κs =
+    let start : tie.Start = search in let after-next-wet : tie.After-next-wet = search in
+    let d = after-next-wet .next-wet .ensures .past in
+    (d .least, omega (arith, d .most, start .pre .marks-room))
 
 same-length : tie.Need-same-length
-same-length c = let after-clear : tie.After-clear = search in after-clear .clear .ensures .0 .size
+same-length c = let after-unload : tie.After-unload = search in after-unload .unload .ensures .size
 
 same-length-2 : tie.Need-same-length-2
-same-length-2 c = let after-clear : tie.After-clear = search in after-clear .clear .ensures .1 .size
+same-length-2 c = let after-unmark : tie.After-unmark = search in after-unmark .unmark .ensures .size
 
 returns : tie.Need-returns
 returns c =
-    let start : tie.Start = search in let after-next-wet : tie.After-next-wet = search in let after-clear : tie.After-clear = search in
+    let start : tie.Start = search in let after-next-wet : tie.After-next-wet = search in let after-unload : tie.After-unload = search in let after-unmark : tie.After-unmark = search in
     let w = after-next-wet .next-wet .ensures in
     let e = after-next-wet .next-wet .result in
     record {
       onward = ⊎-elim (λ m. absurd (not-here start e m (w .past .least) (w .here))) (λ m. m) (≤-or e (start .args .c));
       dry = w .past;
-      massless = after-clear .clear .ensures .0;
-      unmarked = after-clear .clear .ensures .1;
+      massless = after-unload .unload .ensures;
+      unmarked = after-unmark .unmark .ensures;
     }
 
 pub skip-dry-spec : {M : Type 1} → statement M
@@ -48,7 +54,8 @@ skip-dry-spec =
     tie.close
     (tie.spec
     next-wet-requires
-    clear-requires
+    unload-requires
+    unmark-requires
     same-length
     same-length-2
     returns)
