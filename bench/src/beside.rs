@@ -5,7 +5,7 @@ use oracle::record::read_within;
 use crate::engine::{Engine, Settings, ACCEPTED};
 use crate::float::{FloatStore, FOUR};
 use crate::identical::Case;
-use crate::lattice::Grid;
+use crate::lattice::{Grid, Lattice};
 use crate::native::proved;
 use crate::plain::PLAIN;
 use crate::scenes::water;

@@ -2,11 +2,11 @@
 
 use oracle::{Held, HeldMut, SetMut};
 
-/// The settings that a step takes.
+/// The settings that a step takes, the box's unless it is said.
 #[derive(Clone, Copy, Debug, PartialEq, Eq)]
-pub struct Settings {
+pub struct Settings<const AXES: usize = 3> {
     pub p: i64,
-    pub gravity: [i64; 3],
+    pub gravity: [i64; AXES],
     /// The mode. What is written by hand has the plain one alone, and is not asked for the other.
     pub turbulent: bool,
 }

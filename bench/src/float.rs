@@ -8,7 +8,7 @@ use oracle::Store;
 use crate::engine::{Answer, Ran, Settings, ACCEPTED};
 use crate::lanes::{Four, Lanes};
 use crate::lattice::{
-    add, at, opposite, put, Changes, Grid, EMPTIED, EMPTY, FILLED, FLUID, INTERFACE, NOTHING, WALL,
+    add, at, opposite, put, Changes, Grid, Lattice, EMPTIED, EMPTY, FILLED, FLUID, INTERFACE, NOTHING, WALL,
 };
 
 const ONE: f64 = 589_824.0;

@@ -7,7 +7,7 @@ use oracle::scenes::good;
 use oracle::{Held, HeldMut, IndexStore, Refusal, Relaxation, Store};
 
 use crate::engine::{Answer, Engine, Ran, Settings, ACCEPTED};
-use crate::lattice::Grid;
+use crate::lattice::{Grid, Lattice};
 use crate::scenes::Scene;
 
 /// A step and its inputs; sides and lengths may be wrong.
@@ -42,12 +42,12 @@ pub enum Inputs {
     Any,
 }
 
-fn numbered(refusal: Option<Refusal>) -> Answer {
+pub(crate) fn numbered(refusal: Option<Refusal>) -> Answer {
     refusal.map_or(ACCEPTED, |refusal| Answer::refused(refusal.number as u8, refusal.place as usize))
 }
 
 /// p and the mode as the oracle takes them.
-fn relaxation(settings: Settings) -> Relaxation {
+pub(crate) fn relaxation<const AXES: usize>(settings: Settings<AXES>) -> Relaxation {
     Relaxation { p: settings.p as i32, turbulent: settings.turbulent }
 }
 

@@ -1,8 +1,7 @@
-// The grid of cells for the steps written by hand, the box's and the flume's: its neighbours, and all that flags alone decide.
+// The grid of cells for the steps written by hand, the box's and the flume's: what each lattice has of its own, neighbours, and all that flags alone decide.
 
-use oracle::flume::lattice as flume;
-use oracle::lattice::DIRECTIONS;
 pub use oracle::state::{EMPTY, FLUID, INTERFACE, WALL};
+use oracle::{flume, Set};
 
 /// The marks of a cell during a step.
 pub const NOTHING: u8 = 0;
@@ -64,17 +63,71 @@ pub struct Grid<const K: usize = 19> {
     source: [isize; K],
 }
 
-impl Grid {
-    /// Test 1 of the box.
-    pub fn new(sides: [usize; 3]) -> Option<Grid> {
+/// What a lattice of Q directions over so many axes has of its own, by its grid. Direction 0 is rest, the others follow in pairs, along each axis
+/// first; the second of a pair points back.
+pub trait Lattice<const Q: usize, const AXES: usize>: Sized {
+    const DIRECTIONS: [[i128; AXES]; Q];
+
+    /// In 36ths, of any direction but rest.
+    fn weight(&self, i: usize) -> i64;
+
+    /// Test 1.
+    fn new(sides: [usize; AXES]) -> Option<Self>;
+
+    /// Test 2 of one set.
+    fn fits(&self, set: &Set) -> bool;
+
+    /// Test 4.
+    fn wrong_flag(&self, flags: &[u8]) -> Option<usize>;
+
+    /// e·v of every direction.
+    #[inline(always)]
+    fn along(&self, v: [i64; AXES]) -> [i64; Q] {
+        let mut dots = [0; Q];
+        for i in (1..Q).step_by(2) {
+            dots[i] = (0..AXES).map(|axis| Self::DIRECTIONS[i][axis] as i64 * v[axis]).sum();
+            dots[i + 1] = -dots[i];
+        }
+        dots
+    }
+
+    /// The momentum of a cell's parts.
+    #[inline(always)]
+    fn momentum(&self, f: &[i64; Q]) -> [i64; AXES] {
+        let mut j = [0; AXES];
+        for i in (1..Q).step_by(2) {
+            let apart = f[i] - f[i + 1];
+            j = std::array::from_fn(|axis| j[axis] + Self::DIRECTIONS[i][axis] as i64 * apart);
+        }
+        j
+    }
+}
+
+/// The box.
+impl Lattice<19, 3> for Grid<19> {
+    const DIRECTIONS: [[i128; 3]; 19] = oracle::lattice::DIRECTIONS;
+
+    #[inline(always)]
+    fn weight(&self, i: usize) -> i64 {
+        if i < 7 {
+            2
+        } else {
+            1
+        }
+    }
+
+    fn new(sides: [usize; 3]) -> Option<Grid> {
         let n = sides.iter().try_fold(1, |n, &side| (3..=128).contains(&side).then_some(n * side))?;
         let [nx, ny, _] = sides.map(|side| side as i128);
-        let distance = DIRECTIONS.map(|[x, y, z]| (x + nx * (y + ny * z)) as isize);
+        let distance = Self::DIRECTIONS.map(|[x, y, z]| (x + nx * (y + ny * z)) as isize);
         (n <= 262_144).then(|| Grid::laid(sides, distance))
     }
 
-    /// Test 4 of the box.
-    pub fn wrong_flag(&self, flags: &[u8]) -> Option<usize> {
+    fn fits(&self, set: &Set) -> bool {
+        set.fits(self.n)
+    }
+
+    fn wrong_flag(&self, flags: &[u8]) -> Option<usize> {
         let [_, ny, nz] = self.sides;
         self.wrong_in_rows(flags, |row| {
             row % ny == 0 || row % ny == ny - 1 || row < ny || row >= ny * (nz - 1)
@@ -82,16 +135,30 @@ impl Grid {
     }
 }
 
-impl Grid<9> {
-    /// Test 1 of the flume.
-    pub fn flume([nx, nz]: [usize; 2]) -> Option<Grid<9>> {
+/// The flume.
+impl Lattice<9, 2> for Grid<9> {
+    const DIRECTIONS: [[i128; 2]; 9] = flume::lattice::DIRECTIONS;
+
+    #[inline(always)]
+    fn weight(&self, i: usize) -> i64 {
+        if i < 5 {
+            4
+        } else {
+            1
+        }
+    }
+
+    fn new([nx, nz]: [usize; 2]) -> Option<Grid<9>> {
         let good = [nx, nz].iter().all(|side| (3..=512).contains(side));
-        let distance = flume::DIRECTIONS.map(|[x, z]| (x + nx as i128 * z) as isize);
+        let distance = Self::DIRECTIONS.map(|[x, z]| (x + nx as i128 * z) as isize);
         good.then(|| Grid::laid([nx, 1, nz], distance))
     }
 
-    /// Test 4 of the flume.
-    pub fn wrong_flag(&self, flags: &[u8]) -> Option<usize> {
+    fn fits(&self, set: &Set) -> bool {
+        flume::sets::fits(set, self.n)
+    }
+
+    fn wrong_flag(&self, flags: &[u8]) -> Option<usize> {
         let nz = self.sides[2];
         self.wrong_in_rows(flags, |row| row == 0 || row == nz - 1)
     }

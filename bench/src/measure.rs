@@ -6,7 +6,7 @@ use oracle::HeldStore;
 
 use crate::engine::{Answer, Engine, Settings, ACCEPTED};
 use crate::float::{FloatEngine, FloatStore};
-use crate::lattice::Grid;
+use crate::lattice::{Grid, Lattice};
 use crate::plain::PLAIN;
 use crate::scenes::{liquid_cells, Scene};
 

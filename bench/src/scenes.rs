@@ -3,7 +3,7 @@
 use oracle::Store;
 
 use crate::engine::Settings;
-use crate::lattice::{Grid, EMPTY, FLUID, INTERFACE, WALL};
+use crate::lattice::{Grid, Lattice, EMPTY, FLUID, INTERFACE, WALL};
 
 const ONE: i64 = 589_824;
 /// About a ten-thousandth of a cell per step and step: a dam of 48 cells then falls at a third of the speed limit.

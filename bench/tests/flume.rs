@@ -1,69 +1,19 @@
-// The flume's plain step is the oracle's, bit for bit, refused or not; its f32 step is the same method. A failure names its seed.
+// The flume's plain steps are the oracle's, bit for bit, refused or not; its f32 step is the same method. A failure names its seed.
 
-use bench::engine::{Answer, Ran, ACCEPTED};
+use bench::engine::{Answer, ACCEPTED};
 use bench::float::FloatStore;
-use bench::flume::{float, plain, scenes, Settings};
+use bench::flume::engine::{Engine, LOOKING, PLAIN};
+use bench::flume::identical::{same_run, same_step, Case, ORACLE};
+use bench::flume::{float, scenes, Settings};
+use oracle::flume;
 use oracle::flume::scenes::good;
 use oracle::flume::sets::store;
 use oracle::random::Random;
-use oracle::{flume, Refusal, Store};
 
-/// A step and its inputs; sides and lengths may be wrong.
-#[derive(Clone, Debug, PartialEq)]
-struct Case {
-    sides: [usize; 2],
-    settings: Settings,
-    first: Store,
-    second: Store,
-    marks: Vec<u8>,
-}
-
-fn numbered(refusal: Option<Refusal>) -> Answer {
-    refusal.map_or(ACCEPTED, |refusal| Answer::refused(refusal.number as u8, refusal.place as usize))
-}
-
-impl Case {
-    /// The second set and the marks hold what a step must overwrite.
-    fn of(sides: [usize; 2], settings: Settings, first: &Store) -> Case {
-        let mut second = first.clone();
-        second.flags.fill(7);
-        second.parts.fill(-5);
-        second.masses.fill(11);
-        second.fills.fill(13);
-        second.carry.fill(17);
-        Case { sides, settings, first: first.clone(), second, marks: vec![9; first.flags.len()] }
-    }
-
-    fn of_scene(scene: &scenes::Scene) -> Case {
-        Case::of(scene.sides, scene.settings, &scene.store)
-    }
-
-    fn plain_step(&mut self) -> Answer {
-        plain::step(self.sides, self.settings, self.first.lend(), self.second.lend_mut(), &mut self.marks)
-    }
-
-    /// A step of each, and a run of each: answers and every buffer. What the step answered and left.
-    fn same(&self, steps: usize, named: &str) -> (Answer, Case) {
-        let sides = self.sides.map(|side| side as u32);
-        let (p, gravity) = (self.settings.p as i32, self.settings.gravity.map(|g| g as i32));
-
-        let (mut ours, mut theirs) = (self.clone(), self.clone());
-        let answer = ours.plain_step();
-        let (first, second) = (theirs.first.lend(), theirs.second.lend_mut());
-        let expected = flume::step(sides, p, gravity, first, second, &mut theirs.marks);
-        assert_eq!(answer, numbered(expected.err()), "{named}: step");
-        assert!(ours == theirs, "{named}: the step's buffers");
-
-        let (mut mine, mut other) = (self.clone(), self.clone());
-        let (first, second) = (mine.first.lend_mut(), mine.second.lend_mut());
-        let ran = plain::run(self.sides, self.settings, steps, first, second, &mut mine.marks);
-        let (first, second) = (other.first.lend_mut(), other.second.lend_mut());
-        let expected = flume::run(sides, p, gravity, steps as u32, first, second, &mut other.marks);
-        let expected = Ran { count: expected.count as usize, answer: numbered(expected.refusal) };
-        assert_eq!(ran, expected, "{named}: run of {steps}");
-        assert!(mine == other, "{named}: the run's buffers");
-        (answer, ours)
-    }
+/// A step and a run of the engine and of the oracle: answers and every buffer. What the step answered and left.
+fn same(engine: Engine, case: &Case, steps: usize, named: &str) -> (Answer, Case) {
+    let ran = same_run(engine, ORACLE, case, steps);
+    ran.and_then(|_| same_step(engine, ORACLE, case)).unwrap_or_else(|error| panic!("{named}: {error}"))
 }
 
 /// Changes a few numbers of a case, anywhere and by little or much.
@@ -99,8 +49,8 @@ fn damage(random: &mut Random, case: &mut Case) {
     } {}
 }
 
-#[test]
-fn plain_is_the_oracle_on_random_states() {
+/// How many steps were accepted, and refused with 1 to 8.
+fn hunted(engine: Engine) -> [usize; 9] {
     let mut met = [0; 9];
     for seed in 0..2500 {
         let scene = good(seed);
@@ -113,7 +63,8 @@ fn plain_is_the_oracle_on_random_states() {
         let start = Case::of(sides, settings, &store(&scene.state));
         let mut case = start.clone();
         for step in 0..6 {
-            let (answer, after) = case.same(seed as usize % 4, &format!("seed {seed}, step {step}"));
+            let (answer, after) =
+                same(engine, &case, seed as usize % 4, &format!("seed {seed}, step {step}"));
             met[answer.number as usize] += 1;
             if answer != ACCEPTED {
                 break;
@@ -123,10 +74,19 @@ fn plain_is_the_oracle_on_random_states() {
         let mut case = start;
         damage(&mut Random::new(!seed), &mut case);
         let steps = if seed % 7 == 0 { 1001 } else { 2 };
-        met[case.same(steps, &format!("seed {seed}, damaged")).0.number as usize] += 1;
+        let (answer, _) = same(engine, &case, steps, &format!("seed {seed}, damaged"));
+        met[answer.number as usize] += 1;
     }
-    println!("accepted, and refused with 1 to 8: {met:?}");
-    assert!(met.iter().all(|&times| times >= 20), "{met:?}");
+    met
+}
+
+#[test]
+fn plain_is_the_oracle_on_random_states() {
+    for engine in [PLAIN, LOOKING] {
+        let met = hunted(engine);
+        println!("{}: accepted, and refused with 1 to 8: {met:?}", engine.name);
+        assert!(met.iter().all(|&times| times >= 20), "{}: {met:?}", engine.name);
+    }
 }
 
 /// Far enough for the dam to fall, for cells to fill and to empty.
@@ -135,13 +95,15 @@ fn plain_is_the_oracle_on_the_scenes() {
     for scene in scenes::all([48, 24]).into_iter().chain(scenes::all([24, 48])) {
         let checked = flume::check(scene.sides.map(|side| side as u32), scene.store.lend());
         assert_eq!(checked, Ok(()), "{}", scene.name);
-        let mut case = Case::of_scene(&scene);
-        for step in 0..200 {
-            let (answer, after) = case.same(0, &format!("{}, step {step}", scene.name));
-            assert_eq!(answer, ACCEPTED, "{}, step {step}", scene.name);
-            case = Case::of(scene.sides, scene.settings, &after.second);
+        for engine in [PLAIN, LOOKING] {
+            let mut case = Case::of_scene(&scene);
+            for step in 0..200 {
+                let (answer, after) = same(engine, &case, 0, &format!("{}, step {step}", scene.name));
+                assert_eq!(answer, ACCEPTED, "{}, step {step}", scene.name);
+                case = Case::of(scene.sides, scene.settings, &after.second);
+            }
+            same(engine, &Case::of_scene(&scene), 200, scene.name);
         }
-        let (_, _) = Case::of_scene(&scene).same(200, scene.name);
     }
 }
 
@@ -166,7 +128,7 @@ fn float_makes_the_same_step() {
             let first = FloatStore::of(&case.first);
             let mut second = first.clone();
             let answer = float::step(&scene.grid(), scene.settings, &first, &mut second, &mut marks);
-            assert_eq!((answer, case.plain_step()), (ACCEPTED, ACCEPTED), "{}, step {step}", scene.name);
+            assert_eq!((answer, case.step(PLAIN)), (ACCEPTED, ACCEPTED), "{}, step {step}", scene.name);
             let whole = FloatStore::of(&case.second);
             assert!(second.flags == whole.flags, "{}, step {step}: flags", scene.name);
             let off =

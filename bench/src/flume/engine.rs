@@ -2,8 +2,9 @@
 
 use oracle::{Set, SetMut};
 
-use super::{plain, Settings};
-use crate::engine::{lend_again, Answer, Ran};
+use super::Settings;
+use crate::engine::{Answer, Ran};
+use crate::plain;
 
 pub type Step = fn([usize; 2], Settings, Set, SetMut, &mut [u8]) -> Answer;
 pub type Run = fn([usize; 2], Settings, usize, SetMut, SetMut, &mut [u8]) -> Ran;
@@ -18,21 +19,24 @@ pub struct Engine {
     pub turbulent: bool,
 }
 
-fn plain_run(
-    sides: [usize; 2],
-    settings: Settings,
-    steps: usize,
-    mut first: SetMut,
-    mut second: SetMut,
-    marks: &mut [u8],
-) -> Ran {
-    // Both lent once more, for as long as each other.
-    let (first, second) = (lend_again(&mut first), lend_again(&mut second));
-    plain::run(sides, settings, steps, first, second, marks)
-}
+pub const PLAIN: Engine = Engine {
+    name: plain::PLAIN.name,
+    step: plain::step::<9, 2, false>,
+    run: |sides, settings, steps, first, second, marks| {
+        plain::run::<9, 2, false>(sides, settings, steps, first, second, marks)
+    },
+    turbulent: false,
+};
 
-pub const PLAIN: Engine =
-    Engine { name: crate::plain::PLAIN.name, step: plain::step, run: plain_run, turbulent: false };
+/// The same, but that a dry cell's zeros are looked for before they are written.
+pub const LOOKING: Engine = Engine {
+    name: plain::LOOKING.name,
+    step: plain::step::<9, 2, true>,
+    run: |sides, settings, steps, first, second, marks| {
+        plain::run::<9, 2, true>(sides, settings, steps, first, second, marks)
+    },
+    turbulent: false,
+};
 
 /// The proved step and run, if bench/run linked the library.
 #[cfg(feature = "library")]

@@ -4,7 +4,7 @@ use crate::engine::{Answer, Ran, ACCEPTED};
 use crate::float::FloatStore;
 use crate::flume::Settings;
 use crate::lattice::{
-    add, at, opposite, put, Changes, EMPTIED, EMPTY, FILLED, FLUID, INTERFACE, NOTHING, OPEN, WALL,
+    add, at, opposite, put, Changes, Lattice, EMPTIED, EMPTY, FILLED, FLUID, INTERFACE, NOTHING, OPEN, WALL,
 };
 
 type Grid = crate::lattice::Grid<9>;

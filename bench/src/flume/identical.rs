@@ -1,15 +1,16 @@
-// The proved step of the flume is the oracle's, every buffer, refused or not; and the plain one's over whole runs. What differs is told with its seed.
+// Holds a step of the flume to the oracle, or one step to another, on every buffer, refused or not. What differs is told with its seed.
 
 use oracle::flume::scenes::good;
 use oracle::flume::sets::store;
-use oracle::{flume, Refusal, Relaxation, Store};
+use oracle::{flume, Store};
 
 use super::engine::Engine;
 use super::scenes::Scene;
 use super::Settings;
 use crate::engine::{Answer, Ran, ACCEPTED};
+use crate::identical::{numbered, relaxation};
 
-/// A step and its inputs.
+/// A step and its inputs; sides and lengths may be wrong.
 #[derive(Clone, PartialEq)]
 pub struct Case {
     pub sides: [usize; 2],
@@ -19,9 +20,20 @@ pub struct Case {
     pub marks: Vec<u8>,
 }
 
-fn answer(refusal: Option<Refusal>) -> Answer {
-    refusal.map_or(ACCEPTED, |refusal| Answer::refused(refusal.number as u8, refusal.place as usize))
-}
+/// The oracle, for settings that fit the record's types, as all those here do.
+pub const ORACLE: Engine = Engine {
+    name: "oracle",
+    step: |sides, settings, first, second, marks| {
+        let (sides, gravity) = (sides.map(|side| side as u32), settings.gravity.map(|g| g as i32));
+        numbered(flume::step(sides, relaxation(settings), gravity, first, second, marks).err())
+    },
+    run: |sides, settings, steps, first, second, marks| {
+        let (sides, gravity) = (sides.map(|side| side as u32), settings.gravity.map(|g| g as i32));
+        let ran = flume::run(sides, relaxation(settings), gravity, steps as u32, first, second, marks);
+        Ran { count: ran.count as usize, answer: numbered(ran.refusal) }
+    },
+    turbulent: true,
+};
 
 impl Case {
     /// The second set and the marks hold what a step must overwrite.
@@ -48,25 +60,17 @@ impl Case {
         let Case { sides, settings, first, second, marks } = self;
         (engine.run)(*sides, *settings, steps, first.lend_mut(), second.lend_mut(), marks)
     }
-
-    /// The oracle's step.
-    fn wanted(&mut self) -> Answer {
-        let (sides, gravity) = (self.sides.map(|side| side as u32), self.settings.gravity.map(|g| g as i32));
-        let (first, second) = (self.first.lend(), self.second.lend_mut());
-        let relaxation = Relaxation { p: self.settings.p as i32, turbulent: self.settings.turbulent };
-        answer(flume::step(sides, relaxation, gravity, first, second, &mut self.marks).err())
-    }
 }
 
-/// An engine's step and the oracle's from one case; the answer, and what both left.
-pub fn same_step(engine: Engine, case: &Case) -> Result<(Answer, Case), String> {
+/// A step of two engines from one case: what both answered and left.
+pub fn same_step(one: Engine, other: Engine, case: &Case) -> Result<(Answer, Case), String> {
     let (mut ours, mut theirs) = (case.clone(), case.clone());
-    let (given, wanted) = (ours.step(engine), theirs.wanted());
+    let (given, wanted) = (ours.step(one), theirs.step(other));
     if given != wanted {
-        return Err(format!("{}: a step answers {given:?}, the oracle {wanted:?}", engine.name));
+        return Err(format!("a step of {} answers {given:?}, of {} {wanted:?}", one.name, other.name));
     }
     if ours != theirs {
-        return Err(format!("{}: a step leaves other buffers than the oracle's", engine.name));
+        return Err(format!("a step of {} leaves other buffers than one of {}", one.name, other.name));
     }
     Ok((given, ours))
 }
@@ -93,7 +97,7 @@ pub fn hunt(engine: Engine, seeds: u64, steps: usize) -> Result<[usize; 2], Stri
         let mut case = Case::of(sides, settings, &store(&scene.state));
         for step in 0..steps {
             let named = |error: String| format!("flume seed {seed}, step {step}: {error}");
-            let (answer, after) = same_step(engine, &case).map_err(named)?;
+            let (answer, after) = same_step(engine, ORACLE, &case).map_err(named)?;
             met[usize::from(answer != ACCEPTED)] += 1;
             if answer != ACCEPTED {
                 break;

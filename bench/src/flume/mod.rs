@@ -4,15 +4,8 @@ pub mod engine;
 pub mod float;
 pub mod identical;
 pub mod measure;
-pub mod plain;
 pub mod report;
 pub mod scenes;
 
 /// The settings that a step of the flume takes: p, and gravity along x and up.
-#[derive(Clone, Copy, Debug, PartialEq, Eq)]
-pub struct Settings {
-    pub p: i64,
-    pub gravity: [i64; 2],
-    /// The mode. What is written by hand has the plain one alone, and is not asked for the other.
-    pub turbulent: bool,
-}
+pub type Settings = crate::engine::Settings<2>;

@@ -1,8 +1,8 @@
 // The flume's part of the benchmark: held to be identical, its water counted, its steps timed, and what is printed of it.
 
-use super::engine::{proved, Engine, PLAIN};
+use super::engine::{proved, Engine, LOOKING, PLAIN};
 use super::float;
-use super::identical::{hunt, same_run, same_step, Case};
+use super::identical::{hunt, same_run, same_step, Case, ORACLE};
 use super::measure::{measure, Measured};
 use super::scenes::{self, Scene};
 use super::Settings;
@@ -31,20 +31,23 @@ fn compare_scene(engines: &[Engine], scene: &Scene) -> Result<(), String> {
     }
     for &engine in engines {
         for case in [&start, &Case::of(scene.sides, scene.settings, &warm.first)] {
-            same_step(engine, case)?;
+            same_step(engine, ORACLE, case)?;
             if engine.turbulent {
                 let settings = Settings { turbulent: true, ..scene.settings };
-                same_step(engine, &Case { settings, ..case.clone() })?;
+                same_step(engine, ORACLE, &Case { settings, ..case.clone() })?;
             }
         }
     }
     Ok(())
 }
 
-/// A row of the water's table: what is left after so many steps, in whole numbers and in f32.
+/// A row of the water's table: what is left after so many steps in whole numbers, the engines held to each other, and in f32.
 fn count_water(engines: &[Engine], scene: &Scene, steps: usize) -> Result<Vec<String>, String> {
-    let (first, last) = (engines[0], engines[engines.len() - 1]);
-    let (ran, after) = same_run(first, last, &Case::of_scene(scene), steps)?;
+    let (first, start) = (engines[0], Case::of_scene(scene));
+    let (mut ran, mut after) = same_run(first, engines[1], &start, steps)?;
+    for &other in &engines[2..] {
+        (ran, after) = same_run(first, other, &start, steps)?;
+    }
     let (start, lost) = (water(&scene.store), water(&scene.store) - water(&after.first));
     if lost != 0 {
         return Err(format!("{lost} units lost"));
@@ -114,7 +117,7 @@ fn speeds(measured: &[Measured]) {
 
 /// All of it: what is not identical, or loses a unit, is an error.
 pub fn flume(effort: Effort, seeds: u64, steps: usize) -> Result<(), String> {
-    let engines: Vec<Engine> = proved().into_iter().chain([PLAIN]).collect();
+    let engines: Vec<Engine> = proved().into_iter().chain([PLAIN, LOOKING]).collect();
     for &engine in &engines {
         let [accepted, refused] = hunt(engine, seeds, RANDOM_STEPS)?;
         println!(

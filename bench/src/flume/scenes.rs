@@ -4,7 +4,7 @@ use oracle::flume::sets::blank;
 use oracle::Store;
 
 use crate::flume::Settings;
-use crate::lattice::{Grid, EMPTY, FLUID, INTERFACE, WALL};
+use crate::lattice::{Grid, Lattice, EMPTY, FLUID, INTERFACE, WALL};
 
 const ONE: i64 = 589_824;
 /// A deep section falls slowly, or its water would pass the limit of speed.
@@ -20,7 +20,7 @@ pub struct Scene {
 
 impl Scene {
     pub fn grid(&self) -> Grid<9> {
-        Grid::flume(self.sides).expect("a scene's sides are in range")
+        Grid::new(self.sides).expect("a scene's sides are in range")
     }
 }
 
@@ -47,7 +47,7 @@ fn laid(
     water: impl Fn(usize, usize) -> bool,
 ) -> Scene {
     let [nx, nz] = sides;
-    let grid = Grid::flume(sides).expect("sides in range");
+    let grid = Grid::new(sides).expect("sides in range");
     let down = settings.gravity[1];
     let mut store = blank(grid.n);
     let inner = |c: usize| c % nx > 0 && c % nx < nx - 1 && c / nx > 0 && c / nx < nz - 1;

@@ -13,3 +13,5 @@ pub mod Turns
 pub mod Converts
 pub mod Marking
 pub mod Settles
+pub mod Flags
+pub mod Around

@@ -22,7 +22,10 @@ use Rattle.grid.proofs.Lists.{getD-there}
 use Rattle.grid.proofs.Beside.{Offsets}
 use Rattle.grid.proofs.Ranges.{Ranged, ranged-all}
 use Rattle.flow.proofs.Marking.{inside-inner, inner-inside, range-is, box-range, cond-cong, beside-same}
+use Rattle.flow.proofs.Mirrored.{mirrored}
 use Rattle.whole.specs.laws.Search.{any-cong}
+use Rattle.conversion.specs.inner.Flags.{Enclosed}
+use Rattle.conversion.proofs.Flags.{wall-after}
 
 -- ---- pass 2
 
@@ -104,15 +107,18 @@ module _ {s : Sides} {off : List ℕ} {low : ℕ} (o : Offsets s off low) (flags
     only = λ c h. w .only c (omega (arith, w .count, w .flagged .count));
   }
 
+  pub enclosed : Enclosed flags off low
+  enclosed = record {
+    inner = λ c h f. amid-inner o (w .flagged .count) (inner (w .flagged) c h f);
+    mirrored = mirrored s off low (o .table) (o .lowest) (omega (arith, marked-by .reaching .room, marked-by .reaching .few));
+  }
+
   turned-is : (c : ℕ) → c < cellsOf s → turnedBy flags marks off low c ≡ turnedFlag s flags marks c
   unfolding turnedFlag
   turned-is c h = by (inside s c) refl
     where
       there : c < length flags
       there = omega (arith, w .flagged .count)
-
-      wall : (f : ℕ) (a b d e : Bool) → f ≡ 3 → f ≡ flagAfter f a b d e
-      wall f a b d e p = rw p refl
 
       by : (t : Bool) → inside s c ≡ t
           → turnedBy flags marks off low c
@@ -124,7 +130,7 @@ module _ {s : Sides} {off : List ℕ} {low : ℕ} (o : Offsets s off low) (flags
       by false e =
           cond-no (turnedAt flags marks off low c) (getD flags c 0) (box-range o (length flags) c (w .flagged .count) ∙ e)
           ∙ getD-there flags c 0 3 there
-          ∙ wall (flagOf flags c) (besideIn s marks 1 c) (eqb (getD marks c 0) 1) (eqb (getD marks c 0) 2) (besideIn s marks 2 c)
+          ∙ wall-after (flagOf flags c) (besideIn s marks 1 c) (eqb (getD marks c 0) 1) (eqb (getD marks c 0) 2) (besideIn s marks 2 c)
           (getD-there flags c 3 0 there ∙ outside (w .flagged) c there e)
 
   pub turned-box : tab (length flags) (turnedBy flags marks off low) ≡ tab (cellsOf s) (turnedFlag s flags marks)

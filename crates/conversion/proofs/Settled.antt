@@ -15,13 +15,14 @@ use Rattle.whole.specs.laws.Tab.{length-tab, getD-tab, tab-cong}
 use Rattle.lattice.specs.Lattice.{d3q19}
 use Rattle.lattice.specs.Cell.{over, under}
 use Rattle.grid.specs.State.{Scene, byFlag}
-use Rattle.grid.specs.Step.{tradedMass, streamedDensity, unsteady, filled, emptied, besideFilled, besideEmptied, newFlag, flagAfter}
+use Rattle.grid.specs.Step.{tradedMass, streamedDensity, unsteady, filled, emptied, besideFilled, besideEmptied, newFlag}
 use Rattle.grid.specs.inner.Passes.{Amid, amid, Reaching, besideAt, keptBy, EmptyingBy, turnedAt, turnedBy, MarkedBy}
 use Rattle.grid.specs.inner.Between.{firstMark, settledMark}
 use Rattle.grid.proofs.Accurate.{not-both, both-tests}
 use Rattle.grid.proofs.Lists.{getD-there}
 use Rattle.conversion.proofs.Amounts.{inner-cell, new-dense}
 use Rattle.conversion.proofs.Field.{Field, sceneIn, Sound, reaching}
+use Rattle.conversion.proofs.Flags.{wall-after}
 use Rattle.whole.specs.laws.Search.{any-cong}
 use Rattle.grid.proofs.Dense.{filled-wet}
 
@@ -77,10 +78,6 @@ settled-two true true h = absurd (h refl refl)
 settled-two true false h = refl
 settled-two false true h = refl
 settled-two false false h = refl
-
--- a wall stays wall
-wall-after : (f : ℕ) (a b d e : Bool) → f ≡ 3 → f ≡ flagAfter f a b d e
-wall-after f a b d e p = rw p refl
 
 -- ---- in a field
 

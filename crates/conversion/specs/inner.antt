@@ -2,3 +2,4 @@
 pub mod Born
 pub mod Turned
 pub mod Settled
+pub mod Flags

@@ -7,7 +7,7 @@ use native.Mathlib.Omega.{arith}
 use lib.Dec.{eqb}
 use lib.IntN.{ℤ, pos, _-ℤ_}
 use lib.ListN.{getD}
-use borrow.Author.Tests.{ne-eqb, eqb-true}
+use borrow.Author.Tests.{eqb-true}
 use Rattle.lattice.specs.Lattice.{dot, pairOpp, d3q19, density, momentum}
 use Rattle.lattice.specs.Cell.{gasPair}
 use Rattle.lattice.specs.declared.Settings.{Settings}
@@ -62,13 +62,6 @@ unleaning zero b l e = absurd (false≢true l)
 unleaning (suc zero) b l e = (omega arith, e)
 unleaning (suc (suc zero)) b l e = (omega arith, e)
 unleaning (suc (suc (suc n))) b l e = absurd (false≢true l)
-
--- the code's test
-pub liquid-test : (f : ℕ) → (eqb f 1 || eqb f 2) ≡ liquid f
-liquid-test zero = refl
-liquid-test (suc zero) = refl
-liquid-test (suc (suc zero)) = refl
-liquid-test (suc (suc (suc n))) = ap₂ (λ (a b : Bool). a || b) (ne-eqb (suc (suc (suc n))) 1 (λ e. omega arith)) (ne-eqb (suc (suc (suc n))) 2 (λ e. omega arith))
 
 -- over any parts and weights
 module _ (weights : ℕ → ℕ) (flags : List ℕ) (part : ℕ → ℕ → ℤ) (fills off : List ℕ) (low : ℕ) (g : Settings) where

@@ -45,6 +45,12 @@ by-liquid (suc zero) d x h = refl
 by-liquid (suc (suc zero)) d x h = refl
 by-liquid (suc (suc (suc n))) d x h = absurd (false≢true h)
 
+pub by-dry {ℓ} : {A : Type ℓ} (f : ℕ) (d x y : A) → liquid f ≡ false → byFlag f d x y d ≡ d
+by-dry zero d x y h = refl
+by-dry (suc zero) d x y h = absurd (false≢true (sym h))
+by-dry (suc (suc zero)) d x y h = absurd (false≢true (sym h))
+by-dry (suc (suc (suc n))) d x y h = refl
+
 module _ (weights : ℕ → ℕ) (flags : List ℕ) (part : ℕ → ℕ → ℤ) (fills off : List ℕ) (low : ℕ) (g : Settings) (c : ℕ) (f : List ℤ)
     (e : f ≡ tab 19 (streamed (sight weights flags part [] fills off low g) c)) where
   abbrev S : Scene
@@ -170,26 +176,24 @@ module _ (weights : ℕ → ℕ) (flags : List ℕ) (part : ℕ → ℕ → ℤ)
   abbrev T : Scene
   T = sight weights flags part [] fills off low g
 
-  by-dry {ℓ} : {A : Type ℓ} (f : ℕ) (z x : A) → liquid f ≡ false → byFlag f z x x z ≡ z
-  by-dry zero z x h = refl
-  by-dry (suc zero) z x h = absurd (false≢true (sym h))
-  by-dry (suc (suc zero)) z x h = absurd (false≢true (sym h))
-  by-dry (suc (suc (suc n))) z x h = refl
+  pub part-none : (k : ℕ) → movedPart T c k ≡ pos 0
+  unfolding movedPart sight
+  part-none k = by-dry (getD flags c 3) (pos 0) (collided T c k) (collided T c k) d
 
   pub none : tab 19 (movedPart T c) ≡ replicate 19 (pos 0)
-  unfolding movedPart sight open-fold
-  none = tab-cong 19 (movedPart T c) (λ k. pos 0) (pos 0) (λ k h. by-dry (getD flags c 3) (pos 0) (collided T c k) d)
+  unfolding open-fold
+  none = tab-cong 19 (movedPart T c) (λ k. pos 0) (pos 0) (λ k h. part-none k)
 
-  fast : unsteady T c ≡ false
+  pub steady-dry : unsteady T c ≡ false
   unfolding unsteady sight
-  fast = ap (λ (b : Bool). b && not (dense (streamedDensity T c) && slow (streamedDensity T c) (dot (streamedMomentum T c) (streamedMomentum T c)))) d
+  steady-dry = ap (λ (b : Bool). b && not (dense (streamedDensity T c) && slow (streamedDensity T c) (dot (streamedMomentum T c) (streamedMomentum T c)))) d
 
   pub told-dry : Told T c (record { ok = true; fair = true; rho = pos 0 })
   unfolding sight
   told-dry = record {
-    ok = sym (ap not fast);
-    rho = λ h. sym (by-dry (getD flags c 3) (pos 0) (streamedDensity T c) d);
-    fair = λ h. sym (by-dry (getD flags c 3) true (bodyGood d3q19 (collided T c)) d);
+    ok = sym (ap not steady-dry);
+    rho = λ h. sym (by-dry (getD flags c 3) (pos 0) (streamedDensity T c) (streamedDensity T c) d);
+    fair = λ h. sym (by-dry (getD flags c 3) true (bodyGood d3q19 (collided T c)) (bodyGood d3q19 (collided T c)) d);
   }
 
   pub put-dry : (before after : List ℤ) → 19 * c + 19 ≤ length before → after ≡ pasted before (19 * c) (replicate 19 (pos 0))

@@ -1,3 +1,4 @@
+pub mod Stretches
 pub mod Held
 pub mod Trades
 pub mod Stores
@@ -8,6 +9,7 @@ pub mod Mirrored
 pub mod Paces
 pub mod Plain
 pub mod Collisions
+pub mod Gentle
 pub mod Marking
 pub mod Poise
 pub mod Modes

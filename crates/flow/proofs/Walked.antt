@@ -1,7 +1,7 @@
 -- Pass 1, turn by turn: what holds once the first c cells have gone through stages 1 to 4, over what a function of one cell sees; and that once all have,
 -- the second set's parts, masses and marks are those of the step's scene. Assumes nothing.
 use mathlib.Core.Path.{_≡_, refl, sym, ap, _∙_, subst}
-use mathlib.Core.Logic.{_≢_}
+use mathlib.Core.Logic.{_≢_, ⊎-elim}
 use mathlib.Core.Bool.{Bool, true, false, _&&_, not, cond, false≢true}
 use mathlib.Core.List.{List, []}
 use Prim.Native.Nat.{ℕ, zero, suc, _+_, _-_, _*_, _≤_, _<_}
@@ -15,8 +15,9 @@ use borrow.Author.Tests.{eqb-true}
 use borrow.Author.Count.{below-more}
 use Rattle.whole.specs.laws.Bools.{and-left, and-right}
 use Rattle.whole.specs.Fold.{tab, first}
+use Rattle.whole.specs.laws.Order.{≤-or}
 use Rattle.whole.specs.laws.Search.{first-all, first-is}
-use Rattle.whole.specs.laws.Tab.{Upto, upto-zero, upto-more, upto-all}
+use Rattle.whole.specs.laws.Tab.{Upto, upto-zero, upto-more, upto-all, length-tab}
 use Rattle.lattice.specs.Lattice.{d3q19}
 use Rattle.lattice.specs.Cell.{over, under}
 use Rattle.lattice.specs.declared.Settings.{Settings}
@@ -28,12 +29,14 @@ use Rattle.grid.specs.inner.Between.{movedPart, movedMass, firstMark}
 use Rattle.grid.specs.inner.Halfway.{Moved}
 use Rattle.grid.specs.inner.Pasted.{pasted}
 use Rattle.grid.specs.inner.Sight.{sight}
-use Rattle.grid.proofs.Blocks.{Blocks, blocks-more, blocks-all}
+use Rattle.grid.proofs.Blocks.{Blocks, blocks-more, blocks-all, pasted-after}
 use Rattle.grid.proofs.Same.{body-same}
 use Rattle.flow.specs.declared.moving.Put.{Put}
 use Rattle.flow.specs.inner.PutAt.{Told}
 use Rattle.flow.specs.inner.Flowed.{MovedTo}
+use Rattle.flow.specs.inner.Stretch.{Cleared}
 use Rattle.flow.specs.inner.Trade.{markFor}
+use Rattle.flow.proofs.Collisions.{by-dry, part-none, steady-dry}
 use Rattle.flow.proofs.Onward.{stepOn, fast-seen, part-seen, mass-seen, mark-seen, collided-seen}
 
 module _ (weights : ℕ → ℕ) (flags : List ℕ) (part : ℕ → ℕ → ℤ) (masses : List ℤ) (fills off : List ℕ) (low : ℕ) (g : Settings) where
@@ -129,6 +132,37 @@ module _ (weights : ℕ → ℕ) (flags : List ℕ) (part : ℕ → ℕ → ℤ)
         (mark-is m k e (ek ∙ ap (λ (x : ℕ). byFlag x 0 (cond (over m′ r′) 1 (cond (under m′ r′) 2 0)) 0 0) ef ∙ ap (λ (x : ℤ). byFlag (getD flags c 3) 0 (cond (over x r′) 1 (cond (under x r′) 2 0)) 0 0) em′
         ∙ ap (λ (x : ℤ). byFlag (getD flags c 3) 0 (cond (over m x) 1 (cond (under m x) 2 0)) 0 0) er′))
 
+  -- cells that are dry and have no parts already, so that their masses and marks alone are made 0
+  module _ {c e : ℕ} (h : c ≤ e) (dry : (j : ℕ) → c ≤ j → j < e → liquid (getD flags j 3) ≡ false) where
+    both : (P : ℕ → Type 0) → ((j : ℕ) → j < c → P j) → ((j : ℕ) → c ≤ j → j < e → P j) → (j : ℕ) → j < e → P j
+    both P before here j l = ⊎-elim (λ m. here j m l) (λ m. before j m) (≤-or c j)
+
+    mass-none : (j : ℕ) → c ≤ j → j < e → massOf j ≡ pos 0
+    unfolding massOf rhoOf
+    mass-none j l m =
+        by-dry (getD flags j 3) (rhoOf j) (tradedMass trader j) (rhoOf j) (dry j l m)
+        ∙ by-dry (getD flags j 3) (pos 0) (streamedDensity seen j) (streamedDensity seen j) (dry j l m)
+
+    mark-none : (j : ℕ) → c ≤ j → j < e → markOf j ≡ 0
+    unfolding markOf
+    mark-none j l m = by-dry (getD flags j 3) 0 _ 0 (dry j l m)
+
+    fair-dry : (j : ℕ) → c ≤ j → j < e → fairOf j ≡ true
+    unfolding fairOf
+    fair-dry j l m = by-dry (getD flags j 3) true (bodyGood d3q19 (collided seen j)) (bodyGood d3q19 (collided seen j)) (dry j l m)
+
+    pub walked-dry : {marks₀ : List ℕ} {part2 : ℕ → ℕ → ℤ} {masses2 after : List ℤ} {marks new : List ℕ} {fair calm : Bool} → Walked marks₀ part2 masses2 marks fair calm c
+        → ((j k : ℕ) → c ≤ j → j < e → k < 19 → part2 j k ≡ pos 0) → Cleared (pos 0) c e masses2 after → Cleared 0 c e marks new → Walked marks₀ part2 after new fair calm e
+    walked-dry {part2 = part2} {after = after} {new = new} w none zm zk = record {
+      steady = both (λ j. unsteady seen j ≡ false) (w .steady) (λ j l m. steady-dry weights flags part fills off low g j (dry j l m));
+      parts-done = λ j k l n. both (λ j. part2 j k ≡ movedPart seen j k) (λ j l. w .parts-done j k l n) (λ j l m. none j k l m n ∙ sym (part-none weights flags part fills off low g j (dry j l m) k)) j l;
+      masses-done = both (λ j. getD after j (pos 0) ≡ massOf j) (λ j l. zm .before j l ∙ w .masses-done j l) (λ j l m. zm .here j l m ∙ sym (mass-none j l m));
+      marks-done = both (λ j. getD new j 0 ≡ markOf j) (λ j l. zk .before j l ∙ w .marks-done j l) (λ j l m. zk .here j l m ∙ sym (mark-none j l m));
+      marks-left = λ j l. zk .after j l ∙ w .marks-left j (omega arith);
+      fair-tells = λ f. both (λ j. fairOf j ≡ true) (w .fair-tells f) fair-dry;
+      calm-tells = λ f. both (λ j. markOf j ≡ 0) (w .calm-tells f) mark-none;
+    }
+
 -- ---- to the step's scene
 module _ (weights : ℕ → ℕ) (G : Grid) (g : Settings) (flags : List ℕ) (part : ℕ → ℕ → ℤ) (masses : List ℤ) (fills off : List ℕ) (low n : ℕ)
     (placed : (c : ℕ) → c < n → liquid (getD flags c 3) ≡ true → (i : ℕ) → i < 19 → c - low + getD off i 0 ≡ G .near c i) where
@@ -178,6 +212,12 @@ module _ (weights : ℕ → ℕ) (G : Grid) (g : Settings) (flags : List ℕ) (p
   }
 
 -- ---- in the box's list
+-- the cells after the one that is put stay
+pub put-past : (S : Scene) (parts2 after : List ℤ) (c : ℕ) → 19 * c + 19 ≤ length parts2 → after ≡ pasted parts2 (19 * c) (tab 19 (movedPart S c))
+    → (j k : ℕ) → c + 1 ≤ j → partOf after j k ≡ partOf parts2 j k
+put-past S parts2 after c h e j k l =
+    ap (λ (x : List ℤ). partOf x j k) e ∙ pasted-after parts2 (19 * c) (tab 19 (movedPart S c)) h (length-tab 19 (movedPart S c)) (19 * j + k) (omega arith)
+
 pub put-more : (S : Scene) (parts2 after : List ℤ) (c : ℕ) → 19 * c + 19 ≤ length parts2 → after ≡ pasted parts2 (19 * c) (tab 19 (movedPart S c))
     → Blocks (movedPart S) parts2 c → Blocks (movedPart S) after (c + 1)
 put-more S parts2 after c h e b =

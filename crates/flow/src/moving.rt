@@ -5,9 +5,13 @@ use collision::collide::collided;
 use collision::gravity::pulled;
 use grid::cells::own;
 use grid::cells::paste;
+use grid::kinds::is_liquid;
+use lattice::Flow;
 use lattice::Settings;
 use lattice::directions::flow_of;
+use lattice::moments::speed_squared;
 use lattice::moments::steady;
+use lattice::moments::times;
 use lattice::rules::all_inside;
 use lattice::rules::all_zero;
 ghost use mathlib.Core.Path.{_≡_};
@@ -18,7 +22,7 @@ ghost use lib.IntN.{ℤ, pos, natAbs};
 ghost use lib.ListN.{length, getD, replicate};
 ghost use Rattle.whole.specs.Fold.{tab};
 ghost use Rattle.lattice.specs.Lattice.{d3q19};
-ghost use Rattle.lattice.specs.inner.Held.{partsOf, Bounded};
+ghost use Rattle.lattice.specs.inner.Held.{partsOf, Bounded, Tame, steadyFlow};
 ghost use Rattle.lattice.specs.Body.{bodyGood};
 ghost use Rattle.turbulence.specs.inner.Post.{Keeps};
 ghost use Rattle.grid.specs.State.{liquid};
@@ -26,6 +30,7 @@ ghost use Rattle.grid.specs.Step.{streamed};
 ghost use Rattle.grid.specs.Outcome.{settingsGood};
 ghost use Rattle.grid.specs.inner.Pasted.{pasted};
 ghost use Rattle.grid.specs.inner.Sight.{boxSight};
+ghost use Rattle.flow.specs.inner.Gentle.{gentle, Follows};
 ghost use Rattle.flow.specs.inner.PutAt.{PutAt, Putting};
 
 // Whether a cell passed stage 3's test; if so, whether its new parts keep test 6's rules, and its density.
@@ -35,18 +40,23 @@ pub struct Put {
     pub rho: i32,
 }
 
-fn wet(f: u8) -> bool
-    ensures { λ r. ⌜ r ≡ liquid f ⌝ }
+// Whether a flow is so far below the limit of speed that its collision cannot reach it.
+fn gentle(v: Flow) -> bool
+    requires { ⌜ Tame v ⌝ }
+    ensures { λ r. ⌜ r ≡ gentle v ⌝ }
 {
-    (f == 1) | (f == 2)
+    10 * speed_squared(v) <= times(v.rho, v.rho)
 }
 
-// Whether new parts keep test 6's rules. As lattice's `fair_parts`, which has other callers: with one alone it melts into the pass over all
-// cells, and the parts stay in registers.
-fn fair(f: [i32; 19]) -> bool
-    requires { ⌜ Bounded f 1073741824 33554432 ⌝ }
+// Whether new parts keep test 6's rules, where v is the flow that they were collided at: only where that is near the limit are they added up.
+// As lattice's `fair_parts`, which has other callers: with one alone it melts into the pass over all cells, and the parts stay in registers.
+fn fair(f: [i32; 19], v: Flow) -> bool
+    requires { ⌜ Bounded f 1073741824 33554432 × (steadyFlow v ≡ true) × Follows v f ⌝ }
     ensures { λ r. ⌜ r ≡ bodyGood d3q19 (partsOf f) ⌝ }
 {
+    if gentle(v) {
+        return all_inside(f);
+    }
     all_inside(f) & steady(flow_of(f))
 }
 
@@ -74,13 +84,13 @@ fn put_moved(
     paste(parts2, 19 * c, r);
     Put {
         ok: true,
-        fair: fair(r),
+        fair: fair(r, v),
         rho: v.rho,
     }
 }
 
-// Zeros for cell c, which is dry. A cell that was dry a step or two ago has them already, and looking costs half of what writing does: where most
-// cells are dry a step then takes half the time.
+// Zeros for cell c, which is dry. Where nothing is known of the second set, as in a single step, most dry cells have them already, and looking costs
+// half of what writing does.
 fn dry_out(parts2: &mut [i32], c: usize)
     requires { ⌜ 19 * c + 19 ≤ length (now parts2) ⌝ }
     ensures { λ r. ⌜ now (parts2 .exit) ≡ pasted (now (parts2 .entry)) (19 * c) (replicate 19 (pos 0)) ⌝ }
@@ -107,7 +117,7 @@ pub(crate) fn put_parts(
     requires { ⌜ Putting (now flags) (now parts) (now fills) (now parts2) mark (now off) (now from) low c g keep ⌝ }
     ensures { λ r. ⌜ PutAt (boxSight (now (flags .entry)) (now (parts .entry)) [] (now (fills .entry)) (now (off .entry)) low g) c (now (parts2 .entry)) (now (parts2 .exit)) r ⌝ }
 {
-    if wet(flags[c]) {
+    if is_liquid(flags[c]) {
         return put_moved(
             chosen(flags, parts, fills, mark, off, from, low, c),
             parts2,

@@ -1,6 +1,6 @@
 -- What the passes may take for granted: from tests 1 to 6, that the set is sized and sound, and what each liquid cell then has. Assumes nothing.
 use mathlib.Core.Path.{_≡_, refl, sym, ap, _∙_, subst}
-use mathlib.Core.Bool.{Bool, true, _&&_, not, cond, false≢true}
+use mathlib.Core.Bool.{Bool, true, false, _&&_, not, cond, false≢true}
 use Prim.Native.Nat.{ℕ, zero, suc, _+_, _*_, _≤_, _<_}
 use native.Mathlib.Nat.{lt-suc-self}
 use native.Mathlib.Omega.{arith}
@@ -15,6 +15,7 @@ use Rattle.whole.specs.laws.Search.{all-at, first-none}
 use Rattle.lattice.specs.Lattice.{dot, d3q19, density, momentum}
 use Rattle.lattice.specs.Cell.{partGood, massGood, carryGood, dense, slow}
 use Rattle.lattice.specs.declared.Settings.{Settings}
+use Rattle.lattice.proofs.Equal.{eqZ-true}
 use Rattle.grid.specs.declared.Sides.{Sides}
 use Rattle.grid.specs.declared.Answer.the-variants.{Done}
 use Rattle.grid.specs.Grid.{cellsOf, gridOf, box}
@@ -24,6 +25,7 @@ use Rattle.grid.specs.Good.{dryGood, interfaceGood, fluidGood, fillGood,
 use Rattle.lattice.specs.Body.{bodyGood, eqZ}
 use Rattle.grid.specs.Outcome.{lengthsGood, goodAnswer}
 use Rattle.grid.specs.inner.Between.{Sized, Ready}
+use Rattle.grid.specs.inner.Halfway.{Dried}
 use Rattle.grid.specs.inner.Sight.{Body}
 use Rattle.grid.proofs.Accepted.{Sound, sound, none-found, cell-good}
 
@@ -57,6 +59,12 @@ liquid-body (suc zero) dry b m e l h = and-left b m h
 liquid-body (suc (suc zero)) dry b m e l h = and-left b e h
 liquid-body (suc (suc (suc n))) dry b m e l h = absurd (false≢true l)
 
+dry-good : (f : ℕ) (dry i u : Bool) → liquid f ≡ false → byFlag f dry i u dry ≡ true → dry ≡ true
+dry-good zero dry i u l h = h
+dry-good (suc zero) dry i u l h = absurd (false≢true (sym l))
+dry-good (suc (suc zero)) dry i u l h = absurd (false≢true (sym l))
+dry-good (suc (suc (suc n))) dry i u l h = h
+
 interface-mass : (f : ℕ) (dry b m e : Bool) → f ≡ 1 → byFlag f dry (b && m) (b && e) dry ≡ true → m ≡ true
 interface-mass f dry b m e l h = and-right b m (subst (λ (k : ℕ). byFlag k dry (b && m) (b && e) dry ≡ true) l h)
 
@@ -82,6 +90,14 @@ module _ (n : ℕ) (t : State) (cells : (c : ℕ) → c < n → cellGood d3q19 t
             (interface-mass (t .flag c) (dryGood d3q19 t c) (bodyGood d3q19 (t .part c)) (massGood (t .mass c)) (eqZ (t .mass c) (density d3q19 (t .part c))) l (kinds c h));
       }
 
+  -- a dry cell's parts are 0
+  pub cell-dry : (c k : ℕ) → c < n → k < 19 → liquid (t .flag c) ≡ false → t .part c k ≡ pos 0
+  unfolding dryGood d3q19
+  cell-dry c k h hk l =
+      eqZ-true (t .part c k) (pos 0)
+      (all-at 19 (λ k. eqZ (t .part c k) (pos 0))
+      (and-right (eqZ (t .mass c) (pos 0)) (all 19 (λ k. eqZ (t .part c k) (pos 0))) (dry-good (t .flag c) (dryGood d3q19 t c) (interfaceGood d3q19 t c) (fluidGood d3q19 t c) l (kinds c h))) k hk)
+
   -- every fill is as document 01 has it
   pub cell-fill : (c : ℕ) → c < n → t .fill c ≡ fillFor (t .flag c) (t .mass c) (density d3q19 (t .part c))
   unfolding cellGood fillGood
@@ -104,6 +120,11 @@ module _ (s : Sides) (g : Settings) (a : Lent) (r : Ready s g a) where
   pub ready-cell : (c : ℕ) → c < cellsOf s → cellGood d3q19 (stateOf 18 a) c ≡ true
   unfolding gridOf box cellsOf
   ready-cell c h = cell-good d3q19 (gridOf s) (stateOf 18 a) rules c h
+
+  -- so the flags tell where parts are 0
+  pub ready-dried : Dried (a .flags) (a .parts)
+  unfolding stateOf
+  ready-dried c k h hk l = cell-dry (cellsOf s) (stateOf 18 a) ready-cell c k (subst (λ (n : ℕ). c < n) (r .sized .flags) h) hk l
 
   -- the carry is in its range
   pub ready-carry : carryGood (getD (a .carry) 0 (pos 0)) ≡ true

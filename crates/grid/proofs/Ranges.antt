@@ -14,10 +14,11 @@ use lib.ListN.{length, getD, set, length-set}
 use lib.Seq.{getD-set-same, getD-set-other}
 use borrow.Author.Tests.{le-leb, lt-leb, lt-ltb, le-ltb}
 use Rattle.whole.specs.laws.Bools.{cond-yes, cond-no, and-true}
-use Rattle.whole.specs.Fold.{tab}
+use Rattle.whole.specs.Fold.{all, tab}
 use Rattle.whole.specs.laws.Order.{≤-or}
+use Rattle.whole.specs.laws.Search.{all-at}
 use Rattle.whole.specs.laws.Tab.{upto-all}
-use Rattle.grid.specs.inner.Passes.{Lacking, Unmarked}
+use Rattle.grid.specs.inner.Passes.{Past}
 
 -- two tests of order that go together
 pub ltb-same : (a b c d : ℕ) → (a < b → c < d) → (c < d → a < b) → ltb a b ≡ ltb c d
@@ -42,19 +43,15 @@ over-gap P a b h keep p = subst P (omega arith) (go (b - a) (omega arith))
 pub more-places : (P : ℕ → Type 0) (a c n : ℕ) → ((j : ℕ) → a ≤ j → j < c → P j) → ((k : ℕ) → k < n → P (c + k)) → (j : ℕ) → a ≤ j → j < c + n → P j
 more-places P a c n p q j h l = ⊎-elim (λ m. subst P (omega arith) (q (j - c) (omega arith))) (λ m. p j h m) (≤-or c j)
 
--- places of another kind, and some more
-pub lacking-first : (bytes : List ℕ) (a k : ℕ) → a ≤ length bytes → Lacking bytes a k a
-lacking-first bytes a k h = record { least = omega arith; most = h; before = λ j u v. absurd (omega arith) }
+-- no place yet, some more, and 32 more by a test of them all together
+pub past-first : (P : ℕ → Type 0) (n a : ℕ) → a ≤ n → Past P n a a
+past-first P n a h = record { least = omega arith; most = h; before = λ j u v. absurd (omega arith) }
 
-pub lacking-more : (bytes : List ℕ) (a k c n : ℕ) → Lacking bytes a k c → c + n ≤ length bytes → ((i : ℕ) → i < n → getD bytes (c + i) 0 ≡ k → ⊥) → Lacking bytes a k (c + n)
-lacking-more bytes a k c n u h z = record { least = omega (arith, u .least); most = h; before = more-places (λ j. getD bytes j 0 ≡ k → ⊥) a c n (u .before) z }
+pub past-more : {P : ℕ → Type 0} {n a c : ℕ} (k : ℕ) → Past P n a c → c + k ≤ n → ((i : ℕ) → i < k → P (c + i)) → Past P n a (c + k)
+past-more {P} {n} {a} {c} k u h z = record { least = omega (arith, u .least); most = h; before = more-places P a c k (u .before) z }
 
--- places without a mark, and some more
-pub unmarked-first : (marks : List ℕ) (a : ℕ) → a ≤ length marks → Unmarked marks a a
-unmarked-first marks a h = record { least = omega arith; most = h; before = λ j k l. absurd (omega arith) }
-
-pub unmarked-more : (marks : List ℕ) (a c n : ℕ) → Unmarked marks a c → c + n ≤ length marks → ((k : ℕ) → k < n → getD marks (c + k) 0 ≡ 0) → Unmarked marks a (c + n)
-unmarked-more marks a c n u h z = record { least = omega (arith, u .least); most = h; before = more-places (λ j. getD marks j 0 ≡ 0) a c n (u .before) z }
+pub past-together : {P : ℕ → Type 0} {n a c : ℕ} (f : ℕ → Bool) → ((j : ℕ) → f j ≡ true → P j) → Past P n a c → c + 32 ≤ n → all 32 (λ i. f (c + i)) ≡ true → Past P n a (c + 32)
+past-together {P} {n} {a} {c} f tells u h e = past-more 32 u h (λ i l. tells (c + i) (all-at 32 (λ i. f (c + i)) e i l))
 
 module _ {ℓ} {A : Type ℓ} (d : A) (f : ℕ → A) (old : List A) (a b : ℕ) where
   abbrev pub ranged : ℕ → A
@@ -67,7 +64,7 @@ module _ {ℓ} {A : Type ℓ} (d : A) (f : ℕ → A) (old : List A) (a b : ℕ)
     pub done : (j : ℕ) → j < c → getD out j d ≡ ranged j
     pub rest : (j : ℕ) → c ≤ j → getD out j d ≡ getD old j d
 
-  ranged-low : (j : ℕ) → j < a → ranged j ≡ getD old j d
+  pub ranged-low : (j : ℕ) → j < a → ranged j ≡ getD old j d
   ranged-low j h = cond-no (f j) (getD old j d) (ap (λ (t : Bool). t && ltb j b) (lt-leb a j h))
 
   ranged-high : (j : ℕ) → b ≤ j → ranged j ≡ getD old j d
@@ -77,7 +74,7 @@ module _ {ℓ} {A : Type ℓ} (d : A) (f : ℕ → A) (old : List A) (a b : ℕ)
       never true t e = e
       never false t e = refl
 
-  ranged-in : (j : ℕ) → a ≤ j → j < b → ranged j ≡ f j
+  pub ranged-in : (j : ℕ) → a ≤ j → j < b → ranged j ≡ f j
   ranged-in j h k = cond-yes (f j) (getD old j d) (and-true (leb a j) (ltb j b) (le-leb a j h) (lt-ltb j b k))
 
   pub ranged-first : a ≤ b → Ranged old a

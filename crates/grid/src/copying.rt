@@ -1,4 +1,4 @@
-// One slice's content put into another of its length, and marks cleared.
+// One slice's content put into another of its length, and the same byte everywhere.
 ghost use mathlib.Core.Path.{_≡_};
 ghost use lib.ListN.{length, replicate};
 
@@ -46,13 +46,20 @@ pub fn copy_i64(src: &[i64], dst: &mut [i64])
     }
 }
 
+// The same byte in every cell.
+pub fn put_all(bytes: &mut [u8], b: u8)
+    ensures { λ r. ⌜ now (bytes .exit) ≡ replicate (length (now (bytes .entry))) b ⌝ }
+{
+    let mut i = 0;
+    while i < bytes.len() {
+        bytes[i] = b;
+        i += 1;
+    }
+}
+
 // Marks are 0 when a step is over.
 pub fn clear(marks: &mut [u8])
     ensures { λ r. ⌜ now (marks .exit) ≡ replicate (length (now (marks .entry))) 0 ⌝ }
 {
-    let mut i = 0;
-    while i < marks.len() {
-        marks[i] = 0;
-        i += 1;
-    }
+    put_all(marks, 0);
 }

@@ -1,11 +1,12 @@
 // Where a pass that does much at few cells goes on: from one such cell to the next. Its own loop would keep what it counts in memory.
+use crate::kinds::either_liquid;
 ghost use mathlib.Core.Path.{_≡_};
 ghost use mathlib.Core.Bool.{not};
 ghost use Prim.Native.Nat.{_+_, _≤_};
 ghost use lib.Dec.{eqb};
 ghost use lib.ListN.{length, getD};
 ghost use Rattle.whole.specs.Fold.{all};
-ghost use Rattle.grid.specs.inner.Passes.{Lacking, NextOf, NextMarked, Unmarked};
+ghost use Rattle.grid.specs.inner.Passes.{Dry, Lacking, NextOf, NextWet, NextMarked, Unmarked, eitherLiquid};
 
 // Whether none of 32 cells from a on is of a kind. By no way out, so that they are looked at together.
 fn lacking(flags: &[u8], a: usize, kind: u8) -> bool
@@ -88,6 +89,50 @@ pub fn next_marked(marks: &[u8], a: usize) -> usize
     let mut c = past_quiet(marks, a);
     while c < marks.len() {
         if marks[c] != 0 {
+            return c;
+        }
+        c += 1;
+    }
+    c
+}
+
+// Whether 32 cells from a on are dry in both sets. By no way out, so that they are looked at together.
+fn dry(flags: &[u8], flags2: &[u8], a: usize) -> bool
+    requires { ⌜ (a + 32 ≤ length (now flags)) × (length (now flags2) ≡ length (now flags)) ⌝ }
+    ensures { λ r. ⌜ r ≡ all 32 (λ k. not (eitherLiquid (now (flags .entry)) (now (flags2 .entry)) (a + k))) ⌝ }
+{
+    let mut none = true;
+    let mut k = 0;
+    while k < 32 {
+        none = none & !either_liquid(flags, flags2, a + k);
+        k += 1;
+    }
+    none
+}
+
+// Past cells from a on that are dry in both sets, 32 at a time.
+fn past_dry(flags: &[u8], flags2: &[u8], a: usize) -> usize
+    requires { ⌜ (a ≤ length (now flags)) × (length (now flags2) ≡ length (now flags)) ⌝ }
+    ensures { λ r. ⌜ Dry (now (flags .entry)) (now (flags2 .entry)) a r ⌝ }
+{
+    let mut c = a;
+    while flags.len() - c >= 32 {
+        if !dry(flags, flags2, c) {
+            return c;
+        }
+        c += 32;
+    }
+    c
+}
+
+// The next cell that is liquid in one of two sets, from a on; the number of cells if there is none.
+pub fn next_wet(flags: &[u8], flags2: &[u8], a: usize) -> usize
+    requires { ⌜ (a ≤ length (now flags)) × (length (now flags2) ≡ length (now flags)) ⌝ }
+    ensures { λ r. ⌜ NextWet (now (flags .entry)) (now (flags2 .entry)) a r ⌝ }
+{
+    let mut c = past_dry(flags, flags2, a);
+    while c < flags.len() {
+        if either_liquid(flags, flags2, c) {
             return c;
         }
         c += 1;

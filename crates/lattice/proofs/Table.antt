@@ -116,15 +116,24 @@ units-right : all 19 unit-right ≡ true
 unfolding open-fold open-lattice unit-right
 units-right = refl
 
--- e·v is within the sum of the components' bounds
-pub dot-in : (i : ℕ) → i < 19 → (v : V3) → Within (v .x) 393216 → Within (v .y) 393216 → Within (v .z) 393216 → Within (dot (d3q19 .e i) v) 1179648
+-- no direction goes further than one cell along an axis
+pub unit-in : (i : ℕ) → i < 19 → Within (d3q19 .e i .x) 1 × Within (d3q19 .e i .y) 1 × Within (d3q19 .e i .z) 1
 unfolding unit-right
-dot-in i h v hx hy hz =
+unit-in i h =
     let u = all-at 19 unit-right units-right i h in
     let x = leb (natAbs (d3q19 .e i .x)) 1 in
     let y = leb (natAbs (d3q19 .e i .y)) 1 in
-    let z = leb (natAbs (d3q19 .e i .z)) 1 in
-    let ex : Within (d3q19 .e i .x) 1 = record { abs = leb-true _ 1 (and-left x (y && z) u) } in
-    let ey : Within (d3q19 .e i .y) 1 = record { abs = leb-true _ 1 (and-left y z (and-right x (y && z) u)) } in
-    let ez : Within (d3q19 .e i .z) 1 = record { abs = leb-true _ 1 (and-right y z (and-right x (y && z) u)) } in
+    let z = leb (natAbs (d3q19 .e i .z)) 1 in (
+      record { abs = leb-true _ 1 (and-left x (y && z) u) },
+      record { abs = leb-true _ 1 (and-left y z (and-right x (y && z) u)) },
+      record { abs = leb-true _ 1 (and-right y z (and-right x (y && z) u)) },
+    )
+
+-- e·v is within the sum of the components' bounds
+pub dot-in : (i : ℕ) → i < 19 → (v : V3) → Within (v .x) 393216 → Within (v .y) 393216 → Within (v .z) 393216 → Within (dot (d3q19 .e i) v) 1179648
+dot-in i h v hx hy hz =
+    let u = unit-in i h in
+    let ex = u .0 in
+    let ey = u .1 in
+    let ez = u .2 in
     within-by (search reading depth 20) tt

@@ -19,11 +19,11 @@ use Rattle.grid.specs.Outcome.{goodAnswer, moveAnswer, lengthsGood, sceneOf, en
 use Rattle.grid.specs.Ground.{boxGround}
 use Rattle.grid.specs.Demands.{gridAnswer}
 use Rattle.grid.specs.inner.Between.{Sized, Ready}
-use Rattle.grid.specs.inner.Halfway.{Alike, Stepping, Advanced}
+use Rattle.grid.specs.inner.Halfway.{Dried, Alike, Stepping, Resuming, Advanced}
 use Rattle.grid.specs.Promise.{RanTo}
 use Rattle.grid.proofs.Box.{grid-laid}
 use Rattle.grid.proofs.Listed.{same-listed, lengths-listed}
-use Rattle.grid.proofs.Prepared.{sized}
+use Rattle.grid.proofs.Prepared.{sized, ready-dried}
 use Rattle.grid.proofs.Reached.{step-good}
 use Rattle.grid.proofs.Conserved.{good-any}
 use Rattle.step.proofs.Finishes.{alike-sized, like-sized}
@@ -88,11 +88,11 @@ lawful s g marks room = record {
 
 -- ---- one turn, by the way it goes
 module _ (s : Sides) (g : Settings) (back : Bool) (a b : Lent) (marks : List ℕ) where
-  pub stepping-back : back ≡ true → Stepping s g (here back a b) (there back a b) marks → Stepping s g b a marks
-  stepping-back e h = subst (λ (t : Bool). Stepping s g (here t a b) (there t a b) marks) e h
+  pub resuming-back : back ≡ true → Resuming s g (here back a b) (there back a b) marks → Resuming s g b a marks
+  resuming-back e h = subst (λ (t : Bool). Resuming s g (here t a b) (there t a b) marks) e h
 
-  pub stepping-forth : back ≡ false → Stepping s g (here back a b) (there back a b) marks → Stepping s g a b marks
-  stepping-forth e h = subst (λ (t : Bool). Stepping s g (here t a b) (there t a b) marks) e h
+  pub resuming-forth : back ≡ false → Resuming s g (here back a b) (there back a b) marks → Resuming s g a b marks
+  resuming-forth e h = subst (λ (t : Bool). Resuming s g (here t a b) (there t a b) marks) e h
 
   pub crossed-back : (answer : Answer) (first : Lent) → back ≡ true → Advanced s g b answer first marks → Crossed s g back a b answer first b marks
   crossed-back answer first e h = subst (λ (t : Bool). Crossed s g t a b answer first b marks) (sym e) (record { moved = h; kept = refl })
@@ -114,6 +114,16 @@ module _ (back : Bool) (a b : Lent) where
   evened-forth second e h = subst (λ (t : Bool). Evened t a b a second) (sym e) (record { first-is = refl; second-is = h })
 
 -- ---- the loop
+
+-- the flags of the set that the next turn writes tell where its parts are 0
+abbrev pub Dry : Bool → Lent → Lent → Type 0
+Dry back a b = Dried (there back a b .flags) (there back a b .parts)
+
+-- a set that is left as it was tells it if it was good
+kept-dry : (s : Sides) (g : Settings) (back : Bool) (a b first second : Lent) → Ready s g (here back a b) → here back first second ≡ here back a b → Dry (not back) first second
+kept-dry s g true a b first second r e = subst (λ (x : Lent). Dried (x .flags) (x .parts)) (sym e) (ready-dried s g b r)
+kept-dry s g false a b first second r e = subst (λ (x : Lent). Dried (x .flags) (x .parts)) (sym e) (ready-dried s g a r)
+
 abbrev pub Going : ℕ → Sides → Settings → Lent → List ℕ → ℕ → Bool → Lent → Lent → List ℕ → Type 0
 Going steps s g start marks₀ k back a b marks = Courses.Going (course s g marks₀) steps start k back a b marks
 
@@ -134,8 +144,13 @@ module _ (steps : ℕ) (s : Sides) (g : Settings) (start : Lent) (marks₀ : Lis
   pub going-alike : (back : Bool) (a b : Lent) (marks : List ℕ) → Going steps s g start marks₀ k back a b marks → Alike (here back a b) (there back a b)
   going-alike back a b marks i = Courses.going-alike (course s g marks₀) back i
 
-  pub going-stepping : (back : Bool) (a b : Lent) (marks : List ℕ) → Going steps s g start marks₀ k back a b marks → Stepping s g (here back a b) (there back a b) marks
-  going-stepping back a b marks i = record { ready = i .ready; alike = going-alike back a b marks i; marks-room = i .marked }
+  pub going-resuming : (back : Bool) (a b : Lent) (marks : List ℕ) → Going steps s g start marks₀ k back a b marks → Dry back a b → Resuming s g (here back a b) (there back a b) marks
+  going-resuming back a b marks i d = record { stepping = record { ready = i .ready; alike = going-alike back a b marks i; marks-room = i .marked }; dried = d }
+
+  -- after a turn the next one writes the set that this one read
+  pub going-dry : (back : Bool) (a b first second : Lent) (marks after : List ℕ) (answer : Answer) → Going steps s g start marks₀ k back a b marks
+      → Crossed s g back a b answer first second after → Dry (not back) first second
+  going-dry back a b first second marks after answer i t = kept-dry s g back a b first second (i .ready) (t .kept)
 
   module _ (h : k < steps) where
     pub going-on : (back : Bool) (a b first second : Lent) (marks after : List ℕ) (answer : Answer) → answer ≡ Done → Going steps s g start marks₀ k back a b marks

@@ -4,7 +4,7 @@ use mathlib.Core.Bool.{Bool, true, false, _&&_, cond, false≢true}
 use mathlib.Core.List.{List, []}
 use Prim.Native.Nat.{ℕ, suc, _*_, _/_, _%_, _≤_, _<_}
 use lib.IntN.{ℤ}
-use lib.ListN.{length, replicate, length-replicate}
+use lib.ListN.{length, getD, replicate, getD-replicate, length-replicate}
 use Rattle.whole.specs.laws.Bools.{and-left, and-right}
 use Rattle.whole.specs.Fold.{tab, first}
 use Rattle.whole.specs.laws.Tab.{length-tab}
@@ -20,7 +20,7 @@ use Rattle.grid.specs.Step.{flagAt, unsteady, collided, newFlag, newPart, newMa
 use Rattle.grid.specs.Good.{badRule}
 use Rattle.grid.specs.Outcome.{accepted, ifNone, moveAnswer, sceneOf, nextOf}
 use Rattle.grid.specs.inner.Between.{Sized, Ready, movedPart}
-use Rattle.grid.specs.inner.Halfway.{Alike, Moved, Turning, Turned, Stepping, Advanced}
+use Rattle.grid.specs.inner.Halfway.{Dried, Alike, Moved, Turning, Turned, Stepping, Resuming, Advanced}
 use Rattle.grid.specs.inner.Passes.{lowOf, offsetOf, openedBy, openedMark}
 use Rattle.grid.proofs.Beside.{Offsets}
 use Rattle.grid.proofs.Listed.{same-lent, lengths-listed}
@@ -100,10 +100,12 @@ module _ (s : Sides) (g : Settings) (a : Lent) where
     stopped-answer h e = Tests.stopped-answer (fieldOf s g a) (field .stands) h (sym (ap (first (cellsOf s)) fast-carried) ∙ e)
 
     -- after pass 0
-    pub flowable : (before : List ℕ) {parts2 masses2 : List ℤ} {marks : List ℕ} → length parts2 ≡ 19 * cellsOf s → length masses2 ≡ cellsOf s → length marks ≡ cellsOf s
-        → marks ≡ tab (cellsOf s) (openedMark s (a .flags) before) → Flowable s g (a .flags) (a .parts) (a .masses) (a .fills) parts2 masses2 marks
-    flowable before p m k e = record {
+    pub flowable : (before : List ℕ) {flags2 : List ℕ} {parts2 masses2 : List ℤ} {marks : List ℕ} → length flags2 ≡ cellsOf s → Dried flags2 parts2 → length parts2 ≡ 19 * cellsOf s → length masses2 ≡ cellsOf s → length marks ≡ cellsOf s
+        → marks ≡ tab (cellsOf s) (openedMark s (a .flags) before) → Flowable s g (a .flags) (a .parts) (a .masses) (a .fills) flags2 parts2 masses2 marks
+    flowable before f d p m k e = record {
       poised = poised s g a r;
+      flags-room = f;
+      dried = d;
       parts-room = p;
       masses-room = m;
       marks-room = k;
@@ -168,6 +170,21 @@ like-sized x y = record {
   fills = y .fills ∙ x .fills;
   carry = y .carry ∙ x .carry;
 }
+
+-- of a set whose flags are all 1 nothing is asked
+pub soiled : {s : Sides} {g : Settings} {a b : Lent} {marks flags : List ℕ} → flags ≡ replicate (length (b .flags)) 1 → Stepping s g a b marks
+    → Resuming s g a (lent flags (b .parts) (b .masses) (b .fills) (b .carry)) marks
+soiled {b = b} {flags = flags} e h = record {
+  stepping = record {
+    ready = h .ready;
+    alike = record { flags = count ∙ h .alike .flags; parts = h .alike .parts; masses = h .alike .masses; fills = h .alike .fills; carry = h .alike .carry };
+    marks-room = h .marks-room;
+  };
+  dried = λ c k i j l. absurd (false≢true (sym l ∙ ap liquid (ap (λ (f : List ℕ). getD f c 3) e ∙ getD-replicate (length (b .flags)) c 1 3 (subst (λ (n : ℕ). c < n) count i))));
+}
+  where
+    count : length flags ≡ length (b .flags)
+    count = ap length e ∙ length-replicate (length (b .flags)) 1
 
 pub cleared : (n : ℕ) {marks : List ℕ} → marks ≡ replicate n 0 → length marks ≡ n
 cleared n e = ap length e ∙ length-replicate n 0

@@ -15,14 +15,16 @@ use Rattle.grid.specs.State.{lent, Scene, liquid}
 use Rattle.grid.specs.Step.{flagAt, unsteady, collided}
 use Rattle.grid.specs.Outcome.{sceneOf}
 use Rattle.grid.specs.inner.Between.{Poised, movedPart, movedMass, firstMark}
-use Rattle.grid.specs.inner.Halfway.{Moved}
+use Rattle.grid.specs.inner.Halfway.{Dried, Moved}
 use Rattle.flow.specs.declared.passing.Passed.{Passed}
 use Rattle.flow.specs.declared.passing.Passed.the-variants.{Stopped, Through}
 
--- a set that is poised, room of the right lengths, and pass 0's marks: a liquid cell that is marked is fluid, and all its neighbours are liquid. The pass is not
--- lent the carry, which no stage before the last sum of stage 6 reads
-pub record Flowable (s : Sides) (g : Settings) (flags : List ℕ) (parts masses : List ℤ) (fills : List ℕ) (parts2 masses2 : List ℤ) (marks : List ℕ) : Type 0 where
+-- a set that is poised, room of the right lengths whose flags tell where its parts are 0 already, and pass 0's marks: a liquid cell that is marked is fluid, and all its
+-- neighbours are liquid. The pass is not lent the carry, which no stage before the last sum of stage 6 reads
+pub record Flowable (s : Sides) (g : Settings) (flags : List ℕ) (parts masses : List ℤ) (fills flags2 : List ℕ) (parts2 masses2 : List ℤ) (marks : List ℕ) : Type 0 where
   pub poised : Poised s g (lent flags parts masses fills [])
+  pub flags-room : length flags2 ≡ cellsOf s
+  pub dried : Dried flags2 parts2
   pub parts-room : length parts2 ≡ 19 * cellsOf s
   pub masses-room : length masses2 ≡ cellsOf s
   pub marks-room : length marks ≡ cellsOf s

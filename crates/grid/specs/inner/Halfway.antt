@@ -3,8 +3,8 @@ use mathlib.Core.Path.{_≡_}
 use mathlib.Core.Bool.{Bool, true, false, cond}
 use mathlib.Core.List.{List, [], _∷_}
 use Prim.Native.Nat.{ℕ, _*_, _/_, _%_, _≤_, _<_}
-use lib.IntN.{ℤ}
-use lib.ListN.{length, replicate}
+use lib.IntN.{ℤ, pos}
+use lib.ListN.{length, getD, replicate}
 use Rattle.whole.specs.Fold.{tab, first}
 use Rattle.lattice.specs.Lattice.{d3q19}
 use Rattle.lattice.specs.Cell.{carryGood}
@@ -12,11 +12,15 @@ use Rattle.lattice.specs.declared.Settings.{Settings}
 use Rattle.grid.specs.declared.Sides.{Sides}
 use Rattle.grid.specs.declared.Answer.{Answer}
 use Rattle.grid.specs.Grid.{cellsOf}
-use Rattle.grid.specs.State.{Lent, Scene, liquid}
+use Rattle.grid.specs.State.{Lent, Scene, partOf, liquid}
 use Rattle.grid.specs.Step.{flagAt, unsteady, collided, newFlag, newPart, newMass, newCarry}
 use Rattle.lattice.specs.Body.{bodyGood}
 use Rattle.grid.specs.Outcome.{accepted, moveAnswer, sceneOf, nextOf}
 use Rattle.grid.specs.inner.Between.{Ready, movedPart, movedMass, firstMark}
+
+-- where a set's flag is dry its parts are 0: so it is in a good state; of a set whose flags are all 1 it says nothing
+abbrev pub Dried : List ℕ → List ℤ → Type 0
+Dried flags parts = (c k : ℕ) → c < length flags → k < 19 → liquid (getD flags c 3) ≡ false → partOf parts c k ≡ pos 0
 
 -- two sets with slices of the same lengths
 pub record Alike (a b : Lent) : Type 0 where
@@ -59,6 +63,11 @@ pub record Stepping (s : Sides) (g : Settings) (a b : Lent) (marks : List ℕ) :
   pub ready : Ready s g a
   pub alike : Alike a b
   pub marks-room : length marks ≡ cellsOf s
+
+-- what a step within a run asks besides: the flags of the set that it writes tell where parts are 0 already
+pub record Resuming (s : Sides) (g : Settings) (a b : Lent) (marks : List ℕ) : Type 0 where
+  pub stepping : Stepping s g a b marks
+  pub dried : Dried (b .flags) (b .parts)
 
 -- what it leaves: tests 7 and 8 answer; the next state, or after a refusal a copy of the first set; marks 0
 pub record Advanced (s : Sides) (g : Settings) (a : Lent) (answer : Answer) (second : Lent) (after : List ℕ) : Type 0 where

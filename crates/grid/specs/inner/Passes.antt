@@ -12,7 +12,7 @@ use Rattle.lattice.specs.Lattice.{V3, d3q19}
 use Rattle.grid.specs.declared.Sides.{Sides}
 use Rattle.grid.specs.declared.layer.Place.{Place}
 use Rattle.grid.specs.Grid.{cellAt, atEnd, toward, cellsOf, sidesGood, gridOf}
-use Rattle.grid.specs.State.{byFlag, flagOf}
+use Rattle.grid.specs.State.{byFlag, flagOf, liquid}
 use Rattle.grid.specs.Step.{flagAfter}
 use Rattle.grid.specs.Good.{flagGood, badFlag}
 
@@ -130,17 +130,32 @@ pub record NextOf (bytes : List ℕ) (a k r : ℕ) : Type 0 where
   pub before : (j : ℕ) → a ≤ j → j < r → getD bytes j 0 ≡ k → ⊥
   pub here : r < length bytes → getD bytes r 0 ≡ k
 
--- the places from a to r − 1 hold another number than k
-pub record Lacking (bytes : List ℕ) (a k r : ℕ) : Type 0 where
+-- all the places from a to r − 1, of n places, have P
+pub record Past (P : ℕ → Type 0) (n a r : ℕ) : Type 0 where
   pub least : a ≤ r
-  pub most : r ≤ length bytes
-  pub before : (j : ℕ) → a ≤ j → j < r → getD bytes j 0 ≡ k → ⊥
+  pub most : r ≤ n
+  pub before : (j : ℕ) → a ≤ j → j < r → P j
 
--- the places from a to r − 1 have no mark
-pub record Unmarked (marks : List ℕ) (a r : ℕ) : Type 0 where
-  pub least : a ≤ r
-  pub most : r ≤ length marks
-  pub before : (j : ℕ) → a ≤ j → j < r → getD marks j 0 ≡ 0
+-- they hold another number than k
+abbrev pub Lacking : List ℕ → ℕ → ℕ → ℕ → Type 0
+Lacking bytes a k = Past (λ j. getD bytes j 0 ≡ k → ⊥) (length bytes) a
+
+-- they have no mark
+abbrev pub Unmarked : List ℕ → ℕ → ℕ → Type 0
+Unmarked marks a = Past (λ j. getD marks j 0 ≡ 0) (length marks) a
+
+-- cell c is liquid in one of two sets
+unfoldable pub eitherLiquid : List ℕ → List ℕ → ℕ → Bool
+eitherLiquid flags flags2 c = liquid (flagOf flags c) || liquid (flagOf flags2 c)
+
+-- they are dry in both
+abbrev pub Dry : List ℕ → List ℕ → ℕ → ℕ → Type 0
+Dry flags flags2 a = Past (λ j. eitherLiquid flags flags2 j ≡ false) (length flags) a
+
+-- r is the lowest cell from a on that is liquid in one of two sets, the number of cells if none is
+pub record NextWet (flags flags2 : List ℕ) (a r : ℕ) : Type 0 where
+  pub past : Dry flags flags2 a r
+  pub here : r < length flags → eitherLiquid flags flags2 r ≡ true
 
 -- r is the lowest place from a on that has a mark, the number of places if none has
 pub record NextMarked (marks : List ℕ) (a r : ℕ) : Type 0 where
@@ -218,5 +233,5 @@ pub record Marked (s : Sides) (flags marks : List ℕ) : Type 0 where
 
 -- names every definition of this file: whoever unfolds this computes with all of them
 unfoldable pub open-passes : Unit {0}
-unfolding lowOf offsetOf besideAt openPlace seenAt normalAt placeAfter outerAt inside besideIn openedMark keptMark turnedFlag
+unfolding lowOf offsetOf besideAt openPlace seenAt normalAt placeAfter outerAt eitherLiquid inside besideIn openedMark keptMark turnedFlag
 open-passes = tt

@@ -1,7 +1,7 @@
 -- `conversion::convert::new_flags`: by the box's offsets, pass 3. Assumes nothing.
 use mathlib.Core.Path.{_∙_}
 use Rattle.grid.proofs.Beside.{Offsets}
-use Rattle.conversion.proofs.Marking.{marked-by, turned-box}
+use Rattle.conversion.proofs.Marking.{marked-by, enclosed, turned-box}
 use Rattle.conversion.proofs.convert.new_flags.Statement.{statement}
 use Rattle.conversion.proofs.convert.new_flags.Tie as tie
 
@@ -18,7 +18,7 @@ new-flags-by-requires : tie.Need-new-flags-by-requires
 new-flags-by-requires c κs =
     let b : tie.After-low-of = search in
     let s : tie.Start = search in
-    (marked-by (offs b) _ _ (s .pre .0), s .pre .1)
+    (marked-by (offs b) _ _ (s .pre .0), s .pre .1, enclosed (offs b) _ _ (s .pre .0))
 
 same-length : tie.Need-same-length
 same-length c = let after-next : tie.After-next = search in after-next .next .given

@@ -15,6 +15,7 @@ use borrow.Author.Tests.{not-true, not-false}
 use Rattle.lattice.specs.inner.Held.{partsOf, Bounded, vec}
 use Rattle.lattice.specs.Body.{collidedPart}
 use Rattle.flow.proofs.Collisions.{loosened, gravity-of, flow-rho, flow-x, flow-y, flow-z, pulled-x, pulled-y, pulled-z, put-refused, put-accepted}
+use Rattle.flow.proofs.Gentle.{follows}
 use borrow.Author.Needs.{needs}
 use Rattle.flow.proofs.moving.put_moved.Statement.{statement}
 use Rattle.flow.proofs.moving.put_moved.Tie as tie
@@ -79,7 +80,16 @@ paste-requires : tie.Need-paste-requires
 paste-requires c κs = search needs
 
 fair-requires : tie.Need-fair-requires
-fair-requires c κs = search needs
+fair-requires c κs =
+    let else1 : tie.Else1 = search in let after-steady : tie.After-steady = search in let after-pulled : tie.After-pulled = search in let after-flow-of : tie.After-flow-of = search in
+    let after-relaxation : tie.After-relaxation = search in let k : tie.After-collided = search in
+    let s : tie.Start = search in
+    let steady = sym (after-steady .steady .ensures) ∙ not-false _ (else1 .if1 .left) in (
+      k .collided .ensures .1,
+      steady,
+      follows (s .args .f) (k .collided .result) (after-flow-of .flow-of .result) (after-pulled .pulled .result) (s .args .g) _ (s .pre .1)
+          (ap relaxationGood (handed after-relaxation) ∙ after-relaxation .relaxation .ensures .1) steady (after-flow-of .flow-of .ensures .1) (after-pulled .pulled .ensures) (k .collided .ensures .0),
+    )
 
 same-length : tie.Need-same-length
 same-length c = search needs

@@ -17,14 +17,14 @@ use Rattle.flow.proofs.moving.put_parts.Tie as tie
 flag : (s : tie.Start) → getD (s .args .flags .now) (s .args .c) 0 ≡ getD (s .args .flags .now) (s .args .c) 3
 flag s = getD-there (s .args .flags .now) (s .args .c) 0 3 (s .pre .is-cell)
 
-shared-slice-read-wet : tie.Need-shared-slice-read-wet
-shared-slice-read-wet c = search needs
+shared-slice-read-is-liquid : tie.Need-shared-slice-read-is-liquid
+shared-slice-read-is-liquid c = search needs
 
-wet-requires : tie.Need-wet-requires
-wet-requires c κs = search needs
+is-liquid-requires : tie.Need-is-liquid-requires
+is-liquid-requires c κs = search needs
 
 kind : (c : tie.Then1) → liquid (getD (c .before .before .before .before .before .args .flags .now) (c .before .before .before .before .before .args .c) 3) ≡ true
-kind c = let after-wet : tie.After-wet = search in sym (ap liquid (flag (search))) ∙ sym (after-wet .wet .ensures) ∙ c .if1 .taken
+kind c = let after-is-liquid : tie.After-is-liquid = search in sym (ap liquid (flag (search))) ∙ sym (after-is-liquid .is-liquid .ensures) ∙ c .if1 .taken
 
 -- the list has room for cell c
 room : (s : tie.Start) → 19 * s .args .c + 19 ≤ length (s .args .parts2 .now)
@@ -62,16 +62,16 @@ same-length-2 c = search needs
 
 returns-2 : tie.Need-returns-2
 returns-2 c =
-    let after-dry-out : tie.After-dry-out = search in let after-wet : tie.After-wet = search in let e : tie.Else1 = search in
+    let after-dry-out : tie.After-dry-out = search in let after-is-liquid : tie.After-is-liquid = search in let e : tie.Else1 = search in
     let s : tie.Start = search in
-    put-dry _ _ _ _ _ _ _ _ (sym (ap liquid (flag s)) ∙ sym (after-wet .wet .ensures) ∙ e .if1 .left) _ _ (room s) (after-dry-out .dry-out .ensures)
+    put-dry _ _ _ _ _ _ _ _ (sym (ap liquid (flag s)) ∙ sym (after-is-liquid .is-liquid .ensures) ∙ e .if1 .left) _ _ (room s) (after-dry-out .dry-out .ensures)
 
 pub put-parts-spec : {M : Type 1} → statement M
 put-parts-spec =
     tie.close
     (tie.spec
-    shared-slice-read-wet
-    wet-requires
+    shared-slice-read-is-liquid
+    is-liquid-requires
     chosen-requires
     shared-slice-read-put-moved
     put-moved-requires

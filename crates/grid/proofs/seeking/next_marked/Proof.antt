@@ -5,7 +5,7 @@ use Prim.Native.Nat.{ℕ, _+_, _-_, _≤_}
 use native.Mathlib.Omega.{arith}
 use lib.ListN.{length, getD}
 use Rattle.grid.specs.inner.Passes.{Unmarked}
-use Rattle.grid.proofs.Ranges.{unmarked-more}
+use Rattle.grid.proofs.Ranges.{past-more}
 use Rattle.grid.proofs.seeking.next_marked.Statement.{statement}
 use Rattle.grid.proofs.seeking.next_marked.Tie as tie
 
@@ -37,7 +37,7 @@ loop-again : tie.Need-loop-again Inv-loop μ-loop
 loop-again c =
     let l = c .before .before .before .loop in
     let a = c .before .before .before .before .before .before .args in
-    unmarked-more (a .marks .now) (a .a) (l .c) 1 (l .inv) (omega (arith, c .before .before .loop-test .taken))
+    past-more 1 (l .inv) (omega (arith, c .before .before .loop-test .taken))
     (λ k h. ap (λ (i : ℕ). getD (a .marks .now) i 0) (omega arith) ∙ c .if1 .left)
 
 returns-2 : tie.Need-returns-2 Inv-loop μ-loop

@@ -5,7 +5,7 @@ use Prim.Native.Nat.{ℕ, _+_, _-_, _≤_, _<_}
 use native.Mathlib.Omega.{arith}
 use lib.ListN.{length, getD}
 use Rattle.grid.specs.inner.Passes.{Lacking}
-use Rattle.grid.proofs.Ranges.{lacking-more}
+use Rattle.grid.proofs.Ranges.{past-more}
 use Rattle.grid.proofs.seeking.next_of.Statement.{statement}
 use Rattle.grid.proofs.seeking.next_of.Tie as tie
 
@@ -39,7 +39,7 @@ loop-again : tie.Need-loop-again Inv-loop μ-loop
 loop-again c =
     let l = c .before .before .before .loop in
     let a = c .before .before .before .before .before .before .args in
-    lacking-more (a .flags .now) (a .a) (a .kind) (l .c) 1 (l .inv) (omega (arith, c .before .before .loop-test .taken))
+    past-more 1 (l .inv) (omega (arith, c .before .before .loop-test .taken))
     (λ k h e. c .if1 .left (ap (λ (i : ℕ). getD (a .flags .now) i 0) (omega arith) ∙ e))
 
 returns-2 : tie.Need-returns-2 Inv-loop μ-loop

@@ -1,15 +1,14 @@
 -- `grid::seeking::past_lacking`: 32 cells more of another kind at each turn. Assumes nothing.
 use borrow.Author.Needs.{needs}
 use borrow.Author.Tests.{eq-eqb, not-false}
-use mathlib.Core.Path.{_≡_, sym, ap, _∙_}
+use mathlib.Core.Path.{sym, ap, _∙_}
 use mathlib.Core.Bool.{not, false≢true}
-use Prim.Native.Nat.{_+_, _-_, _≤_}
+use Prim.Native.Nat.{_-_}
 use native.Mathlib.Omega.{arith}
 use lib.Dec.{eqb}
 use lib.ListN.{length, getD}
-use Rattle.whole.specs.laws.Search.{all-at}
 use Rattle.grid.specs.inner.Passes.{Lacking}
-use Rattle.grid.proofs.Ranges.{lacking-first, lacking-more}
+use Rattle.grid.proofs.Ranges.{past-first, past-together}
 use Rattle.grid.proofs.seeking.past_lacking.Statement.{statement}
 use Rattle.grid.proofs.seeking.past_lacking.Tie as tie
 
@@ -20,7 +19,7 @@ abbrev μ-loop : tie.MeasureT-loop
 μ-loop flags a kind c₀ c = length flags - c
 
 loop-holds : tie.Need-loop-holds Inv-loop μ-loop
-loop-holds c = lacking-first (c .before .args .flags .now) (c .before .args .a) (c .before .args .kind) (c .before .pre)
+loop-holds c = past-first _ _ _ (c .before .pre)
 
 sub-loop : tie.Need-sub-loop Inv-loop μ-loop
 sub-loop c = c .loop .inv .most
@@ -41,8 +40,8 @@ loop-again : tie.Need-loop-again Inv-loop μ-loop
 loop-again c =
     let l = c .before .before .before .loop in
     let a = c .before .before .before .before .before .args in
-    lacking-more (a .flags .now) (a .a) (a .kind) (l .c) 32 (l .inv) (omega (arith, l .inv .most, c .before .before .loop-test .taken))
-    (λ k h e. false≢true (sym (ap not (eq-eqb _ _ e)) ∙ all-at 32 (λ i. not (eqb (getD (a .flags .now) (l .c + i) 0) (a .kind))) (sym (c .before .lacking .ensures) ∙ not-false _ (c .if1 .left)) k h))
+    past-together (λ j. not (eqb (getD (a .flags .now) j 0) (a .kind))) (λ j t e. false≢true (sym (ap not (eq-eqb _ _ e)) ∙ t)) (l .inv) (omega (arith, l .inv .most, c .before .before .loop-test .taken))
+    (sym (c .before .lacking .ensures) ∙ not-false _ (c .if1 .left))
 
 returns-2 : tie.Need-returns-2 Inv-loop μ-loop
 returns-2 c = c .before .loop .inv

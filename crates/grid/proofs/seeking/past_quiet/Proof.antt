@@ -1,14 +1,13 @@
 -- `grid::seeking::past_quiet`: 32 cells more without a mark at each turn. Assumes nothing.
 use borrow.Author.Needs.{needs}
 use borrow.Author.Tests.{eqb-true, not-false}
-use mathlib.Core.Path.{_≡_, sym, _∙_}
-use Prim.Native.Nat.{_+_, _-_, _≤_}
+use mathlib.Core.Path.{sym, _∙_}
+use Prim.Native.Nat.{_-_}
 use native.Mathlib.Omega.{arith}
 use lib.Dec.{eqb}
 use lib.ListN.{length, getD}
-use Rattle.whole.specs.laws.Search.{all-at}
 use Rattle.grid.specs.inner.Passes.{Unmarked}
-use Rattle.grid.proofs.Ranges.{unmarked-first, unmarked-more}
+use Rattle.grid.proofs.Ranges.{past-first, past-together}
 use Rattle.grid.proofs.seeking.past_quiet.Statement.{statement}
 use Rattle.grid.proofs.seeking.past_quiet.Tie as tie
 
@@ -19,7 +18,7 @@ abbrev μ-loop : tie.MeasureT-loop
 μ-loop marks a c₀ c = length marks - c
 
 loop-holds : tie.Need-loop-holds Inv-loop μ-loop
-loop-holds c = unmarked-first (c .before .args .marks .now) (c .before .args .a) (c .before .pre)
+loop-holds c = past-first _ _ _ (c .before .pre)
 
 sub-loop : tie.Need-sub-loop Inv-loop μ-loop
 sub-loop c = c .loop .inv .most
@@ -40,8 +39,8 @@ loop-again : tie.Need-loop-again Inv-loop μ-loop
 loop-again c =
     let l = c .before .before .before .loop in
     let a = c .before .before .before .before .before .args in
-    unmarked-more (a .marks .now) (a .a) (l .c) 32 (l .inv) (omega (arith, l .inv .most, c .before .before .loop-test .taken))
-    (λ k h. eqb-true _ _ (all-at 32 (λ i. eqb (getD (a .marks .now) (l .c + i) 0) 0) (sym (c .before .quiet .ensures) ∙ not-false _ (c .if1 .left)) k h))
+    past-together (λ j. eqb (getD (a .marks .now) j 0) 0) (λ j. eqb-true _ _) (l .inv) (omega (arith, l .inv .most, c .before .before .loop-test .taken))
+    (sym (c .before .quiet .ensures) ∙ not-false _ (c .if1 .left))
 
 returns-2 : tie.Need-returns-2 Inv-loop μ-loop
 returns-2 c = c .before .loop .inv

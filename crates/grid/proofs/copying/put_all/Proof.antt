@@ -1,4 +1,4 @@
--- `grid::copying::clear` leaves zeros. Assumes nothing.
+-- `grid::copying::put_all` leaves the byte in every cell. Assumes nothing.
 use borrow.Author.Needs.{needs}
 use borrow.Author.Fill.{fill-none, fill-more}
 use mathlib.Core.Path.{_≡_, refl, _∙_}
@@ -7,20 +7,20 @@ use Prim.Native.Nat.{_-_, _≤_, _<_}
 use native.Mathlib.Omega.{arith}
 use lib.ListN.{length, replicate, drop, length-set}
 use lib.Seq.{drop-length}
-use Rattle.grid.proofs.copying.clear.Statement.{statement}
-use Rattle.grid.proofs.copying.clear.Tie as tie
+use Rattle.grid.proofs.copying.put_all.Statement.{statement}
+use Rattle.grid.proofs.copying.put_all.Tie as tie
 
 abbrev Inv-loop : tie.InvT-loop
-Inv-loop marks₀ i₀ marks i = (i ≤ length marks₀) × (length marks ≡ length marks₀) × (marks ≡ replicate i 0 ++ drop i marks₀)
+Inv-loop bytes₀ b i₀ bytes i = (i ≤ length bytes₀) × (length bytes ≡ length bytes₀) × (bytes ≡ replicate i b ++ drop i bytes₀)
 
 abbrev μ-loop : tie.MeasureT-loop
-μ-loop marks₀ i₀ marks i = length marks₀ - i
+μ-loop bytes₀ b i₀ bytes i = length bytes₀ - i
 
 loop-holds : tie.Need-loop-holds Inv-loop μ-loop
-loop-holds c = (omega arith, refl, fill-none _ 0)
+loop-holds c = (omega arith, refl, fill-none _ (c .args .b))
 
-slice-write-marks : tie.Need-slice-write-marks Inv-loop μ-loop
-slice-write-marks c = search needs
+slice-write-bytes : tie.Need-slice-write-bytes Inv-loop μ-loop
+slice-write-bytes c = search needs
 
 add-i : tie.Need-add-i Inv-loop μ-loop
 add-i c = search needs
@@ -31,8 +31,8 @@ loop-less c = search needs
 loop-again : tie.Need-loop-again Inv-loop μ-loop
 loop-again c =
     let l = c .before in
-    let h : l .loop .i < length (l .before .args .marks .now) = omega (arith, l .loop .inv .1, c .loop-test .taken) in
-    (omega arith, simp length-set (l .loop .inv .1), rw (l .loop .inv .2) (fill-more _ 0 _ h))
+    let h : l .loop .i < length (l .before .args .bytes .now) = omega (arith, l .loop .inv .1, c .loop-test .taken) in
+    (omega arith, simp length-set (l .loop .inv .1), rw (l .loop .inv .2) (fill-more _ _ _ h))
 
 same-length : tie.Need-same-length Inv-loop μ-loop
 same-length c = c .before .loop .inv .1
@@ -40,17 +40,17 @@ same-length c = c .before .loop .inv .1
 returns : tie.Need-returns Inv-loop μ-loop
 returns c =
     let l = c .before in
-    let e : l .loop .i ≡ length (l .before .args .marks .now) = omega (arith, l .loop .inv .0, l .loop .inv .1, c .loop-test .left) in
+    let e : l .loop .i ≡ length (l .before .args .bytes .now) = omega (arith, l .loop .inv .0, l .loop .inv .1, c .loop-test .left) in
     l .loop .inv .2 ∙ rw (e, drop-length) (append-nil _)
 
-pub clear-spec : {M : Type 1} → statement M
-clear-spec =
+pub put-all-spec : {M : Type 1} → statement M
+put-all-spec =
     tie.close
     (tie.spec
     Inv-loop
     μ-loop
     loop-holds
-    slice-write-marks
+    slice-write-bytes
     add-i
     loop-less
     loop-again
