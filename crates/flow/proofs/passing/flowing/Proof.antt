@@ -24,7 +24,7 @@ use Rattle.flow.specs.inner.Flowed.{stopped, through}
 use Rattle.flow.specs.inner.PutAt.{Putting}
 use Rattle.flow.specs.inner.Trade.{Traders}
 use Rattle.grid.proofs.Inside.{room, few}
-use Rattle.flow.proofs.Mirrored.{mirrored, around, immersed}
+use Rattle.flow.proofs.Mirrored.{enclosed, mirrored, around, immersed}
 use Rattle.flow.proofs.Poise.{liquid-inner, poised-bodied, poised-mass, poised-fills, placed}
 use Rattle.flow.proofs.Walked.{Walked, walked-first, walked-turn, walked-dry, walked-stopped, walked-moved, put-more, put-past, moved-list}
 use Rattle.flow.proofs.passing.flowing.Statement.{statement}
@@ -97,7 +97,7 @@ module _ (d : tie.In-loop Inv-loop μ-loop) where
   }
 
   putting : Putting (start .args .flags .now) (start .args .parts .now) (start .args .fills .now) (d .before .loop .parts2) (getD (d .before .loop .marks) cell 0) off (d .before .before .before .sources .result) low cell (start .args .g) (d .before .before .keeping .result)
-  unfolding stateOf
+  unfolding stateOf gridOf cellsOf Rattle.grid.specs.Grid.box
   putting = let after-keeping : tie.After-keeping Inv-loop μ-loop = search in let after-sources : tie.After-sources Inv-loop μ-loop = search in record {
     bodied = poised-bodied (start .args .s) (start .args .g) _ poise;
     filled = traders .fills-good;
@@ -109,6 +109,7 @@ module _ (d : tie.In-loop Inv-loop μ-loop) where
         let m : getD (start .args .marks .now) cell 0 ≡ 1 = sym (walked .marks-left cell (le-refl cell)) ∙ e in
         immersed offs cell (liquid-inner (start .args .s) (start .args .g) _ poise cell is-cell l) (start .args .flags .now)
         (start .pre .marked-fluid cell is-cell l m) (start .pre .marked cell is-cell l m);
+    enclosed = λ f. enclosed offs cell (liquid-inner (start .args .s) (start .args .g) _ poise cell is-cell (ap liquid f)) (start .args .flags .now) (λ i d. poise .closed cell i is-cell (d .some) (omega (arith, d .most))) f;
     settings = poise .settings;
     keeps = after-keeping .keeping .ensures;
     size = d .before .loop .inv .1 ∙ start .pre .parts-room ∙ sym (poise .parts);
