@@ -13,7 +13,7 @@ use mir.Facts.{toZ-ofZ}
 use Rattle.whole.specs.laws.Bools.{or-false}
 use Rattle.lattice.specs.Lattice.{d3q19}
 use Rattle.grid.specs.State.{partOf, lent, liquid, stateOf}
-use Rattle.grid.specs.Grid.{cellsOf, gridOf}
+use Rattle.grid.specs.Grid.{cellsOf, gridOf, box}
 use Rattle.grid.specs.Outcome.{sceneOf}
 use Rattle.grid.specs.inner.Between.{Poised}
 use Rattle.grid.specs.inner.Passes.{eitherLiquid}
@@ -97,7 +97,7 @@ module _ (d : tie.In-loop Inv-loop μ-loop) where
   }
 
   putting : Putting (start .args .flags .now) (start .args .parts .now) (start .args .fills .now) (d .before .loop .parts2) (getD (d .before .loop .marks) cell 0) off (d .before .before .before .sources .result) low cell (start .args .g) (d .before .before .keeping .result)
-  unfolding stateOf gridOf cellsOf Rattle.grid.specs.Grid.box
+  unfolding stateOf gridOf cellsOf box
   putting = let after-keeping : tie.After-keeping Inv-loop μ-loop = search in let after-sources : tie.After-sources Inv-loop μ-loop = search in record {
     bodied = poised-bodied (start .args .s) (start .args .g) _ poise;
     filled = traders .fills-good;
