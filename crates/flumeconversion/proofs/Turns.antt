@@ -16,7 +16,7 @@ use Rattle.grid.specs.State.{Lent, Scene}
 use Rattle.grid.specs.Step.{newFlag, newCarry}
 use Rattle.grid.specs.inner.Between.{settledMark, gatheredMass}
 use Rattle.grid.specs.inner.Passes.{keptBy, turnedBy, EmptyingBy, MarkedBy}
-use Rattle.flow.specs.inner.Flowed.{MovedTo}
+use Rattle.passes.specs.inner.Flowed.{MovedTo}
 use Rattle.excess.specs.inner.Gifts.{strayAt, gatheredAt}
 use Rattle.conversion.specs.inner.Born.{newlyBorn}
 use Rattle.conversion.specs.inner.Turned.{TurnedTo}

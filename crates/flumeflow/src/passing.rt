@@ -2,12 +2,12 @@
 use crate::moving;
 use crate::streaming;
 use crate::trading;
-use flow::passing::Passed;
 use flow::relaxing::keeping;
 use flow::trading::new_mark;
 use flume::FlumeSides;
 use flumegrid::neighbours;
 use lattice::Settings;
+use passes::passing::Passed;
 ghost use Rattle.flumeflow.specs.inner.Flowed.{FlumeFlowable, FlumeFlowed};
 
 pub fn flowing9(

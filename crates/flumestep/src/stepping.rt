@@ -1,6 +1,5 @@
 // The step of a flume that passed tests 1 to 6: passes in a row, and on refusal 7 or 8 the copy.
 use crate::marking;
-use flow::passing::Passed;
 use flume::FlumeSettings;
 use flume::FlumeSides;
 use flumeconversion::turning;
@@ -10,6 +9,7 @@ use flumegrid::checking;
 use flumegrid::entry;
 use grid::Answer;
 use grid::copying;
+use passes::passing::Passed;
 use step::sets;
 ghost use mathlib.Core.Path.{_≡_};
 ghost use Prim.Native.Nat.{suc};

@@ -10,9 +10,9 @@ use Rattle.lattice.specs.declared.Settings.{Settings}
 use Rattle.grid.specs.State.{Lent, lent, Scene, liquid}
 use Rattle.grid.specs.Step.{unsteady}
 use Rattle.grid.specs.Mode.{sceneBy}
-use Rattle.flow.specs.declared.passing.Passed.{Passed}
-use Rattle.flow.specs.declared.passing.Passed.the-variants.{Stopped, Through}
-use Rattle.flow.specs.inner.Flowed.{MovedTo}
+use Rattle.passes.specs.declared.passing.Passed.{Passed}
+use Rattle.passes.specs.declared.passing.Passed.the-variants.{Stopped, Through}
+use Rattle.passes.specs.inner.Flowed.{MovedTo}
 use Rattle.flume.specs.declared.FlumeSides.{FlumeSides}
 use Rattle.flume.specs.declared.FlumeSettings.{FlumeSettings}
 use Rattle.flume.specs.Flume.{flumeCells, flumeGrid}

@@ -8,7 +8,7 @@ use Rattle.grid.specs.declared.Answer.{Answer}
 use Rattle.grid.specs.declared.Answer.the-variants.{Done}
 use Rattle.grid.specs.State.{Lent}
 use Rattle.grid.specs.Outcome.{accepted, moveAnswer}
-use Rattle.flow.specs.inner.Flowed.{MovedTo}
+use Rattle.passes.specs.inner.Flowed.{MovedTo}
 use Rattle.flume.specs.declared.FlumeSides.{FlumeSides}
 use Rattle.flume.specs.declared.FlumeSettings.{FlumeSettings}
 use Rattle.flume.specs.Flume.{flumeCells, levelSettings}

@@ -14,7 +14,7 @@ use Rattle.grid.specs.State.{lent, liquid}
 use Rattle.grid.specs.inner.Passes.{Amid}
 use Rattle.grid.specs.inner.Sight.{Around}
 use Rattle.grid.proofs.Lists.{getD-there}
-use Rattle.flow.proofs.Walked.{Walked, walked-first, walked-turn, walked-stopped, walked-moved}
+use Rattle.passes.proofs.Walked.{Walked, walked-first, walked-turn, walked-stopped, walked-moved}
 use Rattle.flume.specs.Flume.{flumeCells, flumeGrid}
 use Rattle.flume.specs.inner.Offsets.{flumeLow, flumeOffset}
 use Rattle.flume.specs.inner.Spread.{spreadLattice, spreadGrid}
