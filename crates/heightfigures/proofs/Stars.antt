@@ -5,8 +5,8 @@ use Rattle.lattice.specs.Cell.{open-cell}
 use Rattle.grid.specs.Grid.{open-grid}
 use Rattle.grid.specs.Outcome.{open-outcome}
 use Rattle.record.specs.Layout.{open-layout}
-use Rattle.heights.specs.Text.{open-text}
-use Rattle.heights.specs.Number.{open-number}
+use Rattle.numerals.specs.Text.{open-text}
+use Rattle.numerals.specs.Number.{open-number}
 use Rattle.heights.specs.Header.{open-header}
 use Rattle.heights.specs.Rows.{open-rows}
 use Rattle.invert.specs.Invert.{open-invert}

@@ -15,16 +15,16 @@ use mir.Val.{SFits}
 use Rattle.whole.specs.laws.Bounds.{abs-mul, abs-quot, fits-abs}
 use Rattle.whole.specs.Fold.{firstFrom}
 use Rattle.whole.specs.laws.Search.{first-is, first-all}
-use Rattle.heights.specs.declared.text.Span.{Span}
-use Rattle.heights.specs.Text.{word, afterWord, nextLine}
-use Rattle.heights.specs.inner.Places.{Next}
-use Rattle.heights.specs.Number.{numberOf}
+use Rattle.numerals.specs.declared.text.Span.{Span}
+use Rattle.numerals.specs.Text.{word, afterWord, nextLine}
+use Rattle.numerals.specs.inner.Places.{Next}
+use Rattle.numerals.specs.Number.{numberOf}
 use Rattle.heights.specs.Header.{isNoData}
 use Rattle.invert.specs.Invert.{orZero, solidAt}
 use Rattle.invert.specs.inner.Walls.{heightOf, rowHeights, layerOf}
 use Rattle.record.proofs.Numbers.{sets-then}
 use Rattle.record.proofs.Gathered.{copy-turn}
-use Rattle.heights.proofs.Words.{Found}
+use Rattle.numerals.proofs.Words.{Found}
 use Rattle.heights.proofs.Stores.{set-sets}
 
 -- ---- one cell

@@ -21,8 +21,8 @@ use Rattle.whole.specs.laws.Tab.{tab-cong}
 use Rattle.grid.specs.declared.Sides.{Sides}
 use Rattle.grid.specs.Grid.{sidesGood, cellsOf, gridOf}
 use Rattle.grid.proofs.GoodSides.{good-sides}
-use Rattle.heights.specs.Text.{afterWord, nextLine, fromLine}
-use Rattle.heights.specs.Number.{numberOf}
+use Rattle.numerals.specs.Text.{afterWord, nextLine, fromLine}
+use Rattle.numerals.specs.Number.{numberOf}
 use Rattle.heights.specs.Header.{isNoData}
 use Rattle.invert.specs.Invert.{orZero, nthWord, valueAt, solidAt, invertFlag, invertFlags}
 use Rattle.invert.specs.inner.Walls.{heightOf, rowHeights, layerOf, wallOf, wallBy}

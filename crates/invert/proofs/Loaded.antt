@@ -30,7 +30,7 @@ use Rattle.grid.proofs.Accepted.{pass-good}
 use Rattle.pumps.specs.Three.{numberIn, totalsGood, threeLengths, threeGood, threeAnswer}
 use Rattle.index.specs.Index.{Index, wordsOf, interface, wordOf, surfaceCells, indexSized, indexTrue}
 use Rattle.index.specs.Outcome.{trueAnswer, loadAnswer}
-use Rattle.heights.specs.Text.{fromLine}
+use Rattle.numerals.specs.Text.{fromLine}
 use Rattle.invert.specs.Invert.{valueAt, solidAt, invertFlag, invertFlags}
 use Rattle.invert.specs.Outcome.{countOf, readHead, lengthsOf, dry, dryIndex, setBy}
 use Rattle.invert.specs.Demands.{Loads, Loadable}

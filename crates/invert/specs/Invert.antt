@@ -7,10 +7,10 @@ use lib.Signed.{quotZ, ltZ}
 use Rattle.whole.specs.Fold.{tab}
 use Rattle.grid.specs.declared.Sides.{Sides}
 use Rattle.grid.specs.Grid.{cellsOf, gridOf}
-use Rattle.heights.specs.declared.number.Number.{Number}
-use Rattle.heights.specs.declared.number.Number.the-variants.{Thousandths, Unreadable}
-use Rattle.heights.specs.Text.{word, afterWord, fromLine}
-use Rattle.heights.specs.Number.{numberOf}
+use Rattle.numerals.specs.declared.number.Number.{Number}
+use Rattle.numerals.specs.declared.number.Number.the-variants.{Thousandths, Unreadable}
+use Rattle.numerals.specs.Text.{word, afterWord, fromLine}
+use Rattle.numerals.specs.Number.{numberOf}
 use Rattle.heights.specs.Header.{isNoData}
 
 -- word x of a line, from 0

@@ -8,8 +8,8 @@ use lib.ListN.{getD}
 use Rattle.whole.specs.Fold.{first}
 use Rattle.grid.specs.declared.Sides.{Sides}
 use Rattle.grid.specs.Grid.{gridOf}
-use Rattle.heights.specs.Text.{word, afterWord, nextLine}
-use Rattle.heights.specs.Number.{numberOf}
+use Rattle.numerals.specs.Text.{word, afterWord, nextLine}
+use Rattle.numerals.specs.Number.{numberOf}
 use Rattle.invert.specs.Invert.{orZero, solidAt}
 
 unfoldable pub heightOf : ℕ → ℕ → ℤ → ℕ

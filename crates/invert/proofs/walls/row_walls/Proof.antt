@@ -3,7 +3,7 @@ use mathlib.Core.Path.{_≡_, _∙_}
 use Prim.Native.Nat.{_-_, _≤_}
 use native.Mathlib.Omega.{arith}
 use denote.Ref.{now}
-use Rattle.heights.proofs.Words.{Found, found}
+use Rattle.numerals.proofs.Words.{Found, found}
 use Rattle.invert.proofs.Heights.{Laying, lay-begin, lay-long, lay-more, lay-end}
 use Rattle.invert.proofs.walls.row_walls.Statement.{statement}
 use Rattle.invert.proofs.walls.row_walls.Tie as tie

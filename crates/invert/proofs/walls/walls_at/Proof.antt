@@ -1,7 +1,7 @@
 -- `invert::walls::walls_at`: the number there, and its column. Assumes nothing.
 use Prim.Native.Nat.{_-_, _≤_}
 use lib.ListN.{take, drop}
-use Rattle.heights.specs.Number.{numberOf}
+use Rattle.numerals.specs.Number.{numberOf}
 use mathlib.Core.Path.{_≡_, ap, _∙_}
 use native.Mathlib.Omega.{arith}
 use mir.Facts.{toZ-ofZ}
