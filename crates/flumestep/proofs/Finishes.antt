@@ -46,7 +46,7 @@ use Rattle.nine.specs.inner.Cells.{partOf9}
 use Rattle.flumegrid.specs.inner.Ready.{FlumeSized, FlumeReady, FlumeEntered}
 use Rattle.flumegrid.proofs.Checks.{sized}
 use Rattle.flumegrid.proofs.Poise.{poised}
-use Rattle.flumeflow.specs.inner.Flowed.{wideScene, FlumeFlowable, FlumeWent, stopped, through, FlumeFlowed}
+use Rattle.flumepasses.specs.inner.Flowed.{wideScene, FlumeFlowable, FlumeWent, stopped, through, FlumeFlowed}
 use Rattle.flumeflow.proofs.Nines.{part-at, place-low}
 use Rattle.flumefills.specs.inner.Filled.{Fillable9}
 use Rattle.flumeconversion.specs.inner.Turned.{FlumeTurning, FlumeTurned}

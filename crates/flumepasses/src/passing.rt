@@ -1,14 +1,14 @@
 // Pass 1 of the flume: stages 1 to 4 of every cell, and the marks that stage 5 makes of it.
-use crate::moving;
-use crate::streaming;
-use crate::trading;
 use flow::relaxing::keeping;
 use flow::trading::new_mark;
 use flume::FlumeSides;
+use flumeflow::moving;
+use flumeflow::streaming;
+use flumeflow::trading;
 use flumegrid::neighbours;
 use lattice::Settings;
 use passes::passing::Passed;
-ghost use Rattle.flumeflow.specs.inner.Flowed.{FlumeFlowable, FlumeFlowed};
+ghost use Rattle.flumepasses.specs.inner.Flowed.{FlumeFlowable, FlumeFlowed};
 
 pub fn flowing9(
     flags: &[u8],

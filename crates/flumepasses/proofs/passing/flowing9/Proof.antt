@@ -1,4 +1,4 @@
--- `flumeflow::passing::flowing9`: pass 1. The invariant is Walked: the first c cells have gone through stages 1 to 4. Assumes nothing.
+-- `flumepasses::passing::flowing9`: pass 1. The invariant is Walked: the first c cells have gone through stages 1 to 4. Assumes nothing.
 use mathlib.Core.Path.{_≡_, refl, sym, ap, _∙_, subst}
 use mathlib.Core.Bool.{Bool, true, false, not}
 use mathlib.Core.List.{List, []}
@@ -22,13 +22,13 @@ use Rattle.nine.specs.inner.Cells.{partOf9}
 use Rattle.flumegrid.specs.inner.Ready.{FlumePoised}
 use Rattle.flumegrid.proofs.GoodSides.{few}
 use Rattle.flumegrid.proofs.Offsets.{low-few}
 use Rattle.flumeflow.specs.inner.Seen.{Traders9}
 use Rattle.flumeflow.specs.inner.PutAt.{Putting9}
-use Rattle.flumeflow.specs.inner.Flowed.{alongSettings, stopped, through}
-use Rattle.flumeflow.proofs.Poise.{settings-good, traders, liquid-inner, mirrored, placed, around, immersed}
-use Rattle.flumeflow.proofs.Puts.{put-more}
-use Rattle.flumeflow.proofs.passing.flowing9.Statement.{statement}
-use Rattle.flumeflow.proofs.passing.flowing9.Tie as tie
+use Rattle.flumepasses.specs.inner.Flowed.{alongSettings, stopped, through}
+use Rattle.flumepasses.proofs.Poise.{settings-good, traders, liquid-inner, mirrored, placed, around, immersed}
+use Rattle.flumepasses.proofs.Puts.{put-more}
+use Rattle.flumepasses.proofs.passing.flowing9.Statement.{statement}
+use Rattle.flumepasses.proofs.passing.flowing9.Tie as tie
 
 abbrev Inv-loop : tie.InvT-loop
 Inv-loop flags parts mass fill parts2₀ mass2₀ marks₀ g off low from keep fair₀ still₀ c₀ parts2 mass2 marks fair calm c =
