@@ -27,7 +27,7 @@ use Rattle.numerals.specs.Text.{fromLine}
 use Rattle.heights.specs.Header.{headerOf}
 use Rattle.heights.specs.Rows.{rowsOf}
 use Rattle.invert.specs.declared.testing.Lengths.{Lengths}
-use Rattle.invert.specs.Invert.{invertFlags}
+use Rattle.solids.specs.Invert.{invertFlags}
 
 -- ---- the grid that header and host say
 
