@@ -29,7 +29,7 @@ use Rattle.grid.proofs.Blocks.{blocks-all}
 use Rattle.grid.proofs.Inside.{inner-amid}
 use Rattle.grid.proofs.Listed.{part-at}
 use Rattle.grid.proofs.Prepared.{ready-sound, ready-cell, ready-carry}
-use Rattle.flow.specs.inner.Flowed.{MovedTo}
+use Rattle.passes.specs.inner.Flowed.{MovedTo}
 use Rattle.conversion.proofs.Marking.{settled-box, turned-box}
 use Rattle.flow.proofs.Mirrored.{enclosed}
 use Rattle.flow.proofs.Poise.{poised-bodied, liquid-inner}

@@ -24,9 +24,9 @@ use Rattle.grid.specs.Outcome.{accepted, ifNone, moveAnswer}
 use Rattle.grid.specs.inner.Halfway.{Alike}
 use Rattle.grid.specs.inner.Passes.{openedBy}
 use Rattle.grid.proofs.Listed.{lengths-fit}
-use Rattle.flow.specs.declared.passing.Passed.{Passed}
-use Rattle.flow.specs.declared.passing.Passed.the-variants.{Stopped, Through}
-use Rattle.flow.specs.inner.Flowed.{MovedTo}
+use Rattle.passes.specs.declared.passing.Passed.{Passed}
+use Rattle.passes.specs.declared.passing.Passed.the-variants.{Stopped, Through}
+use Rattle.passes.specs.inner.Flowed.{MovedTo}
 use Rattle.fills.specs.inner.Filled.{Refilled}
 use Rattle.conversion.proofs.Field.{Field, sceneIn, Sound}
 use Rattle.step.proofs.Opened.{open-fluid, open-near}
@@ -46,7 +46,7 @@ use Rattle.nine.specs.inner.Cells.{partOf9}
 use Rattle.flumegrid.specs.inner.Ready.{FlumeSized, FlumeReady, FlumeEntered}
 use Rattle.flumegrid.proofs.Checks.{sized}
 use Rattle.flumegrid.proofs.Poise.{poised}
-use Rattle.flumeflow.specs.inner.Flowed.{wideScene, FlumeFlowable, FlumeWent, stopped, through, FlumeFlowed}
+use Rattle.flumepasses.specs.inner.Flowed.{wideScene, FlumeFlowable, FlumeWent, stopped, through, FlumeFlowed}
 use Rattle.flumeflow.proofs.Nines.{part-at, place-low}
 use Rattle.flumefills.specs.inner.Filled.{Fillable9}
 use Rattle.flumeconversion.specs.inner.Turned.{FlumeTurning, FlumeTurned}

@@ -1,15 +1,15 @@
 // The step of a flume that passed tests 1 to 6: passes in a row, and on refusal 7 or 8 the copy.
 use crate::marking;
-use flow::passing::Passed;
 use flume::FlumeSettings;
 use flume::FlumeSides;
 use flumeconversion::turning;
 use flumefills::filling;
-use flumeflow::passing;
 use flumegrid::checking;
 use flumegrid::entry;
+use flumepasses::passing;
 use grid::Answer;
 use grid::copying;
+use passes::passing::Passed;
 use step::sets;
 ghost use mathlib.Core.Path.{_≡_};
 ghost use Prim.Native.Nat.{suc};
