@@ -1,6 +1,5 @@
 // Stages 1 to 4 of one cell, written where they belong.
 use crate::relaxing::relaxation;
-use crate::streaming;
 use crate::streaming::chosen;
 use collision::collide::collided;
 use collision::gravity::pulled;
@@ -33,7 +32,6 @@ ghost use Rattle.grid.specs.inner.Pasted.{pasted};
 ghost use Rattle.grid.specs.inner.Sight.{boxSight};
 ghost use Rattle.flow.specs.inner.Gentle.{gentle, Follows};
 ghost use Rattle.flow.specs.inner.PutAt.{PutAt, Putting};
-ghost use Rattle.flow.specs.inner.Sources.{Mirrored, sourceOf};
 
 // Whether a cell passed stage 3's test; if so, whether its new parts keep test 6's rules, and its density.
 pub struct Put {
@@ -100,14 +98,6 @@ fn dry_out(parts2: &mut [i32], c: usize)
     if !all_zero(own(parts2, c)) {
         paste(parts2, 19 * c, [0i32; 19]);
     }
-}
-
-// Where the parts that stream straight into a cell lie, which a pass asks once for all cells.
-pub fn sources(off: [usize; 19], low: usize) -> [usize; 19]
-    requires { ⌜ Mirrored off low ⌝ }
-    ensures { λ r. ⌜ r ≡ tab 19 (sourceOf off) ⌝ }
-{
-    streaming::sources(off, low)
 }
 
 // Stages 1 to 4 of cell c: zeros where it is not liquid.

@@ -23,7 +23,7 @@ ghost use Rattle.flow.specs.inner.Sources.{Mirrored, sourceOf, arrivalAt
 ghost use Rattle.flow.specs.inner.Trade.{Fills};
 
 // Where part i that streams straight into a cell lies, counted from the first part of the cell c - low.
-pub(crate) fn sources(off: [usize; 19], low: usize) -> [usize; 19]
+pub fn sources(off: [usize; 19], low: usize) -> [usize; 19]
     requires { ⌜ Mirrored off low ⌝ }
     ensures { λ r. ⌜ r ≡ tab 19 (sourceOf off) ⌝ }
 {

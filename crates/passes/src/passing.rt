@@ -2,6 +2,7 @@
 use crate::marks;
 use flow::moving;
 use flow::relaxing;
+use flow::streaming;
 use flow::trading;
 use grid::Sides;
 use grid::kinds;
@@ -61,7 +62,7 @@ pub fn flowing(
 {
     let off = neighbours::offsets(s);
     let low = neighbours::low_of(s);
-    let from = moving::sources(off, low);
+    let from = streaming::sources(off, low);
     let keep = relaxing::keeping(g);
     let mut fair = true;
     let mut calm = true;
