@@ -104,7 +104,7 @@ source-requires c κs =
 -- the place of the first of a pair
 found-first : (c : tie.After-source Inv-loop μ-loop) → c .source .result < length (c .before .before .before .before .before .before .args .parts .now)
 found-first c =
-    let in-loop : tie.In-loop Inv-loop μ-loop = search in let l : tie.At-loop Inv-loop μ-loop = search in let s : tie.Start Inv-loop μ-loop = search in 
+    let in-loop : tie.In-loop Inv-loop μ-loop = search in let l : tie.At-loop Inv-loop μ-loop = search in let s : tie.Start Inv-loop μ-loop = search in
     subst (λ (n : ℕ). n < length (s .args .parts .now)) (sym (c .source .ensures)) (there s (l .loop .i) (l .loop .i + 1) (in-loop .loop-test .taken) (omega (arith, l .loop .inv .0, in-loop .loop-test .taken)))
 
 -- the second direction is one too
@@ -148,7 +148,7 @@ source-requires-2 c κs =
 
 found-second : (c : tie.After-source2 Inv-loop μ-loop) → c .source2 .result < length (c .before .before .before .before .before .before .before .before .before .args .parts .now)
 found-second c =
-    let in-loop : tie.In-loop Inv-loop μ-loop = search in let l : tie.At-loop Inv-loop μ-loop = search in let s : tie.Start Inv-loop μ-loop = search in 
+    let in-loop : tie.In-loop Inv-loop μ-loop = search in let l : tie.At-loop Inv-loop μ-loop = search in let s : tie.Start Inv-loop μ-loop = search in
     subst (λ (n : ℕ). n < length (s .args .parts .now)) (sym (c .source2 .ensures)) (there s (l .loop .i + 1) (l .loop .i) (second (search)) (in-loop .loop-test .taken))
 
 mul-f-5 : tie.Need-mul-f-5 Inv-loop μ-loop
@@ -172,7 +172,7 @@ loop-less c = search needs
 loop-again : tie.Need-loop-again Inv-loop μ-loop
 loop-again c =
     let after-source : tie.After-source Inv-loop μ-loop = search in let after-source2 : tie.After-source2 Inv-loop μ-loop = search in let after-f : tie.After-f2 Inv-loop μ-loop = search in
-    let in-loop : tie.In-loop Inv-loop μ-loop = search in let l : tie.At-loop Inv-loop μ-loop = search in let s : tie.Start Inv-loop μ-loop = search in 
+    let in-loop : tie.In-loop Inv-loop μ-loop = search in let l : tie.At-loop Inv-loop μ-loop = search in let s : tie.Start Inv-loop μ-loop = search in
     let odd = l .loop .inv .0 in
     let t = second after-source in (
       omega (arith, odd),
