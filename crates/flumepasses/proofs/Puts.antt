@@ -1,4 +1,4 @@
--- Pass 1's second set, cell by cell: once cell c's parts are pasted, one more cell holds its moved parts. Assumes nothing.
+-- Pass 1's second set, cell by cell: once cell c's parts are pasted, one more cell holds its moved parts, and those after it are as they were. Assumes nothing.
 use mathlib.Core.Path.{_≡_, refl, sym, ap, _∙_}
 use mathlib.Core.List.{List, []}
 use Prim.Native.Nat.{ℕ, zero, suc, _+_, _*_, _≤_, _<_}
@@ -34,6 +34,11 @@ module _ (flags : List ℕ) (parts : List ℤ) (fills off : List ℕ) (low : ℕ
   quiet : (c : ℕ) → Quiet (tab 19 (movedPart S c))
   unfolding movedPart sight
   quiet c = record { at = λ i n. getD-tab 19 (movedPart S c) (pos 0) i (omega (arith, n .low)) ∙ by-nothing (getD flags c 3) (collided S c i) (collided-none _ _ _ _ (part-none parts) c i n) }
+
+  -- the cells after the one that is put stay
+  pub put-past : (parts2 after : List ℤ) (c : ℕ) → 9 * c + 9 ≤ length parts2 → after ≡ pasted9 parts2 c (tab 19 (movedPart S c))
+      → (j k : ℕ) → c + 1 ≤ j → k < 19 → partOf9 after j k ≡ partOf9 parts2 j k
+  put-past parts2 after c h e j k l m = ap (λ (x : List ℤ). partOf9 x j k) e ∙ pasted-other parts2 c (tab 19 (movedPart S c)) h j k (λ p. omega arith) m
 
   pub put-more : (parts2 after : List ℤ) (c : ℕ) → 9 * c + 9 ≤ length parts2 → after ≡ pasted9 parts2 c (tab 19 (movedPart S c))
       → ((j k : ℕ) → j < c → k < 19 → partOf9 parts2 j k ≡ movedPart S j k) → (j k : ℕ) → j < c + 1 → k < 19 → partOf9 after j k ≡ movedPart S j k

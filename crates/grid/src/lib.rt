@@ -1,4 +1,4 @@
-// Layer 2, the grid: states, the check, the normal. Knows the promises of lattice.
+// Layer 2, the grid: states, neighbours, searches, copies, the normal. Knows the promises of lattice.
 pub mod cells;
 pub mod copying;
 pub mod extent;

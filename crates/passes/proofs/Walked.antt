@@ -13,7 +13,7 @@ use lib.ListN.{length, getD, set}
 use lib.Seq.{getD-set-other}
 use borrow.Author.Tests.{eqb-true}
 use borrow.Author.Count.{below-more}
-use Rattle.whole.specs.laws.Bools.{and-left, and-right}
+use Rattle.whole.specs.laws.Bools.{and-left, and-right, or-false}
 use Rattle.whole.specs.Fold.{tab, first}
 use Rattle.whole.specs.laws.Order.{≤-or}
 use Rattle.whole.specs.laws.Search.{first-all, first-is}
@@ -27,6 +27,7 @@ use Rattle.grid.specs.Step.{streamedDensity, tradedMass, unsteady, collided}
 use Rattle.lattice.specs.Body.{bodyGood}
 use Rattle.grid.specs.inner.Between.{movedPart, movedMass, firstMark}
 use Rattle.grid.specs.inner.Halfway.{Moved}
+use Rattle.grid.specs.inner.Passes.{eitherLiquid}
 use Rattle.grid.specs.inner.Pasted.{pasted}
 use Rattle.grid.specs.inner.Sight.{sight}
 use Rattle.grid.proofs.Blocks.{Blocks, blocks-more, blocks-all, pasted-after}
@@ -34,10 +35,16 @@ use Rattle.grid.proofs.Same.{body-same}
 use Rattle.flow.specs.declared.moving.Put.{Put}
 use Rattle.flow.specs.inner.PutAt.{Told}
 use Rattle.passes.specs.inner.Flowed.{MovedTo}
+use Rattle.passes.specs.inner.Skipped.{Skipped}
 use Rattle.passes.specs.inner.Stretch.{Cleared}
 use Rattle.flow.specs.inner.Trade.{markFor}
 use Rattle.flow.proofs.Collisions.{by-dry, part-none, steady-dry}
 use Rattle.flow.proofs.Onward.{stepOn, fast-seen, part-seen, mass-seen, mark-seen, collided-seen}
+
+-- a cell that is liquid in neither set
+both-dry : (flags flags2 : List ℕ) (c : ℕ) → eitherLiquid flags flags2 c ≡ false → (liquid (getD flags c 3) ≡ false) × (liquid (getD flags2 c 3) ≡ false)
+unfolding eitherLiquid
+both-dry flags flags2 c e = or-false _ _ e
 
 module _ (weights : ℕ → ℕ) (flags : List ℕ) (part : ℕ → ℕ → ℤ) (masses : List ℤ) (fills off : List ℕ) (low : ℕ) (g : Settings) where
   abbrev pub seen : Scene
@@ -151,7 +158,7 @@ module _ (weights : ℕ → ℕ) (flags : List ℕ) (part : ℕ → ℕ → ℤ)
     unfolding fairOf
     fair-dry j l m = by-dry (getD flags j 3) true (bodyGood d3q19 (collided seen j)) (bodyGood d3q19 (collided seen j)) (dry j l m)
 
-    pub walked-dry : {marks₀ : List ℕ} {part2 : ℕ → ℕ → ℤ} {masses2 after : List ℤ} {marks new : List ℕ} {fair calm : Bool} → Walked marks₀ part2 masses2 marks fair calm c
+    walked-dry : {marks₀ : List ℕ} {part2 : ℕ → ℕ → ℤ} {masses2 after : List ℤ} {marks new : List ℕ} {fair calm : Bool} → Walked marks₀ part2 masses2 marks fair calm c
         → ((j k : ℕ) → c ≤ j → j < e → k < 19 → part2 j k ≡ pos 0) → Cleared (pos 0) c e masses2 after → Cleared 0 c e marks new → Walked marks₀ part2 after new fair calm e
     walked-dry {part2 = part2} {after = after} {new = new} w none zm zk = record {
       steady = both (λ j. unsteady seen j ≡ false) (w .steady) (λ j l m. steady-dry weights flags part fills off low g j (dry j l m));
@@ -162,6 +169,14 @@ module _ (weights : ℕ → ℕ) (flags : List ℕ) (part : ℕ → ℕ → ℤ)
       fair-tells = λ f. both (λ j. fairOf j ≡ true) (w .fair-tells f) fair-dry;
       calm-tells = λ f. both (λ j. markOf j ≡ 0) (w .calm-tells f) mark-none;
     }
+
+  -- those that are dry in both sets, if the second set's flags tell where it has no parts
+  pub walked-skipped : {c e : ℕ} {flags2 marks₀ : List ℕ} {part2 : ℕ → ℕ → ℤ} {masses2 after : List ℤ} {marks new : List ℕ} {fair calm : Bool} → Skipped flags flags2 masses2 marks c e after new
+      → Walked marks₀ part2 masses2 marks fair calm c → ((j k : ℕ) → c ≤ j → j < length flags → k < 19 → liquid (getD flags2 j 3) ≡ false → part2 j k ≡ pos 0)
+      → Walked marks₀ part2 after new fair calm e
+  walked-skipped s w none =
+      walked-dry (omega (arith, s .onward)) (λ j h l. both-dry _ _ j (s .dry .before j h l) .0) w
+      (λ j k h l n. none j k h (omega (arith, s .dry .most)) n (both-dry _ _ j (s .dry .before j h l) .1)) (s .massless) (s .unmarked)
 
 -- ---- to the step's scene
 module _ (weights : ℕ → ℕ) (G : Grid) (g : Settings) (flags : List ℕ) (part : ℕ → ℕ → ℤ) (masses : List ℤ) (fills off : List ℕ) (low n : ℕ)

@@ -35,7 +35,13 @@ fn unload(masses2: &mut [i32], a: usize, b: usize)
 }
 
 // Neither mass nor mark in cell c, which is dry in both sets and so has no parts already, and in those after it that are so too; the next cell that is not.
-fn skip_dry(flags: &[u8], flags2: &[u8], masses2: &mut [i32], marks: &mut [u8], c: usize) -> usize
+pub fn skip_dry(
+    flags: &[u8],
+    flags2: &[u8],
+    masses2: &mut [i32],
+    marks: &mut [u8],
+    c: usize,
+) -> usize
     requires { ⌜ Skippable (now flags) (now flags2) (now masses2) (now marks) c ⌝ }
     ensures { λ r. ⌜ Skipped (now (flags .entry)) (now (flags2 .entry)) (now (masses2 .entry)) (now (marks .entry)) c r (now (masses2 .exit)) (now (marks .exit)) ⌝ }
 {

@@ -18,7 +18,7 @@ use Rattle.flume.specs.declared.FlumeSettings.{FlumeSettings}
 use Rattle.flume.specs.Flume.{flumeCells, flumeGrid}
 use Rattle.flume.specs.inner.Spread.{spreadLattice, spreadGrid}
 use Rattle.nine.specs.inner.Cells.{partOf9}
-use Rattle.flumegrid.specs.inner.Ready.{FlumePoised}
+use Rattle.flumegrid.specs.inner.Ready.{FlumePoised, FlumeDried}
 
 -- the flume's settings that a box's with gy = 0 are
 abbrev pub alongSettings : Settings → FlumeSettings
@@ -30,11 +30,13 @@ wideScene s g a =
     sceneBy spreadLattice (spreadGrid (flumeGrid s))
     (record { flag = λ c. getD (a .flags) c 3; part = partOf9 (a .parts); mass = λ c. getD (a .masses) c (pos 0); fill = λ c. getD (a .fills) c 0; carry = getD (a .carry) 0 (pos 0) }) g
 
--- a set that is poised, room of the right lengths, and pass 0's marks: a liquid cell that is marked is fluid, and all its neighbours are liquid. The pass is not
--- lent the carry, which no stage before the last sum of stage 6 reads
-pub record FlumeFlowable (s : FlumeSides) (g : Settings) (flags : List ℕ) (parts masses : List ℤ) (fills : List ℕ) (parts2 masses2 : List ℤ) (marks : List ℕ) : Type 0 where
+-- a set that is poised, room of the right lengths whose flags tell where its parts are 0 already, and pass 0's marks: a liquid cell that is marked is fluid, and all its
+-- neighbours are liquid. The pass is not lent the carry, which no stage before the last sum of stage 6 reads
+pub record FlumeFlowable (s : FlumeSides) (g : Settings) (flags : List ℕ) (parts masses : List ℤ) (fills flags2 : List ℕ) (parts2 masses2 : List ℤ) (marks : List ℕ) : Type 0 where
   pub poised : FlumePoised s (alongSettings g) (lent flags parts masses fills [])
   pub level : g .gy ≡ pos 0
+  pub flags-room : length flags2 ≡ flumeCells s
+  pub dried : FlumeDried s flags2 parts2
   pub parts-room : length parts2 ≡ 9 * flumeCells s
   pub masses-room : length masses2 ≡ flumeCells s
   pub marks-room : length marks ≡ flumeCells s

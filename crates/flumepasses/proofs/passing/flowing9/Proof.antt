@@ -1,8 +1,9 @@
--- `flumepasses::passing::flowing9`: pass 1. The invariant is Walked: the first c cells have gone through stages 1 to 4. Assumes nothing.
+-- `flumepasses::passing::flowing9`: pass 1. The invariant is Walked: the first c cells have gone through stages 1 to 4; the parts of the others are as they were,
+-- so that those of a cell that is dry in the second set are 0 still. Assumes nothing.
 use mathlib.Core.Path.{_≡_, refl, sym, ap, _∙_, subst}
 use mathlib.Core.Bool.{Bool, true, false, not}
 use mathlib.Core.List.{List, []}
-use Prim.Native.Nat.{ℕ, _+_, _-_, _≤_, _<_}
+use Prim.Native.Nat.{ℕ, _+_, _-_, _*_, _≤_, _<_}
 use native.Mathlib.Nat.{le-refl}
 use native.Mathlib.Omega.{arith}
 use lib.ListN.{length, getD, length-set}
@@ -14,7 +15,7 @@ use Rattle.grid.specs.State.{lent, liquid}
 use Rattle.grid.specs.inner.Passes.{Amid}
 use Rattle.grid.specs.inner.Sight.{Around}
 use Rattle.grid.proofs.Lists.{getD-there}
-use Rattle.passes.proofs.Walked.{Walked, walked-first, walked-turn, walked-stopped, walked-moved}
+use Rattle.passes.proofs.Walked.{Walked, walked-first, walked-turn, walked-skipped, walked-stopped, walked-moved}
 use Rattle.flume.specs.Flume.{flumeCells, flumeGrid}
 use Rattle.flume.specs.inner.Offsets.{flumeLow, flumeOffset}
 use Rattle.flume.specs.inner.Spread.{spreadLattice, spreadGrid}
@@ -26,17 +27,18 @@ use Rattle.flumeflow.specs.inner.Seen.{Traders9}
 use Rattle.flumeflow.specs.inner.PutAt.{Putting9}
 use Rattle.flumepasses.specs.inner.Flowed.{alongSettings, stopped, through}
 use Rattle.flumepasses.proofs.Poise.{settings-good, traders, liquid-inner, mirrored, placed, around, immersed}
-use Rattle.flumepasses.proofs.Puts.{put-more}
+use Rattle.flumepasses.proofs.Puts.{put-past, put-more}
 use Rattle.flumepasses.proofs.passing.flowing9.Statement.{statement}
 use Rattle.flumepasses.proofs.passing.flowing9.Tie as tie
 
 abbrev Inv-loop : tie.InvT-loop
-Inv-loop flags parts mass fill parts2₀ mass2₀ marks₀ g off low from keep fair₀ still₀ c₀ parts2 mass2 marks fair calm c =
+Inv-loop flags parts mass fill flags2 parts2₀ mass2₀ marks₀ g off low from keep fair₀ still₀ c₀ parts2 mass2 marks fair calm c =
     (c ≤ length flags) × (length parts2 ≡ length parts2₀) × (length mass2 ≡ length mass2₀) × (length marks ≡ length marks₀)
     × Walked (spreadLattice .weight) flags (partOf9 parts) mass fill off low g marks₀ (partOf9 parts2) mass2 marks fair calm c
+    × ((j k : ℕ) → c ≤ j → k < 19 → partOf9 parts2 j k ≡ partOf9 parts2₀ j k)
 
 abbrev μ-loop : tie.MeasureT-loop
-μ-loop flags parts mass fill parts2₀ mass2₀ marks₀ g off low from keep fair₀ still₀ c₀ parts2 mass2 marks fair calm c = length flags - c
+μ-loop flags parts mass fill flags2 parts2₀ mass2₀ marks₀ g off low from keep fair₀ still₀ c₀ parts2 mass2 marks fair calm c = length flags - c
 
 -- a cell that did not pass is unsteady
 is-unsteady : {ok t : Bool} → ok ≡ not t → ok ≡ false → t ≡ true
@@ -120,7 +122,10 @@ keeping-requires : tie.Need-keeping-requires Inv-loop μ-loop
 keeping-requires c κs = let t : tie.Start Inv-loop μ-loop = search in settings-good (t .args .s) (t .args .g) (t .pre .poised) (t .pre .level)
 
 loop-holds : tie.Need-loop-holds Inv-loop μ-loop
-loop-holds c = (omega arith, refl, refl, refl, walked-first _ _ _ _ _ _ _ _ _ _ _)
+loop-holds c = (omega arith, refl, refl, refl, walked-first _ _ _ _ _ _ _ _ _ _ _, λ j k h l. refl)
+
+either-liquid-requires : tie.Need-either-liquid-requires Inv-loop μ-loop
+either-liquid-requires c κs = let h = c .loop-test .taken in (h, omega (arith, is-cell c, start c .pre .flags-room))
 
 slice-read-put-parts9 : tie.Need-slice-read-put-parts9 Inv-loop μ-loop
 slice-read-put-parts9 c = let d : tie.In-loop Inv-loop μ-loop = search in let h = is-cell d in omega (arith, d .before .loop .inv .3, start d .pre .marks-room)
@@ -129,7 +134,9 @@ put-parts9-requires : tie.Need-put-parts9-requires Inv-loop μ-loop
 put-parts9-requires c κs = putting (search)
 
 same-length : tie.Need-same-length Inv-loop μ-loop
-same-length c = c .before .before .before .put-parts9 .ensures .kept ∙ c .before .before .before .before .before .before .before .before .before .loop .inv .1
+same-length c =
+    let after-put-parts9 : tie.After-put-parts9 Inv-loop μ-loop = search in let at-loop : tie.At-loop Inv-loop μ-loop = search in
+    after-put-parts9 .put-parts9 .ensures .kept ∙ at-loop .loop .inv .1
 
 same-length-2 : tie.Need-same-length-2 Inv-loop μ-loop
 same-length-2 c = let at-loop : tie.At-loop Inv-loop μ-loop = search in at-loop .loop .inv .2
@@ -144,7 +151,7 @@ returns c =
     let o = after-put-parts9 .put-parts9 in
     record {
       went = stopped (is-cell d) (walked-stopped (spreadLattice .weight) (spreadGrid (flumeGrid (t .args .s))) (t .args .g) _ _ _ _ (off d) (low d) _ (placed-all d) _ _ _ _ _ _ (cell d) (is-cell d) (walked d)
-          (is-unsteady (o .ensures .told .ok) (not-true _ (c .if1 .taken))));
+          (is-unsteady (o .ensures .told .ok) (not-true _ (c .if2 .taken))));
       parts-kept = o .ensures .kept ∙ d .before .loop .inv .1 ∙ t .pre .parts-room;
       masses-kept = d .before .loop .inv .2 ∙ t .pre .masses-room;
       marks-kept = d .before .loop .inv .3 ∙ t .pre .marks-room;
@@ -177,27 +184,63 @@ loop-less c = let in-loop : tie.In-loop Inv-loop μ-loop = search in let h = in-
 loop-again : tie.Need-loop-again Inv-loop μ-loop
 loop-again c =
     let after-new-mark : tie.After-new-mark Inv-loop μ-loop = search in let after-struct-told2 : tie.After-struct-told2 Inv-loop μ-loop = search in let after-new-mass9 : tie.After-new-mass9 Inv-loop μ-loop = search in
-    let after-struct-told : tie.After-struct-told Inv-loop μ-loop = search in let else1 : tie.Else1 Inv-loop μ-loop = search in let after-put-parts9 : tie.After-put-parts9 Inv-loop μ-loop = search in
-    let d : tie.In-loop Inv-loop μ-loop = search in
+    let after-struct-told : tie.After-struct-told Inv-loop μ-loop = search in let else2 : tie.Else2 Inv-loop μ-loop = search in let after-put-parts9 : tie.After-put-parts9 Inv-loop μ-loop = search in
+    let then1 : tie.Then1 Inv-loop μ-loop = search in
+    let d = then1 .before .before in
     let t = start d in
     let l = d .before .loop in
     let put = after-put-parts9 .put-parts9 in
     let gained = after-new-mass9 .new-mass9 in
     let mark = after-new-mark .new-mark in
-    let ok = not-false _ (else1 .if1 .left) in
-    let h = is-cell d in (
+    let ok = not-false _ (else2 .if2 .left) in
+    let h = is-cell d in
+    let fits : 9 * l .c + 9 ≤ length (l .parts2) = omega (arith, l .inv .1, t .pre .parts-room) in (
       omega arith,
       put .ensures .kept ∙ l .inv .1,
       simp length-set (l .inv .2),
       simp length-set (l .inv .3),
       walked-turn (spreadLattice .weight) (t .args .flags .now) (partOf9 (t .args .parts .now)) (t .args .masses .now) (t .args .fills .now) (off d) (low d) (t .args .g) (t .args .marks .now)
           (partOf9 (l .parts2)) (partOf9 (put .last .1 .1 .1 .0)) (l .masses2) (l .marks) (l .fair) (l .calm) (l .c) (walked d) (put .result) (put .ensures .told) ok
-          (put-more (t .args .flags .now) (t .args .parts .now) (t .args .fills .now) (off d) (low d) (t .args .g) (l .parts2) (put .last .1 .1 .1 .0) (l .c) (omega (arith, l .inv .1, t .pre .parts-room)) (put .ensures .parts ok))
+          (put-more (t .args .flags .now) (t .args .parts .now) (t .args .fills .now) (off d) (low d) (t .args .g) (l .parts2) (put .last .1 .1 .1 .0) (l .c) fits (put .ensures .parts ok))
           (gained .result) _ _ _ _ (mark .result) _ (getD-there (t .args .flags .now) (l .c) 0 3 (d .loop-test .taken))
           (omega (arith, l .inv .2, t .pre .masses-room)) (omega (arith, l .inv .3, t .pre .marks-room))
           (gained .ensures (t .args .g)) (toZ-ofZ {w = w32} (record { sfits = after-struct-told .struct-told .given .1 .1 .0 .1 }))
           (toZ-ofZ {w = w32} (record { sfits = gained .ok })) (mark .ensures) (toZ-ofZ {w = w32} (record { sfits = gained .ok }))
           (toZ-ofZ {w = w32} (record { sfits = after-struct-told2 .struct-told2 .given .1 .1 .0 .1 })),
+      λ j k n m. put-past (t .args .flags .now) (t .args .parts .now) (t .args .fills .now) (off d) (low d) (t .args .g) (l .parts2) (put .last .1 .1 .1 .0) (l .c) fits (put .ensures .parts ok) j k n m ∙ l .inv .5 j k (omega arith) m,
+    )
+
+skip-dry-requires : tie.Need-skip-dry-requires Inv-loop μ-loop
+skip-dry-requires c κs =
+    let d : tie.In-loop Inv-loop μ-loop = search in let after-either-liquid : tie.After-either-liquid Inv-loop μ-loop = search in let else1 : tie.Else1 Inv-loop μ-loop = search in
+    let p = start d .pre in
+    record {
+      is-cell = d .loop-test .taken;
+      dry = sym (after-either-liquid .either-liquid .ensures) ∙ else1 .if1 .left;
+      flags-room = p .flags-room ∙ sym (p .poised .flags);
+      masses-room = d .before .loop .inv .2 ∙ p .masses-room ∙ sym (p .poised .flags);
+      marks-room = d .before .loop .inv .3 ∙ p .marks-room ∙ sym (p .poised .flags);
+    }
+
+loop-less-2 : tie.Need-loop-less-2 Inv-loop μ-loop
+loop-less-2 c =
+    let after-skip-dry : tie.After-skip-dry Inv-loop μ-loop = search in
+    let s = after-skip-dry .skip-dry .ensures in
+    omega (arith, s .onward, s .dry .most)
+
+loop-again-2 : tie.Need-loop-again-2 Inv-loop μ-loop
+loop-again-2 c =
+    let after-skip-dry : tie.After-skip-dry Inv-loop μ-loop = search in let d : tie.In-loop Inv-loop μ-loop = search in
+    let t = start d in
+    let l = d .before .loop in
+    let s = after-skip-dry .skip-dry .ensures in (
+      s .dry .most,
+      l .inv .1,
+      s .massless .size ∙ l .inv .2,
+      s .unmarked .size ∙ l .inv .3,
+      walked-skipped (spreadLattice .weight) (t .args .flags .now) (partOf9 (t .args .parts .now)) (t .args .masses .now) (t .args .fills .now) (off d) (low d) (t .args .g) s (walked d)
+          (λ j k h m n dry. l .inv .5 j k h n ∙ t .pre .dried j k (omega (arith, poise d .flags)) n dry),
+      λ j k h m. l .inv .5 j k (omega (arith, s .onward)) m,
     )
 
 same-length-4 : tie.Need-same-length-4 Inv-loop μ-loop
@@ -238,6 +281,7 @@ flowing9-spec =
     sources9-requires
     keeping-requires
     loop-holds
+    either-liquid-requires
     slice-read-put-parts9
     put-parts9-requires
     same-length
@@ -253,6 +297,9 @@ flowing9-spec =
     add-c
     loop-less
     loop-again
+    skip-dry-requires
+    loop-less-2
+    loop-again-2
     same-length-4
     same-length-5
     same-length-6

@@ -10,13 +10,11 @@ use lib.ListN.{length, getD, length-set}
 use borrow.Author.Tests.{not-true, not-false}
 use mir.Syntax.{w32}
 use mir.Facts.{toZ-ofZ}
-use Rattle.whole.specs.laws.Bools.{or-false}
 use Rattle.lattice.specs.Lattice.{d3q19}
 use Rattle.grid.specs.State.{partOf, lent, liquid, stateOf}
 use Rattle.grid.specs.Grid.{cellsOf, gridOf, box}
 use Rattle.grid.specs.Outcome.{sceneOf}
 use Rattle.grid.specs.inner.Between.{Poised}
-use Rattle.grid.specs.inner.Passes.{eitherLiquid}
 use Rattle.grid.specs.inner.Sight.{Around}
 use Rattle.grid.proofs.Beside.{Offsets}
 use Rattle.grid.proofs.Lists.{getD-there}
@@ -26,7 +24,7 @@ use Rattle.flow.specs.inner.Trade.{Traders}
 use Rattle.grid.proofs.Inside.{room, few}
 use Rattle.flow.proofs.Mirrored.{enclosed, mirrored, around, immersed}
 use Rattle.flow.proofs.Poise.{liquid-inner, poised-bodied, poised-mass, poised-fills, placed}
-use Rattle.passes.proofs.Walked.{Walked, walked-first, walked-turn, walked-dry, walked-stopped, walked-moved, put-more, put-past, moved-list}
+use Rattle.passes.proofs.Walked.{Walked, walked-first, walked-turn, walked-skipped, walked-stopped, walked-moved, put-more, put-past, moved-list}
 use Rattle.passes.proofs.passing.flowing.Statement.{statement}
 use Rattle.passes.proofs.passing.flowing.Tie as tie
 
@@ -43,11 +41,6 @@ abbrev μ-loop : tie.MeasureT-loop
 is-unsteady : {ok t : Bool} → ok ≡ not t → ok ≡ false → t ≡ true
 is-unsteady {t = true} e f = refl
 is-unsteady {t = false} e f = sym f ∙ e
-
--- a cell that is liquid in neither set
-both-dry : (flags flags2 : List ℕ) (c : ℕ) → eitherLiquid flags flags2 c ≡ false → (liquid (getD flags c 3) ≡ false) × (liquid (getD flags2 c 3) ≡ false)
-unfolding eitherLiquid
-both-dry flags flags2 c e = or-false _ _ e
 
 -- ---- inside the loop: the offsets, the cell, and what a function of one cell asks
 module _ (d : tie.In-loop Inv-loop μ-loop) where
@@ -244,17 +237,14 @@ loop-again-2 c =
     let after-skip-dry : tie.After-skip-dry Inv-loop μ-loop = search in let d : tie.In-loop Inv-loop μ-loop = search in
     let t = start d in
     let l = d .before .loop in
-    let s = after-skip-dry .skip-dry .ensures in
-    let e = after-skip-dry .skip-dry .result in
-    let dry : (j : ℕ) → l .c ≤ j → j < e → (liquid (getD (t .args .flags .now) j 3) ≡ false) × (liquid (getD (t .args .flags2 .now) j 3) ≡ false) = λ j h k. both-dry _ _ j (s .dry .before j h k) in
-    let past : l .c ≤ e = omega (arith, s .onward) in (
+    let s = after-skip-dry .skip-dry .ensures in (
       s .dry .most,
       l .inv .1,
       s .massless .size ∙ l .inv .2,
       s .unmarked .size ∙ l .inv .3,
-      walked-dry (d3q19 .weight) (t .args .flags .now) (partOf (t .args .parts .now)) (t .args .masses .now) (t .args .fills .now) (off d) (low d) (t .args .g) past (λ j h k. dry j h k .0) (walked d)
-          (λ j k h m n. l .inv .5 j k h ∙ t .pre .dried j k (omega (arith, s .dry .most, t .pre .flags-room, poise d .flags)) n (dry j h m .1)) (s .massless) (s .unmarked),
-      λ j k h. l .inv .5 j k (omega arith),
+      walked-skipped (d3q19 .weight) (t .args .flags .now) (partOf (t .args .parts .now)) (t .args .masses .now) (t .args .fills .now) (off d) (low d) (t .args .g) s (walked d)
+          (λ j k h m n dry. l .inv .5 j k h ∙ t .pre .dried j k (omega (arith, t .pre .flags-room, poise d .flags)) n dry),
+      λ j k h. l .inv .5 j k (omega (arith, s .onward)),
     )
 
 same-length-4 : tie.Need-same-length-4 Inv-loop μ-loop
