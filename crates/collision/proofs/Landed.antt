@@ -1,9 +1,10 @@
--- Where a part lands: an end that tells gives the cut quotient of stage 4. Assumes nothing.
+-- Where a part lands: an end that leaves no doubt gives the cut quotient of stage 4. Assumes nothing.
 use mathlib.Core.Path.{_≡_, refl, sym, _∙_, ap}
 use mathlib.Core.List.{[], _∷_}
 use mathlib.Core.Bool.{Bool, true, false, cond}
+use mathlib.Core.Logic.{_⊎_, inl, inr}
 use Prim.Native.Nat.{ℕ, zero, suc, _+_, _*_, _-_, _/_, _%_, _<_, _≤_}
-use native.Mathlib.Nat.{div-add-mod, mod-lt, mul-comm, mul-suc, mul-le-mul-left}
+use native.Mathlib.Nat.{div-add-mod, mod-lt, mul-add, mul-comm, mul-suc, mul-le-mul-left}
 use native.Mathlib.Omega.{arith}
 use lib.Dec.{T, leb, leb→le}
 use lib.IntN.{ℤ, pos, negsuc, negℤ, natAbs, _+ℤ_, _-ℤ_, _*ℤ_}
@@ -95,12 +96,16 @@ told-left s e =
       eq-is (is-add (is-self s) (is-pos 1)) (is-add q (is-pos (left (s +ℤ pos 1) 1024))) next,
     )
 
+-- what leaves no doubt of a landing, where the end e lacks less than k: that one more would not move it, and no more than one is lacked; or that no whole
+-- number lies so near above the end
+abbrev pub Sure : ℕ → ℤ → ℤ → ℕ → Type 0
+Sure e f c k = ((k ≤ 4294967296) × (tells e f c ≡ true)) ⊎ (e % 4294967296 + k < 4294967296)
+
 module _ (r e k : ℕ) (N f p : ℤ)
     (some : 0 < r)
     (low : (pos 72 *ℤ (pos r *ℤ pos e)) <ℤ (N *ℤ pos 4294967296))
     (high : (N *ℤ pos 4294967296) <ℤ (pos 72 *ℤ (pos r *ℤ pos e +ℤ pos k *ℤ pos r)))
-    (small : k ≤ 4294967296)
-    (told : tells e f (pos 1024 -ℤ p) ≡ true)
+    (sure : Sure e f (pos 1024 -ℤ p) k)
   where
     abbrev u : ℕ
     u = e / 4294967296
@@ -120,19 +125,26 @@ module _ (r e k : ℕ) (N f p : ℤ)
     split : r * e ≡ 4294967296 * (r * u) + r * l
     split = ap (λ (k : ℕ). r * k) (sym (div-add-mod e 4294967296)) ∙ (omega arith)
 
-    -- p·w·Q lies strictly between u and u + 2 times 72ρ
+    -- p·w·Q lies strictly between u and u + w times 72ρ, and n leaves at most 1024 − w
     v-low : (pos (72 * (r * u))) <ℤ N
     v-low = parts-< (omega (arith, split, of< (N ∷ []) (search quotes depth 20) (search quotes depth 20) low))
 
-    v-high : N <ℤ (pos (72 * (r * u + 2 * r)))
-    v-high =
-        let h : l < 4294967296 = mod-lt e (omega arith) in
-        parts-< (omega (arith, split, mul-le-mul-left r h, mul-suc r l, mul-le-mul-left r small, mul-comm r k, of< (N ∷ []) (search quotes depth 20) (search quotes depth 20) high))
-
-    -- and n leaves at most 1022
-    t-high : t ≤ 1022
+    edge : (w : ℕ) × (N <ℤ pos (72 * (r * u + r * w))) × (t + w ≤ 1024)
     unfolding tells
-    t-high = told-left s told
+    edge = go sure
+      where
+        go : Sure e f (pos 1024 -ℤ p) k → (w : ℕ) × (N <ℤ pos (72 * (r * u + r * w))) × (t + w ≤ 1024)
+        go (inl (small, told)) =
+            let h : l < 4294967296 = mod-lt e (omega arith) in (
+              2,
+              parts-< (omega (arith, split, mul-le-mul-left r h, mul-suc r l, mul-le-mul-left r small, mul-comm r k, of< (N ∷ []) (search quotes depth 20) (search quotes depth 20) high)),
+              omega (arith, told-left s told),
+            )
+        go (inr clear) = (
+          1,
+          parts-< (omega (arith, split, mul-le-mul-left r clear, mul-suc r (l + k), mul-add r l k, mul-comm r k, of< (N ∷ []) (search quotes depth 20) (search quotes depth 20) high)),
+          omega (arith, left-most s 1024 (omega arith)),
+        )
 
     -- what n leaves
     rest : ℤ
@@ -146,7 +158,7 @@ module _ (r e k : ℕ) (N f p : ℤ)
     unfolding rest
     rest-high =
         to< (N ∷ []) (search quotes depth 20) (search quotes depth 20)
-        (omega (arith, <-parts v-high, mul-le-mul-left r t-high))
+        (omega (arith, <-parts (edge .1), mul-add r t (edge .0), mul-le-mul-left r (edge .2)))
 
     abbrev growth : ℤ
     growth = N -ℤ p *ℤ (pos 72 *ℤ (pos r *ℤ f))
@@ -202,17 +214,16 @@ module _ (r e k : ℕ) (N f p : ℤ)
 
 -- ---- for a flow: part i lands where stage 4 wants it
 landed-any : (ρ n f p : ℤ) (e k : ℕ) → pos 294912 ≤ℤ ρ → (pos 72 *ℤ (ρ *ℤ pos e)) <ℤ (n *ℤ pos 4294967296)
-    → (n *ℤ pos 4294967296) <ℤ (pos 72 *ℤ (ρ *ℤ pos e +ℤ pos k *ℤ ρ)) → k ≤ 4294967296 → tells e f (pos 1024 -ℤ p) ≡ true
+    → (n *ℤ pos 4294967296) <ℤ (pos 72 *ℤ (ρ *ℤ pos e +ℤ pos k *ℤ ρ)) → Sure e f (pos 1024 -ℤ p) k
     → landed e f (pos 1024 -ℤ p) ≡ f +ℤ quotZ (n -ℤ p *ℤ (pos 72 *ℤ (ρ *ℤ f))) (pos 73728 *ℤ ρ)
-landed-any (pos r) n f p e k deep low high small told = landed-is r e k n f p (omega (arith, ≤-parts deep)) low high small told
-landed-any (negsuc r) n f p e k deep low high small told = absurd (deep .le)
+landed-any (pos r) n f p e k deep low high sure = landed-is r e k n f p (omega (arith, ≤-parts deep)) low high sure
+landed-any (negsuc r) n f p e k deep low high sure = absurd (deep .le)
 
-pub landed-part : (L : Lattice) (v : Flow) (p : ℤ) (f : ℕ → ℤ) (i e k : ℕ) → pos 294912 ≤ℤ v .rho → Near L k v p i e → k ≤ 4294967296
-    → tells e (f i) (pos 1024 -ℤ p) ≡ true
+pub landed-part : (L : Lattice) (v : Flow) (p : ℤ) (f : ℕ → ℤ) (i e k : ℕ) → pos 294912 ≤ℤ v .rho → Near L k v p i e → Sure e (f i) (pos 1024 -ℤ p) k
     → landed e (f i) (pos 1024 -ℤ p) ≡ relaxedDir L (v .rho) (vec v) p f i
 unfolding relaxedDir relaxed weighed
-landed-part L v p f i e k deep near small told =
-    landed-any (v .rho) (weighed L v p i) (f i) p e k deep (near .low) (near .high) small told
+landed-part L v p f i e k deep near sure =
+    landed-any (v .rho) (weighed L v p i) (f i) p e k deep (near .low) (near .high) sure
     ∙ ap (λ (n : ℤ). f i +ℤ quotZ n (pos 73728 *ℤ v .rho)) (gathered p (pos (L .weight i) *ℤ quad (v .rho) (dot (L .e i) (vec v)) (dot (vec v) (vec v))) (pos 72 *ℤ (v .rho *ℤ f i)))
   where
     gathered : (p q t : ℤ) → p *ℤ q -ℤ p *ℤ t ≡ p *ℤ (q -ℤ t)

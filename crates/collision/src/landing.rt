@@ -1,6 +1,6 @@
 // Where a part lands, from the estimate of its equilibrium; and whether every estimate of a cell tells.
 ghost use mathlib.Core.Path.{_≡_};
-ghost use Prim.Native.Nat.{ℕ, suc, _<_};
+ghost use Prim.Native.Nat.{ℕ, suc, _%_, _<_, _≤_};
 ghost use lib.ListN.{getD};
 ghost use Rattle.whole.specs.Fold.{all};
 ghost use Rattle.whole.specs.laws.Machine.{Within};
@@ -48,4 +48,36 @@ pub fn telling(e: [u64; 18], f: [i32; 19], c: i32) -> bool
         i += 2;
     }
     w
+}
+
+// The higher of the low words of two ends.
+fn higher(a: u64, b: u64) -> u32
+    ensures { λ r. ⌜ (a % 4294967296 ≤ r) × (b % 4294967296 ≤ r) ⌝ }
+{
+    let s = (a % 4294967296) as u32;
+    let t = (b % 4294967296) as u32;
+    if s < t {
+        return t;
+    }
+    s
+}
+
+fn high(a: u32, b: u32) -> u32
+    ensures { λ r. ⌜ (a ≤ r) × (b ≤ r) ⌝ }
+{
+    if a < b {
+        return b;
+    }
+    a
+}
+
+// The highest low word, by which the flume asks whether an end lies just below a whole number. As a tree: one after the other would be branches on some processors.
+pub fn highest(e: [u64; 18]) -> u32
+    ensures { λ r. ⌜ ((k : ℕ) → k < 18 → getD e k 0 % 4294967296 ≤ r) ⌝ }
+{
+    let a = high(higher(e[0], e[1]), higher(e[2], e[3]));
+    let b = high(higher(e[4], e[5]), higher(e[6], e[7]));
+    let c = high(higher(e[8], e[9]), higher(e[10], e[11]));
+    let d = high(higher(e[12], e[13]), higher(e[14], e[15]));
+    high(high(high(a, b), high(c, d)), higher(e[16], e[17]))
 }

@@ -2,7 +2,8 @@
 use mathlib.Core.Path.{_≡_, refl, sym, ap₂, _∙_}
 use mathlib.Core.Bool.{Bool, true, false}
 use mathlib.Core.List.{List}
-use Prim.Native.Nat.{ℕ, suc, _<_}
+use mathlib.Core.Logic.{inr}
+use Prim.Native.Nat.{ℕ, suc, _+_, _%_, _<_, _≤_}
 use native.Mathlib.Omega.{arith}
 use lib.IntN.{ℤ, pos, _-ℤ_}
 use lib.Signed.{_≤ℤ_}
@@ -10,7 +11,7 @@ use lib.ListN.{getD}
 use Rattle.lattice.specs.declared.Flow.{Flow}
 use Rattle.lattice.specs.inner.Held.{partsOf, vec}
 use Rattle.lattice.specs.Body.{relaxedDir}
-use Rattle.collision.specs.inner.Estimate.{landed, tellsAt}
+use Rattle.collision.specs.inner.Estimate.{landed}
 use Rattle.collision.proofs.Landed.{landed-part}
 use Rattle.flume.specs.inner.Spread.{idle, Idle, spreadLattice}
 use Rattle.nine.specs.inner.Cells.{Quiet}
@@ -18,9 +19,9 @@ use Rattle.nine.specs.inner.Ends.{EndsNine}
 use Rattle.nine.proofs.Places.{landed-none, idle-stays}
 
 module _ (v : Flow) (p : ℤ) (f : List ℤ) (e : List ℕ) (quiet : Quiet f) (deep : pos 294912 ≤ℤ v .rho) (ends : EndsNine v p e) where
-  pub lands : (k : ℕ) → k < 18 → tellsAt e f (pos 1024 -ℤ p) k ≡ true
+  pub lands : (k : ℕ) → k < 18 → getD e k 0 % 4294967296 ≤ 4293918719
       → landed (getD e k 0) (partsOf f (suc k)) (pos 1024 -ℤ p) ≡ relaxedDir spreadLattice (v .rho) (vec v) p (partsOf f) (suc k)
-  lands k h told = go (idle (suc k)) refl
+  lands k h low = go (idle (suc k)) refl
     where
       go : (b : Bool) → idle (suc k) ≡ b → landed (getD e k 0) (partsOf f (suc k)) (pos 1024 -ℤ p) ≡ relaxedDir spreadLattice (v .rho) (vec v) p (partsOf f) (suc k)
       go true t =
@@ -29,4 +30,4 @@ module _ (v : Flow) (p : ℤ) (f : List ℤ) (e : List ℕ) (quiet : Quiet f) (d
           ∙ sym (idle-stays (v .rho) (vec v) p (partsOf f) (suc k) n (quiet .at (suc k) n))
       go false t =
           let s = ends .at k h t in
-          landed-part spreadLattice v p (partsOf f) (suc k) (getD e k 0) (s .lack) deep (s .near) (omega (arith, s .small)) told
+          landed-part spreadLattice v p (partsOf f) (suc k) (getD e k 0) (s .lack) deep (s .near) (inr (omega (arith, s .small, low)))

@@ -3,8 +3,8 @@ use crate::estimate::ends9;
 use crate::weights::weight9;
 use collision::collide::common_of;
 use collision::collide::relaxed_pair;
+use collision::landing::highest;
 use collision::landing::settled;
-use collision::landing::telling;
 use lattice::Flow;
 use lattice::directions::dots;
 ghost use mathlib.Core.Path.{_≡_};
@@ -38,7 +38,7 @@ pub fn by_divider9(f: &mut [i32; 19], v: Flow, p: i64)
     f[0] = r;
 }
 
-// The same by the estimate, where it tells of every part: of an idle one it does.
+// The same by the estimate, where its low words tell that no end lies just below a whole number.
 pub fn collided9(f: [i32; 19], v: Flow, p: i64) -> [i32; 19]
     requires { ⌜ Bounded f 1572864 1441792 × (steadyFlow v ≡ true) × (relaxationGood p ≡ true) × Quiet f ⌝ }
     ensures { λ r. ⌜ (r ≡ tab 19 (collidedPart spreadLattice (v .rho) (vec v) p (partsOf f))) × Bounded r 1073741824 33554432 ⌝ }
@@ -56,7 +56,7 @@ pub fn collided9(f: [i32; 19], v: Flow, p: i64) -> [i32; 19]
         r -= m + n;
         i += 2;
     }
-    if !telling(e, f, c) {
+    if highest(e) > 4293918719 {
         let mut b = f;
         by_divider9(&mut b, v, p);
         return b;

@@ -3,6 +3,7 @@
 use mathlib.Core.Path.{_≡_, refl, sym, _∙_, ap, ap₂, subst}
 use mathlib.Core.Bool.{true}
 use mathlib.Core.List.{List}
+use mathlib.Core.Logic.{inl}
 use Prim.Native.Nat.{ℕ, suc, _+_, _-_, _<_}
 use native.Mathlib.Omega.{arith}
 use borrow.Author.Needs.{needs}
@@ -224,7 +225,7 @@ module _ (c : tie.Else1 Inv-loop μ-loop) where
       let t = c .before .before .before .before .before in
       let z : suc k - 1 ≡ k = omega arith in
       ap₂ (λ (n : ℕ) (y : ℤ). landed (getD (t .ends .result) n 0) (partsOf (s .args .t1) (suc k)) y) z share-is
-      ∙ landed-part d3q19 (s .args .v) (s .args .p) (partsOf (s .args .t1)) (suc k) (getD (t .ends .result) k 0) 524288 (steady-tame (s .args .v) (s .pre .1) .low) (ends-are t .at k h) (omega arith) (told k h)
+      ∙ landed-part d3q19 (s .args .v) (s .args .p) (partsOf (s .args .t1)) (suc k) (getD (t .ends .result) k 0) 524288 (steady-tame (s .args .v) (s .pre .1) .low) (ends-are t .at k h) (inl (omega arith, told k h))
 
 returns-2 : tie.Need-returns-2 Inv-loop μ-loop
 returns-2 c =

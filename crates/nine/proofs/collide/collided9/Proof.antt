@@ -1,25 +1,22 @@
--- `nine::collide::collided9`: pair by pair each part lands by its end, an idle one at 0, what the pairs leave of the density is part 0, and where every
--- end tells, each landing is the definition's. Assumes nothing.
+-- `nine::collide::collided9`: pair by pair each part lands by its end, an idle one at 0, what the pairs leave of the density is part 0, and where the low
+-- words tell, each landing is the definition's. Assumes nothing.
 use mathlib.Core.Path.{_≡_, refl, sym, _∙_, ap, ap₂, subst}
-use mathlib.Core.Bool.{true}
 use mathlib.Core.List.{List}
-use Prim.Native.Nat.{ℕ, suc, _+_, _-_, _<_, _≤_}
+use Prim.Native.Nat.{ℕ, suc, _+_, _-_, _%_, _<_, _≤_}
 use native.Mathlib.Omega.{arith}
 use borrow.Author.Needs.{needs}
-use borrow.Author.Tests.{not-false}
 use lib.ListN.{getD}
 use lib.IntN.{ℤ, pos, _+ℤ_, _-ℤ_}
 use mir.Syntax.{w32, w64}
 use mir.Val.{toZ, ofZ}
 use mir.Facts.{toZ-ofZ}
 use Rattle.whole.specs.laws.Machine.{Within, known, v32, within-by, does-fit, reads-as}
-use Rattle.whole.specs.laws.Search.{all-at}
 use Rattle.lattice.specs.inner.Held.{partsOf, Bounded, vec}
 use Rattle.lattice.specs.Body.{relaxedDir}
 use Rattle.lattice.proofs.Ranges.{relaxation-in}
 use Rattle.lattice.proofs.Reading.{reading, inside}
 use Rattle.lattice.proofs.Tame.{steady-tame}
-use Rattle.collision.specs.inner.Estimate.{landed, Mixes, tellsAt}
+use Rattle.collision.specs.inner.Estimate.{landed, Mixes}
 use Rattle.collision.proofs.Landed.{room, slack}
 use Rattle.collision.proofs.Turns.{Done, eighteen, begun, more, all-done}
 use Rattle.flume.specs.inner.Spread.{spreadLattice}
@@ -194,8 +191,8 @@ loop-again c =
     reads-as (search reading depth 20) tt in
     rw (er, ex, ey) (more (want c) _ m n (l .inv) (omega arith) (first c) (second c) hx hy)
 
-telling-requires : tie.Need-telling-requires Inv-loop μ-loop
-telling-requires c κs k h = mixes (c .before .before .before) k h (c .before .before .before .before .pre .0 .at (suc k) (omega arith) (omega arith))
+highest-requires : tie.Need-highest-requires Inv-loop μ-loop
+highest-requires c κs = search needs
 
 by-divider9-requires : tie.Need-by-divider9-requires Inv-loop μ-loop
 by-divider9-requires c κs =
@@ -210,7 +207,7 @@ returns c =
 array-set-from-a-3 : tie.Need-array-set-from-a-3 Inv-loop μ-loop
 array-set-from-a-3 c = search needs
 
--- where every end tells: what each part is, by the definition
+-- where the low words tell: what each part is, by the definition
 module _ (c : tie.Else1 Inv-loop μ-loop) where
   abbrev first-of : tie.Start Inv-loop μ-loop
   first-of = c .before .before .before .before .before .before
@@ -224,18 +221,13 @@ module _ (c : tie.Else1 Inv-loop μ-loop) where
   share-is : toZ w32 (ofZ w32 (toZ w64 (ofZ w64 (pos 1024 -ℤ toZ w64 (ofZ w64 (first-of .args .p)))))) ≡ pos 1024 -ℤ first-of .args .p
   share-is = let p = relaxation-in (first-of .args .p) (first-of .pre .2) in reads-as (search reading depth 20) tt
 
-  told : (k : ℕ) → k < 18 → tellsAt (c .before .before .before .before .before .ends9 .result) (first-of .args .t1) (pos 1024 -ℤ first-of .args .p) k ≡ true
-  told =
-      all-at 18 (tellsAt (c .before .before .before .before .before .ends9 .result) (first-of .args .t1) (pos 1024 -ℤ first-of .args .p))
-      (rw share-is at (sym (c .before .telling .ensures)) ∙ not-false _ (c .if1 .left))
-
   form-is : (k : ℕ) → k < 18 → forms (suc k) ≡ wanted (suc k)
   form-is k h =
       let s = first-of in
       let t = c .before .before .before .before .before in
       let z : suc k - 1 ≡ k = omega arith in
       ap₂ (λ (n : ℕ) (y : ℤ). landed (getD (t .ends9 .result) n 0) (partsOf (s .args .t1) (suc k)) y) z share-is
-      ∙ lands (s .args .v) (s .args .p) (s .args .t1) (t .ends9 .result) (s .pre .3) (steady-tame (s .args .v) (s .pre .1) .low) (ends-are t) k h (told k h)
+      ∙ lands (s .args .v) (s .args .p) (s .args .t1) (t .ends9 .result) (s .pre .3) (steady-tame (s .args .v) (s .pre .1) .low) (ends-are t) k h (omega (arith, c .before .highest .ensures k h))
 
 returns-2 : tie.Need-returns-2 Inv-loop μ-loop
 returns-2 c =
@@ -275,7 +267,7 @@ collided9-spec =
     add-i
     loop-less
     loop-again
-    telling-requires
+    highest-requires
     by-divider9-requires
     returns
     array-set-from-a-3
