@@ -1,4 +1,3 @@
-// Layer 2, the calls: the step on whole sets, each with its three totals and its index. Knows the promises of step, pumps and index.
+// Layer 2, the calls on whole sets, each with its three totals and its index: their tests, and the totals. Knows the promises of step, pumps and index.
 pub mod entry;
-pub mod stepping;
 pub mod totals;

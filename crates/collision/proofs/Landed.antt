@@ -1,7 +1,8 @@
--- Where a part lands: an end whose interval holds no whole number gives the cut quotient of stage 4. Assumes nothing.
+-- Where a part lands: an end that leaves no doubt gives the cut quotient of stage 4. Assumes nothing.
 use mathlib.Core.Path.{_≡_, refl, sym, _∙_, ap}
 use mathlib.Core.List.{[], _∷_}
 use mathlib.Core.Bool.{Bool, true, false, cond}
+use mathlib.Core.Logic.{_⊎_, inl, inr}
 use Prim.Native.Nat.{ℕ, zero, suc, _+_, _*_, _-_, _/_, _%_, _<_, _≤_}
 use native.Mathlib.Nat.{div-add-mod, mod-lt, mul-add, mul-comm, mul-suc, mul-le-mul-left}
 use native.Mathlib.Omega.{arith}
@@ -10,7 +11,7 @@ use lib.IntN.{ℤ, pos, negsuc, negℤ, natAbs, _+ℤ_, _-ℤ_, _*ℤ_}
 use lib.Signed.{clashℤ, _≤ℤ_, _<ℤ_, quotZ, shrZ, leZ, ltZ}
 use Rattle.whole.specs.laws.Bools.{and-left, and-right}
 use Rattle.whole.specs.laws.Machine.{Within}
-use Rattle.whole.specs.laws.Parts.{≤-parts, <-parts, parts-<}
+use Rattle.whole.specs.laws.Parts.{is-self, is-pos, is-add, is-mul, eq-is, ≤-parts, <-parts, parts-<}
 use Rattle.whole.specs.laws.Bounds.{abs-neg}
 use Rattle.whole.specs.laws.Ring.{ring-by, ring-from, quotes}
 use Rattle.whole.specs.laws.Order.{leZ-true, ltZ-true, ltZ-false, <ℤ→≤ℤ, to≤, to<, of<}
@@ -19,13 +20,14 @@ use Rattle.lattice.specs.declared.Flow.{Flow}
 use Rattle.lattice.specs.Lattice.{dot, Lattice}
 use Rattle.lattice.specs.Cell.{quad, relaxed, relaxationGood}
 use Rattle.lattice.specs.inner.Held.{vec}
-use Rattle.lattice.specs.Body.{relaxedDir}
-use Rattle.collision.specs.inner.Estimate.{landed, weighed, Near}
+use Rattle.lattice.specs.Body.{relaxedDir, eqZ}
+use Rattle.lattice.proofs.Equal.{eqZ-true}
+use Rattle.collision.specs.inner.Estimate.{mixed, landed, tells, weighed, Near}
 use Rattle.collision.proofs.Loss.{left, floor-left, left-most}
 
 module _ (e : ℕ) (f c : ℤ) where
   abbrev pub floored : ℤ
-  floored = shrZ (pos (e / 4294967296) +ℤ c *ℤ f) 1024
+  floored = shrZ (mixed e f c) 1024
 
   pub landed-below : ltZ floored f ≡ true → floored +ℤ pos 1 ≡ landed e f c
   unfolding landed
@@ -35,8 +37,8 @@ module _ (e : ℕ) (f c : ℤ) where
   unfolding landed
   landed-above h = sym (ap (λ (b : Bool). cond b (floored +ℤ pos 1) floored) h)
 
--- an end below n and a part within ±k leave room for the sum of `settled`
-pub room : {e : ℕ} {f : ℤ} (n k : ℕ) → e < n → Within f k → T (leb (n / 4294967296 + 1023 * k) 2147483647) → e / 4294967296 + 1023 * natAbs f ≤ 2147483647
+-- an end below n and a part within ±k leave room for what they are mixed to
+pub room : {e : ℕ} {f : ℤ} (n k : ℕ) → e < n → Within f k → T (leb (n / 4294967296 + 1023 * k) 2147483646) → e / 4294967296 + 1023 * natAbs f ≤ 2147483646
 room {e} {f} n k h m t =
     let r : n % 4294967296 < 4294967296 = mod-lt n (omega arith) in
     omega (
@@ -44,7 +46,7 @@ room {e} {f} n k h m t =
       div-add-mod e 4294967296,
       div-add-mod n 4294967296,
       m .abs,
-      leb→le (n / 4294967296 + 1023 * k) 2147483647 t,
+      leb→le (n / 4294967296 + 1023 * k) 2147483646 t,
     )
 
 -- 1024 − p is small
@@ -81,11 +83,29 @@ back f n = ring-by (f ∷ n ∷ []) (search quotes depth 20) (search quotes dept
 back-one : (f n : ℤ) → n +ℤ pos 1 ≡ f +ℤ (n -ℤ f +ℤ pos 1)
 back-one f n = ring-by (f ∷ n ∷ []) (search quotes depth 20) (search quotes depth 20) tt
 
+-- where one more does not move the floor, it leaves at most 1022
+told-left : (s : ℤ) → eqZ (shrZ s 1024) (shrZ (s +ℤ pos 1) 1024) ≡ true → left s 1024 ≤ 1022
+told-left s e =
+    let here = floor-left s 1024 (omega arith) in
+    let next = rw (sym (eqZ-true (shrZ s 1024) (shrZ (s +ℤ pos 1) 1024) e)) at (floor-left (s +ℤ pos 1) 1024 (omega arith)) in
+    let q = is-mul (is-pos 1024) (is-self (shrZ s 1024)) in
+    omega (
+      arith,
+      left-most (s +ℤ pos 1) 1024 (omega arith),
+      eq-is (is-self s) (is-add q (is-pos (left s 1024))) here,
+      eq-is (is-add (is-self s) (is-pos 1)) (is-add q (is-pos (left (s +ℤ pos 1) 1024))) next,
+    )
+
+-- what leaves no doubt of a landing, where the end e lacks less than k: that one more would not move it, and no more than one is lacked; or that no whole
+-- number lies so near above the end
+abbrev pub Sure : ℕ → ℤ → ℤ → ℕ → Type 0
+Sure e f c k = ((k ≤ 4294967296) × (tells e f c ≡ true)) ⊎ (e % 4294967296 + k < 4294967296)
+
 module _ (r e k : ℕ) (N f p : ℤ)
     (some : 0 < r)
     (low : (pos 72 *ℤ (pos r *ℤ pos e)) <ℤ (N *ℤ pos 4294967296))
     (high : (N *ℤ pos 4294967296) <ℤ (pos 72 *ℤ (pos r *ℤ pos e +ℤ pos k *ℤ pos r)))
-    (clear : e % 4294967296 + k < 4294967296)
+    (sure : Sure e f (pos 1024 -ℤ p) k)
   where
     abbrev u : ℕ
     u = e / 4294967296
@@ -93,21 +113,38 @@ module _ (r e k : ℕ) (N f p : ℤ)
     abbrev l : ℕ
     l = e % 4294967296
 
+    abbrev s : ℤ
+    s = mixed e f (pos 1024 -ℤ p)
+
     abbrev n : ℤ
-    n = shrZ (pos u +ℤ (pos 1024 -ℤ p) *ℤ f) 1024
+    n = shrZ s 1024
 
     abbrev t : ℕ
-    t = left (pos u +ℤ (pos 1024 -ℤ p) *ℤ f) 1024
+    t = left s 1024
 
     split : r * e ≡ 4294967296 * (r * u) + r * l
     split = ap (λ (k : ℕ). r * k) (sym (div-add-mod e 4294967296)) ∙ (omega arith)
 
-    -- p·w·Q lies strictly between u and u + 1 times 72ρ
+    -- p·w·Q lies strictly between u and u + w times 72ρ, and n leaves at most 1024 − w
     v-low : (pos (72 * (r * u))) <ℤ N
     v-low = parts-< (omega (arith, split, of< (N ∷ []) (search quotes depth 20) (search quotes depth 20) low))
 
-    v-high : N <ℤ (pos (72 * (r * u + r)))
-    v-high = parts-< (omega (arith, split, mul-le-mul-left r clear, mul-suc r (l + k), mul-add r l k, mul-comm r k, of< (N ∷ []) (search quotes depth 20) (search quotes depth 20) high))
+    edge : (w : ℕ) × (N <ℤ pos (72 * (r * u + r * w))) × (t + w ≤ 1024)
+    unfolding tells
+    edge = go sure
+      where
+        go : Sure e f (pos 1024 -ℤ p) k → (w : ℕ) × (N <ℤ pos (72 * (r * u + r * w))) × (t + w ≤ 1024)
+        go (inl (small, told)) =
+            let h : l < 4294967296 = mod-lt e (omega arith) in (
+              2,
+              parts-< (omega (arith, split, mul-le-mul-left r h, mul-suc r l, mul-le-mul-left r small, mul-comm r k, of< (N ∷ []) (search quotes depth 20) (search quotes depth 20) high)),
+              omega (arith, told-left s told),
+            )
+        go (inr clear) = (
+          1,
+          parts-< (omega (arith, split, mul-le-mul-left r clear, mul-suc r (l + k), mul-add r l k, mul-comm r k, of< (N ∷ []) (search quotes depth 20) (search quotes depth 20) high)),
+          omega (arith, left-most s 1024 (omega arith)),
+        )
 
     -- what n leaves
     rest : ℤ
@@ -121,14 +158,14 @@ module _ (r e k : ℕ) (N f p : ℤ)
     unfolding rest
     rest-high =
         to< (N ∷ []) (search quotes depth 20) (search quotes depth 20)
-        (omega (arith, <-parts v-high, mul-suc r t, mul-le-mul-left r (left-most (pos u +ℤ (pos 1024 -ℤ p) *ℤ f) 1024 (omega arith))))
+        (omega (arith, <-parts (edge .1), mul-add r t (edge .0), mul-le-mul-left r (edge .2)))
 
     abbrev growth : ℤ
     growth = N -ℤ p *ℤ (pos 72 *ℤ (pos r *ℤ f))
 
     growth-is : growth ≡ pos (73728 * r) *ℤ (n -ℤ f) +ℤ rest
     unfolding rest
-    growth-is = identity N (pos r) p f n (pos t) (pos u) (floor-left (pos u +ℤ (pos 1024 -ℤ p) *ℤ f) 1024 (omega arith))
+    growth-is = identity N (pos r) p f n (pos t) (pos u) (floor-left s 1024 (omega arith))
       where
         identity : (N ρ p f n t u : ℤ) → u +ℤ (pos 1024 -ℤ p) *ℤ f ≡ pos 1024 *ℤ n +ℤ t
             → N -ℤ p *ℤ (pos 72 *ℤ (ρ *ℤ f)) ≡ pos 73728 *ℤ ρ *ℤ (n -ℤ f) +ℤ (N -ℤ pos 72 *ℤ (ρ *ℤ u) +ℤ pos 72 *ℤ (ρ *ℤ t))
@@ -177,16 +214,16 @@ module _ (r e k : ℕ) (N f p : ℤ)
 
 -- ---- for a flow: part i lands where stage 4 wants it
 landed-any : (ρ n f p : ℤ) (e k : ℕ) → pos 294912 ≤ℤ ρ → (pos 72 *ℤ (ρ *ℤ pos e)) <ℤ (n *ℤ pos 4294967296)
-    → (n *ℤ pos 4294967296) <ℤ (pos 72 *ℤ (ρ *ℤ pos e +ℤ pos k *ℤ ρ)) → e % 4294967296 + k < 4294967296
+    → (n *ℤ pos 4294967296) <ℤ (pos 72 *ℤ (ρ *ℤ pos e +ℤ pos k *ℤ ρ)) → Sure e f (pos 1024 -ℤ p) k
     → landed e f (pos 1024 -ℤ p) ≡ f +ℤ quotZ (n -ℤ p *ℤ (pos 72 *ℤ (ρ *ℤ f))) (pos 73728 *ℤ ρ)
-landed-any (pos r) n f p e k deep low high clear = landed-is r e k n f p (omega (arith, ≤-parts deep)) low high clear
-landed-any (negsuc r) n f p e k deep low high clear = absurd (deep .le)
+landed-any (pos r) n f p e k deep low high sure = landed-is r e k n f p (omega (arith, ≤-parts deep)) low high sure
+landed-any (negsuc r) n f p e k deep low high sure = absurd (deep .le)
 
-pub landed-part : (L : Lattice) (v : Flow) (p : ℤ) (f : ℕ → ℤ) (i e k : ℕ) → pos 294912 ≤ℤ v .rho → Near L k v p i e → e % 4294967296 + k < 4294967296
+pub landed-part : (L : Lattice) (v : Flow) (p : ℤ) (f : ℕ → ℤ) (i e k : ℕ) → pos 294912 ≤ℤ v .rho → Near L k v p i e → Sure e (f i) (pos 1024 -ℤ p) k
     → landed e (f i) (pos 1024 -ℤ p) ≡ relaxedDir L (v .rho) (vec v) p f i
 unfolding relaxedDir relaxed weighed
-landed-part L v p f i e k deep near clear =
-    landed-any (v .rho) (weighed L v p i) (f i) p e k deep (near .low) (near .high) clear
+landed-part L v p f i e k deep near sure =
+    landed-any (v .rho) (weighed L v p i) (f i) p e k deep (near .low) (near .high) sure
     ∙ ap (λ (n : ℤ). f i +ℤ quotZ n (pos 73728 *ℤ v .rho)) (gathered p (pos (L .weight i) *ℤ quad (v .rho) (dot (L .e i) (vec v)) (dot (vec v) (vec v))) (pos 72 *ℤ (v .rho *ℤ f i)))
   where
     gathered : (p q t : ℤ) → p *ℤ q -ℤ p *ℤ t ≡ p *ℤ (q -ℤ t)

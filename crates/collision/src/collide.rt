@@ -1,8 +1,8 @@
 // Stage 4: collision. The eighteen directions go by pairs: opposite directions share the even part of Q and differ in the sign of the odd one.
-// One division a cell estimates p times every equilibrium part; a few cells in a thousand, where an estimate does not tell, go by the divider.
+// One division a cell estimates p times every equilibrium part; a few cells in a hundred, where an estimate does not tell, go by the divider.
 use crate::estimate::ends;
-use crate::landing::highest;
 use crate::landing::settled;
+use crate::landing::telling;
 use lattice::Flow;
 use lattice::directions::dots;
 use lattice::directions::weight_of;
@@ -93,7 +93,7 @@ pub(crate) fn by_divider(f: &mut [i32; 19], v: Flow, p: i64)
     f[0] = r;
 }
 
-// The same by the estimate, where its low words tell that no end lies just below a whole number.
+// The same by the estimate, where it tells of every part.
 pub fn collided(f: [i32; 19], v: Flow, p: i64) -> [i32; 19]
     requires { ⌜ Bounded f 1572864 1572864 × (steadyFlow v ≡ true) × (relaxationGood p ≡ true) ⌝ }
     ensures { λ r. ⌜ (r ≡ tab 19 (collidedPart d3q19 (v .rho) (vec v) p (partsOf f))) × Bounded r 1073741824 33554432 ⌝ }
@@ -111,7 +111,7 @@ pub fn collided(f: [i32; 19], v: Flow, p: i64) -> [i32; 19]
         r -= m + n;
         i += 2;
     }
-    if highest(e) > 4294443007 {
+    if !telling(e, f, c) {
         let mut b = f;
         by_divider(&mut b, v, p);
         return b;

@@ -15,7 +15,7 @@ use Rattle.lattice.specs.Lattice.{d3q19}
 use Rattle.lattice.specs.Body.{bodyGood}
 use Rattle.lattice.specs.declared.Settings.{Settings}
 use Rattle.grid.specs.declared.Sides.{Sides}
-use Rattle.grid.specs.State.{partOf, Lent, Scene, stateOf}
+use Rattle.grid.specs.State.{partOf, Lent, Scene, liquid, stateOf}
 use Rattle.grid.specs.Grid.{cellsOf, gridOf, box}
 use Rattle.grid.specs.Step.{flagAt, unsteady, newFlag, newPart, newCarry}
 use Rattle.grid.specs.Outcome.{sceneOf, goodAnswer}
@@ -29,9 +29,10 @@ use Rattle.grid.proofs.Blocks.{blocks-all}
 use Rattle.grid.proofs.Inside.{inner-amid}
 use Rattle.grid.proofs.Listed.{part-at}
 use Rattle.grid.proofs.Prepared.{ready-sound, ready-cell, ready-carry}
-use Rattle.flow.specs.inner.Flowed.{MovedTo}
+use Rattle.passes.specs.inner.Flowed.{MovedTo}
 use Rattle.conversion.proofs.Marking.{settled-box, turned-box}
-use Rattle.flow.proofs.Poise.{poised-bodied}
+use Rattle.flow.proofs.Mirrored.{enclosed}
+use Rattle.flow.proofs.Poise.{poised-bodied, liquid-inner}
 use Rattle.excess.specs.inner.Gifts.{strayAt}
 use Rattle.conversion.specs.inner.Born.{newlyBorn, laterPart, Tested, Fertile, Peopled}
 use Rattle.conversion.specs.inner.Turned.{TurnedTo}
@@ -174,14 +175,18 @@ module _ (s : Sides) (g : Settings) (a : Lent) (r : Ready s g a) (steady : cells
 
   -- pass 4
   pub calm : Tested (a .flags) (a .parts) (a .fills) (tab 19 (offsetOf s)) (lowOf s) g
-  unfolding sceneOf stateOf
+  unfolding sceneOf stateOf gridOf cellsOf box
   calm =
       let t = tested F (v .stands) steady in
+      let p = ready-poised s g a r in
       record {
         bodies = poised-bodied s g a (ready-poised s g a r);
         fills-good = fills-good F (v .stands);
         gravity = gravity F (v .stands);
         around = t .around;
+        enclosed = λ c h f.
+            let l : c < n = subst (λ (m : ℕ). c < m) (r .sized .flags) h in
+            enclosed offs c (liquid-inner s g a p c l (ap liquid f)) (a .flags) (λ i d. p .closed c i l (d .some) (omega (arith, d .most))) f;
         is-dense = t .is-dense;
         is-slow = t .is-slow;
       }

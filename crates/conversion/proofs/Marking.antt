@@ -21,7 +21,7 @@ use Rattle.grid.proofs.Walls.{inner, flag-low}
 use Rattle.grid.proofs.Lists.{getD-there}
 use Rattle.grid.proofs.Beside.{Offsets}
 use Rattle.grid.proofs.Ranges.{Ranged, ranged-all}
-use Rattle.flow.proofs.Marking.{inside-inner, inner-inside, range-is, box-range, cond-cong, beside-same}
+use Rattle.passes.proofs.Marking.{inside-inner, inner-inside, range-is, box-range, cond-cong, beside-same}
 use Rattle.flow.proofs.Mirrored.{mirrored}
 use Rattle.whole.specs.laws.Search.{any-cong}
 use Rattle.conversion.specs.inner.Flags.{Enclosed}

@@ -16,7 +16,7 @@ use Rattle.lattice.specs.Cell.{carryGood}
 use Rattle.grid.specs.State.{Scene}
 use Rattle.grid.specs.Step.{newFlag, newMass, newCarry}
 use Rattle.grid.specs.inner.Between.{movedMass, firstMark, settledMark, gatheredMass}
-use Rattle.flow.specs.inner.Flowed.{MovedTo}
+use Rattle.passes.specs.inner.Flowed.{MovedTo}
 use Rattle.excess.specs.inner.Gifts.{gatheredAt, strayAt}
 use Rattle.conversion.specs.inner.Settled.{settledMass, settledPart}
 use Rattle.conversion.proofs.Settles.{tab-replicate}

@@ -1,7 +1,7 @@
 -- What an interface cell takes in stage 6: each neighbour that is marked can give towards it, the sum fits, and it does not turn on the masses of cells
 -- that take. Assumes nothing.
 use mathlib.Core.Path.{_≡_, refl, sym, ap, _∙_, subst}
-use mathlib.Core.Bool.{Bool, true, false, _&&_, cond}
+use mathlib.Core.Bool.{Bool, true, false, _&&_, not, cond, false≢true}
 use mathlib.Core.List.{List}
 use Prim.Native.Nat.{ℕ, suc, _+_, _-_, _≤_, _<_}
 use native.Mathlib.Decide.{decLt}
@@ -12,15 +12,15 @@ use lib.Dec.{eqb, leb, ltb}
 use lib.ListN.{length, getD}
 use borrow.Author.Tests.{eq-eqb, ne-eqb, eqb-false, le-leb, lt-ltb}
 use Rattle.whole.specs.laws.Bools.{cond-yes, cond-no, and-true}
-use Rattle.whole.specs.Fold.{sum, Dir}
+use Rattle.whole.specs.Fold.{sum, anyDir, Dir}
 use Rattle.whole.specs.laws.Machine.{Within}
-use Rattle.whole.specs.laws.Search.{as-dir}
-use Rattle.whole.specs.laws.Sums.{sum-cong, sum-abs}
+use Rattle.whole.specs.laws.Search.{as-dir, any-dir}
+use Rattle.whole.specs.laws.Sums.{sum-cong, sum-abs, sum-zero}
 use Rattle.lattice.specs.Lattice.{d3q19}
 use Rattle.lattice.specs.Cell.{share}
 use Rattle.lattice.proofs.Paired.{paired19}
 use Rattle.grid.proofs.Ranges.{Ranged, ranged}
-use Rattle.excess.specs.inner.Gifts.{targetAt, weightAt, densityAt, excessAt, giftAt, giftFrom, receivedAt, gatheredAt, Giver, Giving}
+use Rattle.excess.specs.inner.Gifts.{targetAt, weightAt, densityAt, excessAt, giftAt, giftFrom, markedAt, receivedAt, gatheredAt, Giver, Giving}
 use Rattle.excess.proofs.Sent.{from-in}
 
 -- what the neighbour in direction a + 1 of the cell with k = c − low gives
@@ -74,6 +74,17 @@ module _ {flags fills : List ℕ} {Room : ℕ → Type 0} {part : ℕ → ℕ �
   pub received-in : Within (receivedAt flags fills part masses marks off low c) 1656225792
   unfolding receivedAt
   received-in = sum-in 18 (omega arith)
+
+-- where no neighbour is marked
+pub nothing-sent : (flags fills : List ℕ) (part : ℕ → ℕ → ℤ) (masses : List ℤ) (marks off : List ℕ) (low c : ℕ) → anyDir 18 (markedAt marks off (c - low)) ≡ false
+    → pos 0 ≡ receivedAt flags fills part masses marks off low c
+unfolding receivedAt giftFrom
+nothing-sent flags fills part masses marks off low c e =
+    sym (sum-zero 18 (sent flags fills part masses marks off low (c - low)) (λ a h. cond-yes (pos 0) _ (quiet a h (eqb (getD marks (c - low + getD off (suc a) 0) 0) 0) refl)))
+  where
+    quiet : (a : ℕ) → a < 18 → (t : Bool) → eqb (getD marks (c - low + getD off (suc a) 0) 0) 0 ≡ t → t ≡ true
+    quiet a h true u = refl
+    quiet a h false u = absurd (false≢true (sym e ∙ any-dir 18 (markedAt marks off (c - low)) (suc a) (as-dir h) (ap not u)))
 
 -- ---- masses that changed at takers alone
 module _ {flags fills : List ℕ} {Room : ℕ → Type 0} {part : ℕ → ℕ → ℤ} {masses₀ : List ℤ} {marks off : List ℕ} {low : ℕ} (g : Giving flags fills Room part masses₀ marks off low) (masses : List ℤ)

@@ -13,11 +13,11 @@ ghost use mathlib.Core.Path.{_≡_};
 ghost use mathlib.Core.Bool.{true};
 ghost use Prim.Native.Nat.{_<_, _-_};
 ghost use lib.ListN.{length, getD};
-ghost use Rattle.whole.specs.Fold.{tab, Dir};
+ghost use Rattle.whole.specs.Fold.{tab, Dir, anyDir};
 ghost use Rattle.grid.specs.Grid.{cellsOf};
 ghost use Rattle.grid.specs.inner.Passes.{lowOf, offsetOf};
 ghost use Rattle.grid.specs.State.{partOf};
-ghost use Rattle.excess.specs.inner.Gifts.{roomOf, Weighed, Giver, Giving, Gathering, targetAt, excessAt, giftAt, giftFrom, receivedAt, gatheredAt};
+ghost use Rattle.excess.specs.inner.Gifts.{roomOf, Near, markedAt, Weighed, Giver, Giving, Gathering, targetAt, excessAt, giftAt, giftFrom, receivedAt, gatheredAt};
 
 // The excess of cell c with mark m: mass less density for a filled cell, the mass for an emptied one.
 pub(crate) fn excess(parts: &[i32], masses: &[i32], m: u8, c: usize) -> i64
@@ -71,8 +71,22 @@ fn gift_from(
     gift(flags, fills, parts, masses, off, low, b, m, i)
 }
 
-// What the neighbours give to cell c.
-fn gifts(
+// Whether a neighbour is marked; k is c - low. By pairs and with no way out, as beside most cells none is.
+pub fn marked_beside(marks: &[u8], off: &[usize; 19], k: usize) -> bool
+    requires { ⌜ Near (length (now marks)) (now off) k ⌝ }
+    ensures { λ r. ⌜ r ≡ anyDir 18 (markedAt (now (marks .entry)) (now (off .entry)) k) ⌝ }
+{
+    let mut found = false;
+    let mut i = 1;
+    while i < 19 {
+        found = found | (marks[k + off[i]] != 0) | (marks[k + off[i + 1]] != 0);
+        i += 2;
+    }
+    found
+}
+
+// What the neighbours give to cell c, added up.
+fn all_gifts(
     flags: &[u8],
     fills: &[u32],
     parts: &[i32],
@@ -103,6 +117,26 @@ fn gifts(
         i += 1;
     }
     t
+}
+
+// What the neighbours give to cell c.
+fn gifts(
+    flags: &[u8],
+    fills: &[u32],
+    parts: &[i32],
+    masses: &[i32],
+    marks: &[u8],
+    off: &[usize; 19],
+    low: usize,
+    c: usize,
+) -> i64
+    requires { ⌜ Giving (now flags) (now fills) (roomOf (now parts)) (partOf (now parts)) (now masses) (now marks) (now off) low × (c < length (now flags)) × (getD (now flags) c 0 ≡ 1) ⌝ }
+    ensures { λ r. ⌜ r ≡ receivedAt (now (flags .entry)) (now (fills .entry)) (partOf (now (parts .entry))) (now (masses .entry)) (now (marks .entry)) (now (off .entry)) low c ⌝ }
+{
+    if !marked_beside(marks, off, c - low) {
+        return 0;
+    }
+    all_gifts(flags, fills, parts, masses, marks, off, low, c)
 }
 
 // Pass 6: each interface cell takes what its converted neighbours give. It reads masses of converted cells and writes others.

@@ -4,10 +4,10 @@ use mathlib.Core.Bool.{Bool, true, false, _||_, cond, false≢true}
 use mathlib.Core.List.{List, []}
 use Prim.Native.Nat.{ℕ, zero, suc, _+_, _-_, _*_, _%_, _≤_, _<_}
 use native.Mathlib.Omega.{arith}
-use lib.Dec.{eqb}
+use lib.Dec.{eqb, ltb}
 use lib.IntN.{ℤ, pos, _-ℤ_}
 use lib.ListN.{getD}
-use borrow.Author.Tests.{eqb-true}
+use borrow.Author.Tests.{eqb-true, ltb-true, ltb-false}
 use Rattle.lattice.specs.Lattice.{dot, pairOpp, d3q19, density, momentum}
 use Rattle.lattice.specs.Cell.{gasPair}
 use Rattle.lattice.specs.declared.Settings.{Settings}
@@ -63,6 +63,13 @@ unleaning (suc zero) b l e = (omega arith, e)
 unleaning (suc (suc zero)) b l e = (omega arith, e)
 unleaning (suc (suc (suc n))) b l e = absurd (false≢true l)
 
+-- neither empty nor a wall
+wet : (f : ℕ) → f ≤ 2 → (f ≡ 0 → ⊥) → liquid f ≡ true
+wet zero h z = absurd (z refl)
+wet (suc zero) h z = refl
+wet (suc (suc zero)) h z = refl
+wet (suc (suc (suc n))) h z = absurd (omega arith)
+
 -- over any parts and weights
 module _ (weights : ℕ → ℕ) (flags : List ℕ) (part : ℕ → ℕ → ℤ) (fills off : List ℕ) (low : ℕ) (g : Settings) where
   abbrev S : Scene
@@ -99,6 +106,14 @@ module _ (weights : ℕ → ℕ) (flags : List ℕ) (part : ℕ → ℕ → ℤ)
         let l : leansTo S c i ≡ false = rw f refl in
         let u = unleaning (getD flags b 3) (leansTo S c i) h l in
         arrives-liquid (u .0) (u .1)
+
+    -- at a fluid cell without an empty neighbour, from the one place or the other
+    pub arrives-enclosed : getD flags c 3 ≡ 2 → (getD flags b 3 ≡ 0 → ⊥) → cond (ltb 2 (getD flags b 3)) (part c i) (part b k) ≡ arrives S c i k
+    arrives-enclosed f z = go (ltb 2 (getD flags b 3)) refl
+      where
+        go : (t : Bool) → ltb 2 (getD flags b 3) ≡ t → cond t (part c i) (part b k) ≡ arrives S c i k
+        go true h = sym (arrives-wall (ltb-true 2 (getD flags b 3) h))
+        go false h = sym (arrives-straight f (wet (getD flags b 3) (ltb-false 2 (getD flags b 3) h) z))
 
   -- ---- part by part
   pub streamed-rest : (c : ℕ) → streamed S c 0 ≡ part c 0

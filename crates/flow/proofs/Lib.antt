@@ -1,4 +1,3 @@
-pub mod Stretches
 pub mod Held
 pub mod Trades
 pub mod Stores
@@ -10,8 +9,6 @@ pub mod Paces
 pub mod Plain
 pub mod Collisions
 pub mod Gentle
-pub mod Marking
 pub mod Poise
 pub mod Modes
 pub mod Onward
-pub mod Walked

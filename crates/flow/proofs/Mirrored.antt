@@ -17,7 +17,7 @@ use Rattle.grid.specs.inner.Sight.{Around}
 use Rattle.grid.proofs.Beside.{Offsets, above, place-is, place-low}
 use Rattle.grid.proofs.Offsets.{near-self}
 use Rattle.grid.proofs.Offsets.{listed}
-use Rattle.flow.specs.inner.Sources.{Mirrored, Immersed}
+use Rattle.flow.specs.inner.Sources.{Mirrored, Immersed, Enclosed}
 use Rattle.flow.proofs.Arrivals.{opposite-low}
 
 sums : (s : Sides) → tab 19 (λ i. offsetOf s i + offsetOf s (pairOpp i)) ≡ tab 19 (λ i. lowOf s + lowOf s)
@@ -49,3 +49,7 @@ module _ {s : Sides} {off : List ℕ} {low : ℕ} (o : Offsets s off low) (c : �
     fluid = fluid;
     each = λ i z h. subst (λ (n : ℕ). liquid (getD flags n 3) ≡ true) (sym (place-is o c g i h)) (near i (record { some = z; most = omega arith }));
   }
+
+  -- a fluid cell in a closed layer
+  pub enclosed : (flags : List ℕ) → ((i : ℕ) → Dir 18 i → getD flags c 3 ≡ 2 → getD flags (gridOf s .near c i) 3 ≡ 0 → ⊥) → Enclosed flags off low c
+  enclosed flags closed f i z h e = closed i (record { some = z; most = omega arith }) f (ap (λ (n : ℕ). getD flags n 3) (sym (place-is o c g i h)) ∙ e)

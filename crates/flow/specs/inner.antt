@@ -2,9 +2,5 @@
 pub mod Trade
 pub mod Sources
 pub mod PutAt
-pub mod Flowed
-pub mod Stretch
-pub mod Skipped
 pub mod Relaxed
-pub mod Marks
 pub mod Gentle

@@ -1,7 +1,5 @@
-// Layer 2, stages 1 to 4 of a step: streaming, exchange, gravity with its test, collision. Knows the promises of grid, collision and surface.
-pub mod marks;
+// Layer 2, stages 1 to 4 of a step, of one cell: streaming, exchange, gravity with its test, collision. Knows the promises of grid, collision and surface.
 pub mod moving;
-pub mod passing;
 pub mod relaxing;
 pub mod streaming;
 pub mod trading;

@@ -101,7 +101,7 @@ fn dry_out(parts2: &mut [i32], c: usize)
 }
 
 // Stages 1 to 4 of cell c: zeros where it is not liquid.
-pub(crate) fn put_parts(
+pub fn put_parts(
     flags: &[u8],
     parts: &[i32],
     fills: &[u32],

@@ -10,7 +10,7 @@ use whole::wide;
 ghost use mathlib.Core.Path.{_≡_};
 ghost use mathlib.Core.Bool.{true};
 ghost use mathlib.Core.List.{List, []};
-ghost use Prim.Native.Nat.{ℕ, _+_, _-_, _<_};
+ghost use Prim.Native.Nat.{ℕ, _+_, _-_, _<_, _≤_};
 ghost use lib.IntN.{pos};
 ghost use lib.ListN.{length, getD};
 ghost use Rattle.whole.specs.Fold.{tab};
@@ -19,11 +19,11 @@ ghost use Rattle.lattice.specs.declared.Settings.{Settings};
 ghost use Rattle.grid.specs.State.{liquid};
 ghost use Rattle.grid.specs.Step.{leansTo, arrives, streamed};
 ghost use Rattle.grid.specs.inner.Sight.{boxSight, Bodied, Around};
-ghost use Rattle.flow.specs.inner.Sources.{Mirrored, sourceOf, Immersed, leanAt, Beside};
+ghost use Rattle.flow.specs.inner.Sources.{Mirrored, sourceOf, arrivalAt, Immersed, Enclosed, leanAt, Beside};
 ghost use Rattle.flow.specs.inner.Trade.{Fills};
 
 // Where part i that streams straight into a cell lies, counted from the first part of the cell c - low.
-pub(crate) fn sources(off: [usize; 19], low: usize) -> [usize; 19]
+pub fn sources(off: [usize; 19], low: usize) -> [usize; 19]
     requires { ⌜ Mirrored off low ⌝ }
     ensures { λ r. ⌜ r ≡ tab 19 (sourceOf off) ⌝ }
 {
@@ -41,10 +41,11 @@ fn streamed_open(parts: &[i32], from: &[usize; 19], a: usize) -> [i32; 19]
     requires { ⌜ ((i : ℕ) → i < 19 → a + getD (now from) i 0 < length (now parts)) ⌝ }
     ensures { λ r. ⌜ r ≡ tab 19 (λ (i : ℕ). getD (now (parts .entry)) (a + getD (now (from .entry)) i 0) (pos 0)) ⌝ }
 {
+    let here = &parts[a..];
     let mut f = [0i32; 19];
     let mut i = 0;
     while i < 19 {
-        f[i] = parts[a + from[i]];
+        f[i] = here[from[i]];
         i += 1;
     }
     f
@@ -86,8 +87,37 @@ fn arriving(
     parts[19 * b + k]
 }
 
-// The parts that stream into a liquid cell. By pairs, so that the loop unrolls whole.
-pub fn streamed(
+// Where the part lies that arrives at cell c from its neighbour b in direction i, whose opposite is k: a wall sends back what the cell sent. A choice
+// between two places, which is no branch, where one between two parts would be.
+fn source(flags: &[u8], c: usize, b: usize, i: usize, k: usize) -> usize
+    requires { ⌜ (length (now flags) ≤ 262144) × (c < length (now flags)) × (b < length (now flags)) × (i < 19) × (k < 19) ⌝ }
+    ensures { λ r. ⌜ r ≡ arrivalAt (now (flags .entry)) c b i k ⌝ }
+{
+    if flags[b] > 2 {
+        return 19 * c + i;
+    }
+    19 * b + k
+}
+
+// The parts that stream into a fluid cell, which has no empty cell beside it: walls send its own back.
+fn reflected(flags: &[u8], parts: &[i32], off: &[usize; 19], low: usize, c: usize) -> [i32; 19]
+    requires { ⌜ Bodied (now flags) (now parts) × Around (length (now flags)) (now off) low c × (getD (now flags) c 3 ≡ 2) × Enclosed (now flags) (now off) low c ⌝ }
+    ensures { λ r. ⌜ ((fills : List ℕ) (g : Settings) → r ≡ tab 19 (streamed (boxSight (now (flags .entry)) (now (parts .entry)) [] fills (now (off .entry)) low g) c)) ⌝ }
+{
+    let k = c - low;
+    let mut f = [0i32; 19];
+    f[0] = parts[19 * c];
+    let mut i = 1;
+    while i < 19 {
+        f[i + 1] = parts[source(flags, c, k + off[i], i, i + 1)];
+        f[i] = parts[source(flags, c, k + off[i + 1], i + 1, i)];
+        i += 2;
+    }
+    f
+}
+
+// The parts that stream into a liquid cell, by whatever lies beside it. By pairs, so that the loop unrolls whole.
+fn rebuilt(
     flags: &[u8],
     parts: &[i32],
     fills: &[u32],
@@ -123,6 +153,24 @@ pub fn streamed(
     f
 }
 
+// The parts that stream into a liquid cell.
+pub fn streamed(
+    flags: &[u8],
+    parts: &[i32],
+    fills: &[u32],
+    off: &[usize; 19],
+    low: usize,
+    c: usize,
+) -> [i32; 19]
+    requires { ⌜ Bodied (now flags) (now parts) × Fills (now flags) (now fills) × Around (length (now flags)) (now off) low c × (liquid (getD (now flags) c 3) ≡ true) × Enclosed (now flags) (now off) low c ⌝ }
+    ensures { λ r. ⌜ ((g : Settings) → r ≡ tab 19 (streamed (boxSight (now (flags .entry)) (now (parts .entry)) [] (now (fills .entry)) (now (off .entry)) low g) c)) ⌝ }
+{
+    if flags[c] == 2 {
+        return reflected(flags, parts, off, low, c);
+    }
+    rebuilt(flags, parts, fills, off, low, c)
+}
+
 // The same, the short way where the mark of pass 0 says that the cell has liquid all around.
 pub(crate) fn chosen(
     flags: &[u8],
@@ -134,7 +182,7 @@ pub(crate) fn chosen(
     low: usize,
     c: usize,
 ) -> [i32; 19]
-    requires { ⌜ Bodied (now flags) (now parts) × Fills (now flags) (now fills) × Around (length (now flags)) (now off) low c × (liquid (getD (now flags) c 3) ≡ true) × Mirrored (now off) low × (now from ≡ tab 19 (sourceOf (now off))) × (mark ≡ 1 → Immersed (now flags) (now off) low c) ⌝ }
+    requires { ⌜ Bodied (now flags) (now parts) × Fills (now flags) (now fills) × Around (length (now flags)) (now off) low c × (liquid (getD (now flags) c 3) ≡ true) × Mirrored (now off) low × (now from ≡ tab 19 (sourceOf (now off))) × (mark ≡ 1 → Immersed (now flags) (now off) low c) × Enclosed (now flags) (now off) low c ⌝ }
     ensures { λ r. ⌜ ((g : Settings) → r ≡ tab 19 (streamed (boxSight (now (flags .entry)) (now (parts .entry)) [] (now (fills .entry)) (now (off .entry)) low g) c)) ⌝ }
 {
     if mark == 1 {

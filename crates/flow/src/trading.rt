@@ -64,7 +64,7 @@ fn traded_mass(
 }
 
 // The mass after stage 2: an interface cell's is traded, any other's is its density, which is 0 where there is no liquid.
-pub(crate) fn new_mass(
+pub fn new_mass(
     flags: &[u8],
     parts: &[i32],
     masses: &[i32],

@@ -16,7 +16,7 @@ use Rattle.grid.specs.State.{Lent, Scene}
 use Rattle.grid.specs.Step.{newFlag, newCarry}
 use Rattle.grid.specs.inner.Between.{settledMark, gatheredMass}
 use Rattle.grid.specs.inner.Passes.{keptBy, turnedBy, EmptyingBy, MarkedBy}
-use Rattle.flow.specs.inner.Flowed.{MovedTo}
+use Rattle.passes.specs.inner.Flowed.{MovedTo}
 use Rattle.excess.specs.inner.Gifts.{strayAt, gatheredAt}
 use Rattle.conversion.specs.inner.Born.{newlyBorn}
 use Rattle.conversion.specs.inner.Turned.{TurnedTo}
@@ -32,7 +32,7 @@ use Rattle.flume.specs.Flume.{flumeCells}
 use Rattle.flume.specs.inner.Offsets.{flumeLow, flumeOffset}
 use Rattle.nine.specs.inner.Cells.{partOf9}
 use Rattle.flumeflow.specs.inner.Seen.{sight9}
-use Rattle.flumeflow.specs.inner.Flowed.{wideScene}
+use Rattle.flumepasses.specs.inner.Flowed.{wideScene}
 use Rattle.flumeexcess.specs.inner.Gathered.{roomOf9, Gathering, Straying}
 use Rattle.flumeconversion.specs.inner.Settled.{Settling, Settled}
 use Rattle.flumeconversion.specs.inner.Born.{Fertile9, Peopled9}

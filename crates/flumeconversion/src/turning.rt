@@ -6,7 +6,7 @@ use flume::FlumeSides;
 use flumeexcess::giving;
 use flumeexcess::straying;
 use flumegrid::neighbours;
-use flumemarks::passes;
+use flumemarks::marks;
 use grid::copying;
 use lattice::Settings;
 use lattice::limits::fair_carry;
@@ -36,7 +36,7 @@ fn converted9(
     let off = neighbours::offsets(s);
     let low = neighbours::low_of(s);
     emptying::settle_marks_by(marks, &off, low);
-    passes::new_flags9(flags, marks, flags2, &off, low);
+    marks::new_flags9(flags, marks, flags2, &off, low);
     let a = birth::newborn9(flags, parts, fills, flags2, parts2, &off, low, g);
     let k = straying::new_carry9(flags2, parts2, masses2, marks, carry[0], &off, low);
     carry2[0] = k;

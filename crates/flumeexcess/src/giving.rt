@@ -1,4 +1,5 @@
 // Stage 6 in the flume: what converted cells give to the interface cells beside them. An idle place leads to the cell itself, which takes and so gives nothing.
+use excess::giving::marked_beside;
 use excess::leaning::used_weights;
 use grid::seeking::next_of;
 use lattice::directions::opposite;
@@ -67,8 +68,8 @@ fn gift_from9(
     gift9(flags, fills, parts, masses, off, low, b, m, i)
 }
 
-// What the neighbours give to cell c.
-fn gifts9(
+// What the neighbours give to cell c, added up.
+fn all_gifts9(
     flags: &[u8],
     fills: &[u32],
     parts: &[i32],
@@ -99,6 +100,26 @@ fn gifts9(
         i += 1;
     }
     t
+}
+
+// What the neighbours give to cell c.
+fn gifts9(
+    flags: &[u8],
+    fills: &[u32],
+    parts: &[i32],
+    masses: &[i32],
+    marks: &[u8],
+    off: &[usize; 19],
+    low: usize,
+    c: usize,
+) -> i64
+    requires { ⌜ Giving (now flags) (now fills) (roomOf9 (now parts)) (partOf9 (now parts)) (now masses) (now marks) (now off) low × (c < length (now flags)) × (getD (now flags) c 0 ≡ 1) ⌝ }
+    ensures { λ r. ⌜ r ≡ receivedAt (now (flags .entry)) (now (fills .entry)) (partOf9 (now (parts .entry))) (now (masses .entry)) (now (marks .entry)) (now (off .entry)) low c ⌝ }
+{
+    if !marked_beside(marks, off, c - low) {
+        return 0;
+    }
+    all_gifts9(flags, fills, parts, masses, marks, off, low, c)
 }
 
 // Pass 6: each interface cell takes what its converted neighbours give. It reads masses of converted cells and writes others.

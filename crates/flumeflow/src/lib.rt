@@ -1,6 +1,5 @@
-// Layer 2 of the flume, stages 1 to 4 of a step: streaming, exchange, gravity with its test, collision. Knows the promises of flow, nine and flumegrid.
+// Layer 2 of the flume, stages 1 to 4 of a step, of one cell: streaming, exchange, gravity with its test, collision. Knows the promises of flow and nine.
 pub mod moving;
-pub mod passing;
 pub mod relaxing;
 pub mod streaming;
 pub mod trading;

@@ -93,7 +93,7 @@ fn dry_out9(parts2: &mut [i32], c: usize)
 }
 
 // Stages 1 to 4 of cell c: zeros where it is not liquid.
-pub(crate) fn put_parts9(
+pub fn put_parts9(
     flags: &[u8],
     parts: &[i32],
     fills: &[u32],

@@ -26,7 +26,7 @@ ghost use Rattle.flume.specs.inner.Spread.{wide, spread};
 ghost use Rattle.flumeflow.specs.inner.Seen.{sight9, Bodied9, sourceOf9, Beside9};
 
 // Where part k that streams straight into a cell lies, counted from the first part of the cell c - low.
-pub(crate) fn sources9(off: [usize; 19], low: usize) -> [usize; 9]
+pub fn sources9(off: [usize; 19], low: usize) -> [usize; 9]
     requires { ⌜ Mirrored off low ⌝ }
     ensures { λ r. ⌜ r ≡ tab 9 (sourceOf9 off) ⌝ }
 {

@@ -66,7 +66,7 @@ fn traded_mass9(
 }
 
 // The mass after stage 2: an interface cell's is traded, any other's is its density, which is 0 where there is no liquid.
-pub(crate) fn new_mass9(
+pub fn new_mass9(
     flags: &[u8],
     parts: &[i32],
     masses: &[i32],

@@ -27,7 +27,7 @@ use Rattle.grid.specs.inner.Passes.{Amid}
 use Rattle.grid.specs.inner.Sight.{Body}
 use Rattle.grid.proofs.Accepted.{Sound, sound, none-found, cell-good}
 use Rattle.grid.proofs.Laid.{inner}
-use Rattle.grid.proofs.Prepared.{cell-body, cell-mass, cell-fill}
+use Rattle.grid.proofs.Prepared.{cell-body, cell-mass, cell-dry, cell-fill}
 use Rattle.flume.specs.declared.FlumeSides.{FlumeSides}
 use Rattle.flume.specs.declared.FlumeSettings.{FlumeSettings}
 use Rattle.flume.specs.Flume.{flumeCells, flumeGrid}
@@ -37,7 +37,7 @@ use Rattle.flume.specs.inner.Spread.{spreadLattice, spreadState}
 use Rattle.flume.proofs.Bridge.{cell-good-same, spread-of}
 use Rattle.flume.proofs.Places.{at-places, spread-at, spread-none}
 use Rattle.nine.specs.inner.Cells.{partOf9}
-use Rattle.flumegrid.specs.inner.Ready.{FlumeReady, FlumePoised}
+use Rattle.flumegrid.specs.inner.Ready.{FlumeReady, FlumeDried, FlumePoised}
 use Rattle.flumegrid.proofs.Offsets.{wideGrid, inner-of}
 
 -- ---- tests 1 to 6
@@ -112,6 +112,11 @@ module _ (s : FlumeSides) (g : FlumeSettings) (a : Lent) (r : FlumePoised s g a)
   pub mass : (c : ℕ) → c < flumeCells s → getD (a .flags) c 3 ≡ 1 → Within (getD (a .masses) c (pos 0)) 2359296
   unfolding stateOf
   mass = cell-mass (flumeCells s) W wide-cells
+
+  -- so the flags tell where parts are 0
+  pub dried : FlumeDried s (a .flags) (a .parts)
+  unfolding stateOf partOf9
+  dried = cell-dry (flumeCells s) W wide-cells
 
   -- every fill is as stage 7 has it
   pub fill-is : (c : ℕ) → c < flumeCells s → getD (a .fills) c 0 ≡ fillFor (getD (a .flags) c 3) (getD (a .masses) c (pos 0)) (density d3q19 (partOf9 (a .parts) c))

@@ -1,7 +1,7 @@
 // Test 5 of a flume: no fluid cell has an empty neighbour. By offsets; an idle neighbour is the fluid cell itself.
 use crate::neighbours;
+use checks::fluid::first_open_by;
 use flume::FlumeSides;
-use grid::fluid::first_open_by;
 ghost use mathlib.Core.Path.{_≡_};
 ghost use Rattle.grid.specs.Good.{badFluid};
 ghost use Rattle.grid.specs.State.{flagOf};

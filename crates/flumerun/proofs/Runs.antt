@@ -29,8 +29,9 @@ use Rattle.flume.specs.Flume.{flumeCells, flumeGrid, flumeLengths, flumeGround,
 use Rattle.flume.specs.Outcome.{flumeScene, flumeEntry, flumeStep, flumeNext, flumeRunEntry, open-outcome}
 use Rattle.flume.specs.Promise.{FlumeRanTo}
 use Rattle.flume.proofs.Demands.{flume-laid}
-use Rattle.flumegrid.specs.inner.Ready.{FlumeSized, FlumeReady, FlumeEntered}
+use Rattle.flumegrid.specs.inner.Ready.{FlumeSized, FlumeReady, FlumeEntered, FlumeDried, FlumeResuming}
 use Rattle.flumegrid.proofs.Entrance.{enters}
+use Rattle.flumegrid.proofs.Poise.{poised, dried}
 use Rattle.flumestep.specs.inner.Finished.{FlumeAdvanced}
 use Rattle.flumestep.proofs.Finishes.{alike-sized, next-sized}
 use Rattle.flumerun.specs.inner.Turns.{FlumeCrossed, FlumeWent}
@@ -87,11 +88,11 @@ lawful s g marks room = record {
 
 -- ---- one turn, by the way it goes
 module _ (s : FlumeSides) (g : FlumeSettings) (back : Bool) (a b : Lent) (marks : List ℕ) where
-  pub stepping-back : back ≡ true → FlumeEntered s g (here back a b) (there back a b) marks → FlumeEntered s g b a marks
-  stepping-back e h = subst (λ (t : Bool). FlumeEntered s g (here t a b) (there t a b) marks) e h
+  pub resuming-back : back ≡ true → FlumeResuming s g (here back a b) (there back a b) marks → FlumeResuming s g b a marks
+  resuming-back e h = subst (λ (t : Bool). FlumeResuming s g (here t a b) (there t a b) marks) e h
 
-  pub stepping-forth : back ≡ false → FlumeEntered s g (here back a b) (there back a b) marks → FlumeEntered s g a b marks
-  stepping-forth e h = subst (λ (t : Bool). FlumeEntered s g (here t a b) (there t a b) marks) e h
+  pub resuming-forth : back ≡ false → FlumeResuming s g (here back a b) (there back a b) marks → FlumeResuming s g a b marks
+  resuming-forth e h = subst (λ (t : Bool). FlumeResuming s g (here t a b) (there t a b) marks) e h
 
   pub crossed-back : (answer : Answer) (first : Lent) → back ≡ true → FlumeAdvanced s g b answer first marks → FlumeCrossed s g back a b answer first b marks
   crossed-back answer first e h = subst (λ (t : Bool). FlumeCrossed s g t a b answer first b marks) (sym e) (record { moved = h; kept = refl })
@@ -100,6 +101,16 @@ module _ (s : FlumeSides) (g : FlumeSettings) (back : Bool) (a b : Lent) (marks 
   crossed-forth answer second e h = subst (λ (t : Bool). FlumeCrossed s g t a b answer a second marks) (sym e) (record { moved = h; kept = refl })
 
 -- ---- the loop
+
+-- the flags of the set that the next turn writes tell where its parts are 0
+abbrev pub Dry : FlumeSides → Bool → Lent → Lent → Type 0
+Dry s back a b = FlumeDried s (there back a b .flags) (there back a b .parts)
+
+-- a set that is left as it was tells it if it was good
+kept-dry : (s : FlumeSides) (g : FlumeSettings) (back : Bool) (a b first second : Lent) → FlumeReady s g (here back a b) → here back first second ≡ here back a b → Dry s (not back) first second
+kept-dry s g true a b first second r e = subst (λ (x : Lent). FlumeDried s (x .flags) (x .parts)) (sym e) (dried s g _ (poised s g b r))
+kept-dry s g false a b first second r e = subst (λ (x : Lent). FlumeDried s (x .flags) (x .parts)) (sym e) (dried s g _ (poised s g a r))
+
 abbrev pub Going : ℕ → FlumeSides → FlumeSettings → Lent → List ℕ → ℕ → Bool → Lent → Lent → List ℕ → Type 0
 Going steps s g start marks₀ k back a b marks = Courses.Going (course s g marks₀) steps start k back a b marks
 
@@ -120,12 +131,17 @@ module _ (steps : ℕ) (s : FlumeSides) (g : FlumeSettings) (start : Lent) (mark
   pub going-alike : (back : Bool) (a b : Lent) (marks : List ℕ) → Going steps s g start marks₀ k back a b marks → Alike (here back a b) (there back a b)
   going-alike back a b marks i = Courses.going-alike (course s g marks₀) back i
 
-  pub going-stepping : (back : Bool) (a b : Lent) (marks : List ℕ) → Going steps s g start marks₀ k back a b marks → FlumeEntered s g (here back a b) (there back a b) marks
-  going-stepping back a b marks i = record { ready = i .ready; second = other back i; marks-room = i .marked }
+  pub going-resuming : (back : Bool) (a b : Lent) (marks : List ℕ) → Going steps s g start marks₀ k back a b marks → Dry s back a b → FlumeResuming s g (here back a b) (there back a b) marks
+  going-resuming back a b marks i d = record { entered = record { ready = i .ready; second = other back i; marks-room = i .marked }; dried = d }
     where
       other : (back : Bool) {a b : Lent} → Going steps s g start marks₀ k back a b marks → FlumeSized (flumeCells s) (there back a b)
       other true j = j .first
       other false j = j .second
+
+  -- after a turn the next one writes the set that this one read
+  pub going-dry : (back : Bool) (a b first second : Lent) (marks after : List ℕ) (answer : Answer) → Going steps s g start marks₀ k back a b marks
+      → FlumeCrossed s g back a b answer first second after → Dry s (not back) first second
+  going-dry back a b first second marks after answer i t = kept-dry s g back a b first second (i .ready) (t .kept)
 
   module _ (h : k < steps) where
     pub going-on : (back : Bool) (a b first second : Lent) (marks after : List ℕ) (answer : Answer) → answer ≡ Done → Going steps s g start marks₀ k back a b marks

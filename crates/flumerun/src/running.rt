@@ -12,7 +12,7 @@ ghost use Rattle.grid.specs.State.{lent};
 ghost use Rattle.run.specs.inner.Turns.{here, there};
 ghost use Rattle.flume.specs.Outcome.{flumeRunEntry};
 ghost use Rattle.flume.specs.Promise.{FlumeRanTo};
-ghost use Rattle.flumegrid.specs.inner.Ready.{FlumeEntered};
+ghost use Rattle.flumegrid.specs.inner.Ready.{FlumeEntered, FlumeResuming};
 ghost use Rattle.flumerun.specs.inner.Turns.{FlumeCrossed, FlumeWent};
 
 // One step from the set that holds the state to the other one.
@@ -32,11 +32,11 @@ fn turn(
     s: FlumeSides,
     g: FlumeSettings,
 ) -> Answer
-    requires { ⌜ FlumeEntered s g (here back (lent (now flags) (now parts) (now masses) (now fills) (now carry)) (lent (now flags2) (now parts2) (now masses2) (now fills2) (now carry2))) (there back (lent (now flags) (now parts) (now masses) (now fills) (now carry)) (lent (now flags2) (now parts2) (now masses2) (now fills2) (now carry2))) (now marks) ⌝ }
+    requires { ⌜ FlumeResuming s g (here back (lent (now flags) (now parts) (now masses) (now fills) (now carry)) (lent (now flags2) (now parts2) (now masses2) (now fills2) (now carry2))) (there back (lent (now flags) (now parts) (now masses) (now fills) (now carry)) (lent (now flags2) (now parts2) (now masses2) (now fills2) (now carry2))) (now marks) ⌝ }
     ensures { λ r. ⌜ FlumeCrossed s g back (lent (now (flags .entry)) (now (parts .entry)) (now (masses .entry)) (now (fills .entry)) (now (carry .entry))) (lent (now (flags2 .entry)) (now (parts2 .entry)) (now (masses2 .entry)) (now (fills2 .entry)) (now (carry2 .entry))) r (lent (now (flags .exit)) (now (parts .exit)) (now (masses .exit)) (now (fills .exit)) (now (carry .exit))) (lent (now (flags2 .exit)) (now (parts2 .exit)) (now (masses2 .exit)) (now (fills2 .exit)) (now (carry2 .exit))) (now (marks .exit)) ⌝ }
 {
     if back {
-        return stepping::advanced(
+        return stepping::resumed(
             flags2,
             parts2,
             masses2,
@@ -52,7 +52,7 @@ fn turn(
             g,
         );
     }
-    stepping::advanced(
+    stepping::resumed(
         flags,
         parts,
         masses,
@@ -89,6 +89,8 @@ pub fn going(
     requires { ⌜ FlumeEntered s g (lent (now flags) (now parts) (now masses) (now fills) (now carry)) (lent (now flags2) (now parts2) (now masses2) (now fills2) (now carry2)) (now marks) ⌝ }
     ensures { λ r. ⌜ FlumeWent steps s g (lent (now (flags .entry)) (now (parts .entry)) (now (masses .entry)) (now (fills .entry)) (now (carry .entry))) (now (marks .entry)) (r .count) (r .answer) (lent (now (flags .exit)) (now (parts .exit)) (now (masses .exit)) (now (fills .exit)) (now (carry .exit))) (lent (now (flags2 .exit)) (now (parts2 .exit)) (now (masses2 .exit)) (now (fills2 .exit)) (now (carry2 .exit))) (now (marks .exit)) ⌝ }
 {
+    // Of the second set nothing is known yet: any cell of it may hold water.
+    copying::put_all(flags2, 1);
     let mut back = false;
     let mut k = 0;
     while k < steps {

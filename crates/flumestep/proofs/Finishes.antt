@@ -7,7 +7,7 @@ use Prim.Native.Nat.{ℕ, suc, _+_, _*_, _/_, _%_, _≤_, _<_}
 use native.Mathlib.Nat.{mod-lt, div-add-mod}
 use native.Mathlib.Omega.{arith}
 use lib.IntN.{ℤ, pos}
-use lib.ListN.{length, getD, replicate}
+use lib.ListN.{length, getD, replicate, getD-replicate, length-replicate}
 use lib.Seq.{ext-getD}
 use Rattle.whole.specs.laws.Bools.{and-left, and-right}
 use Rattle.whole.specs.Fold.{tab, first}
@@ -24,9 +24,9 @@ use Rattle.grid.specs.Outcome.{accepted, ifNone, moveAnswer}
 use Rattle.grid.specs.inner.Halfway.{Alike}
 use Rattle.grid.specs.inner.Passes.{openedBy}
 use Rattle.grid.proofs.Listed.{lengths-fit}
-use Rattle.flow.specs.declared.passing.Passed.{Passed}
-use Rattle.flow.specs.declared.passing.Passed.the-variants.{Stopped, Through}
-use Rattle.flow.specs.inner.Flowed.{MovedTo}
+use Rattle.passes.specs.declared.passing.Passed.{Passed}
+use Rattle.passes.specs.declared.passing.Passed.the-variants.{Stopped, Through}
+use Rattle.passes.specs.inner.Flowed.{MovedTo}
 use Rattle.fills.specs.inner.Filled.{Refilled}
 use Rattle.conversion.proofs.Field.{Field, sceneIn, Sound}
 use Rattle.step.proofs.Opened.{open-fluid, open-near}
@@ -43,10 +43,10 @@ use Rattle.flume.proofs.Bridge.{bad-rule-same, spread-of}
 use Rattle.flume.proofs.Places.{wide-dir, spread-at}
 use Rattle.flume.proofs.Sets.{flume-move, flume-next}
 use Rattle.nine.specs.inner.Cells.{partOf9}
-use Rattle.flumegrid.specs.inner.Ready.{FlumeSized, FlumeReady, FlumeEntered}
+use Rattle.flumegrid.specs.inner.Ready.{FlumeSized, FlumeReady, FlumeEntered, FlumeDried, FlumeResuming}
 use Rattle.flumegrid.proofs.Checks.{sized}
 use Rattle.flumegrid.proofs.Poise.{poised}
-use Rattle.flumeflow.specs.inner.Flowed.{wideScene, FlumeFlowable, FlumeWent, stopped, through, FlumeFlowed}
+use Rattle.flumepasses.specs.inner.Flowed.{wideScene, FlumeFlowable, FlumeWent, stopped, through, FlumeFlowed}
 use Rattle.flumeflow.proofs.Nines.{part-at, place-low}
 use Rattle.flumefills.specs.inner.Filled.{Fillable9}
 use Rattle.flumeconversion.specs.inner.Turned.{FlumeTurning, FlumeTurned}
@@ -132,12 +132,14 @@ module _ (s : FlumeSides) (g : FlumeSettings) (a : Lent) where
     stopped-answer h e = Tests.stopped-answer F (field .stands) h (sym (ap (first n) fast-carried) ∙ e) ∙ move-is
 
     -- after pass 0
-    pub flowable : (before : List ℕ) {parts2 masses2 : List ℤ} {marks : List ℕ} → length parts2 ≡ 9 * n → length masses2 ≡ n
+    pub flowable : (before : List ℕ) {flags2 : List ℕ} {parts2 masses2 : List ℤ} {marks : List ℕ} → length flags2 ≡ n → FlumeDried s flags2 parts2 → length parts2 ≡ 9 * n → length masses2 ≡ n
         → marks ≡ tab (length (a .flags)) (openedBy (a .flags) before (tab 19 (flumeOffset s)) (flumeLow s))
-        → FlumeFlowable s (levelSettings g) (a .flags) (a .parts) (a .masses) (a .fills) parts2 masses2 marks
-    flowable before p m e = record {
+        → FlumeFlowable s (levelSettings g) (a .flags) (a .parts) (a .masses) (a .fills) flags2 parts2 masses2 marks
+    flowable before q d p m e = record {
       poised = poised s g a r;
       level = refl;
+      flags-room = q;
+      dried = d;
       parts-room = p;
       masses-room = m;
       marks-room = ap length e ∙ length-tab (length (a .flags)) (openedBy (a .flags) before (tab 19 (flumeOffset s)) (flumeLow s)) ∙ r .sized .flags;
@@ -267,13 +269,25 @@ module _ {s : FlumeSides} {g : FlumeSettings} {a : Lent} where
       pub finished-judged : {answer : Answer} → answer ≡ ifNone (suc (length flags2)) 8 (badRule d2q9 (length flags2) (stateOf 8 set)) Done → FlumeFinished s g a answer set marks
       finished-judged e = record { answer-is = judged-answer s g a (f .ready) (f .moved .steady) w r flags-count e; second-is = set-next; marks-are = w .turned .marks-are }
 
-  -- advanced
+  -- of a set whose flags are all 1 nothing is asked
+  pub soiled : {b : Lent} {marks flags : List ℕ} → flags ≡ replicate (length (b .flags)) 1 → FlumeEntered s g a b marks
+      → FlumeResuming s g a (lent flags (b .parts) (b .masses) (b .fills) (b .carry)) marks
+  soiled {b} {marks} {flags} e f = record {
+    entered = record {
+      ready = f .ready;
+      second = record { flags = ap length e ∙ length-replicate (length (b .flags)) 1 ∙ f .second .flags; parts = f .second .parts; masses = f .second .masses; fills = f .second .fills; carry = f .second .carry };
+      marks-room = f .marks-room;
+    };
+    dried = λ c k i j l. absurd (false≢true (sym l ∙ ap liquid (ap (λ (x : List ℕ). getD x c 3) e ∙ getD-replicate (length (b .flags)) c 1 3 (subst (λ (n : ℕ). c < n) (sym (f .second .flags)) i))));
+  }
+
+  -- resumed
   module _ {b : Lent} {marks : List ℕ} (f : FlumeEntered s g a b marks) {h : Settings} (eh : h ≡ levelSettings g) where
     pub flowing : {opened : List ℕ} → opened ≡ tab (length (a .flags)) (openedBy (a .flags) marks (tab 19 (flumeOffset s)) (flumeLow s))
-        → FlumeFlowable s h (a .flags) (a .parts) (a .masses) (a .fills) (b .parts) (b .masses) opened
-    flowing {opened} e =
-        subst (λ (k : Settings). FlumeFlowable s k (a .flags) (a .parts) (a .masses) (a .fills) (b .parts) (b .masses) opened) (sym eh)
-        (flowable s g a (f .ready) marks (f .second .parts) (f .second .masses) e)
+        → FlumeDried s (b .flags) (b .parts) → FlumeFlowable s h (a .flags) (a .parts) (a .masses) (a .fills) (b .flags) (b .parts) (b .masses) opened
+    flowing {opened} e d =
+        subst (λ (k : Settings). FlumeFlowable s k (a .flags) (a .parts) (a .masses) (a .fills) (b .flags) (b .parts) (b .masses) opened) (sym eh)
+        (flowable s g a (f .ready) marks (f .second .flags) d (f .second .parts) (f .second .masses) e)
 
     module _ {o : Passed} {parts2 masses2 : List ℤ} {marks2 : List ℕ} (v : FlumeFlowed s h (a .flags) (a .parts) (a .masses) (a .fills) o parts2 masses2 marks2) where
       w : FlumeFlowed s (levelSettings g) (a .flags) (a .parts) (a .masses) (a .fills) o parts2 masses2 marks2

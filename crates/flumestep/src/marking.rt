@@ -2,7 +2,7 @@
 use flume::FlumeSettings;
 use flume::FlumeSides;
 use flumegrid::neighbours;
-use flumemarks::passes;
+use flumemarks::marks;
 use lattice::Settings;
 ghost use mathlib.Core.Path.{_≡_};
 ghost use mathlib.Core.Bool.{true};
@@ -32,5 +32,5 @@ pub(crate) fn mark_open(flags: &[u8], marks: &mut [u8], s: FlumeSides)
 {
     let off = neighbours::offsets(s);
     let low = neighbours::low_of(s);
-    passes::mark_open9(flags, marks, &off, low);
+    marks::mark_open9(flags, marks, &off, low);
 }

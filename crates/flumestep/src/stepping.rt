@@ -1,15 +1,15 @@
 // The step of a flume that passed tests 1 to 6: passes in a row, and on refusal 7 or 8 the copy.
 use crate::marking;
-use flow::passing::Passed;
 use flume::FlumeSettings;
 use flume::FlumeSides;
 use flumeconversion::turning;
 use flumefills::filling;
-use flumeflow::passing;
 use flumegrid::checking;
 use flumegrid::entry;
+use flumepasses::passing;
 use grid::Answer;
 use grid::copying;
+use passes::passing::Passed;
 use step::sets;
 ghost use mathlib.Core.Path.{_≡_};
 ghost use Prim.Native.Nat.{suc};
@@ -19,7 +19,7 @@ ghost use Rattle.grid.specs.State.{lent, stateOf};
 ghost use Rattle.grid.specs.Good.{badRule};
 ghost use Rattle.grid.specs.Outcome.{ifNone};
 ghost use Rattle.flume.specs.Promise.{FlumeStepped};
-ghost use Rattle.flumegrid.specs.inner.Ready.{FlumeSized, FlumeEntered};
+ghost use Rattle.flumegrid.specs.inner.Ready.{FlumeSized, FlumeEntered, FlumeResuming};
 ghost use Rattle.flumestep.specs.inner.Finished.{FlumeFinishing, FlumeFinished, FlumeTried, FlumeAdvanced};
 
 // Test 8 where something is not fair: test 6's own scan of the second set.
@@ -94,12 +94,23 @@ fn tried(
     s: FlumeSides,
     g: FlumeSettings,
 ) -> Answer
-    requires { ⌜ FlumeEntered s g (lent (now flags) (now parts) (now masses) (now fills) (now carry)) (lent (now flags2) (now parts2) (now masses2) (now fills2) (now carry2)) (now marks) ⌝ }
+    requires { ⌜ FlumeResuming s g (lent (now flags) (now parts) (now masses) (now fills) (now carry)) (lent (now flags2) (now parts2) (now masses2) (now fills2) (now carry2)) (now marks) ⌝ }
     ensures { λ r. ⌜ FlumeTried s g (lent (now (flags .entry)) (now (parts .entry)) (now (masses .entry)) (now (fills .entry)) (now (carry .entry))) r (lent (now (flags2 .exit)) (now (parts2 .exit)) (now (masses2 .exit)) (now (fills2 .exit)) (now (carry2 .exit))) (now (marks .exit)) ⌝ }
 {
     marking::mark_open(flags, marks, s);
     let h = marking::level(g);
-    let a = passing::flowing9(flags, parts, masses, fills, parts2, masses2, marks, s, h);
+    let a = passing::flowing9(
+        flags,
+        parts,
+        masses,
+        fills,
+        flags2,
+        parts2,
+        masses2,
+        marks,
+        s,
+        h,
+    );
     match a {
         Passed::Stopped(c) => Answer::Refused(7, c),
         Passed::Through(fair, calm) => finished(
@@ -122,8 +133,8 @@ fn tried(
     }
 }
 
-// The step of a set that is ready.
-pub fn advanced(
+// The step of a set that is ready, within a run: the second set holds the state of two steps before, or flags that are all 1.
+pub fn resumed(
     flags: &[u8],
     parts: &[i32],
     masses: &[i32],
@@ -138,7 +149,7 @@ pub fn advanced(
     s: FlumeSides,
     g: FlumeSettings,
 ) -> Answer
-    requires { ⌜ FlumeEntered s g (lent (now flags) (now parts) (now masses) (now fills) (now carry)) (lent (now flags2) (now parts2) (now masses2) (now fills2) (now carry2)) (now marks) ⌝ }
+    requires { ⌜ FlumeResuming s g (lent (now flags) (now parts) (now masses) (now fills) (now carry)) (lent (now flags2) (now parts2) (now masses2) (now fills2) (now carry2)) (now marks) ⌝ }
     ensures { λ r. ⌜ FlumeAdvanced s g (lent (now (flags .entry)) (now (parts .entry)) (now (masses .entry)) (now (fills .entry)) (now (carry .entry))) r (lent (now (flags2 .exit)) (now (parts2 .exit)) (now (masses2 .exit)) (now (fills2 .exit)) (now (carry2 .exit))) (now (marks .exit)) ⌝ }
 {
     let a = tried(
@@ -173,6 +184,43 @@ pub fn advanced(
         return Answer::Refused(no, at);
     }
     Answer::Done
+}
+
+// The step of a set that is ready. Nothing is known of the second set, so every cell of it may hold water.
+pub fn advanced(
+    flags: &[u8],
+    parts: &[i32],
+    masses: &[i32],
+    fills: &[u32],
+    carry: &[i64],
+    flags2: &mut [u8],
+    parts2: &mut [i32],
+    masses2: &mut [i32],
+    fills2: &mut [u32],
+    carry2: &mut [i64],
+    marks: &mut [u8],
+    s: FlumeSides,
+    g: FlumeSettings,
+) -> Answer
+    requires { ⌜ FlumeEntered s g (lent (now flags) (now parts) (now masses) (now fills) (now carry)) (lent (now flags2) (now parts2) (now masses2) (now fills2) (now carry2)) (now marks) ⌝ }
+    ensures { λ r. ⌜ FlumeAdvanced s g (lent (now (flags .entry)) (now (parts .entry)) (now (masses .entry)) (now (fills .entry)) (now (carry .entry))) r (lent (now (flags2 .exit)) (now (parts2 .exit)) (now (masses2 .exit)) (now (fills2 .exit)) (now (carry2 .exit))) (now (marks .exit)) ⌝ }
+{
+    copying::put_all(flags2, 1);
+    resumed(
+        flags,
+        parts,
+        masses,
+        fills,
+        carry,
+        flags2,
+        parts2,
+        masses2,
+        fills2,
+        carry2,
+        marks,
+        s,
+        g,
+    )
 }
 
 // One step: tests 1 to 6, then the step of a set that passed them.

@@ -9,7 +9,7 @@ use lib.Dec.{eqb, ltb}
 use borrow.Author.Tests.{eqb-false, ltb-true, ltb-false}
 use Rattle.whole.specs.laws.Bools.{or-false}
 use Rattle.grid.specs.declared.Sides.{Sides}
-use Rattle.grid.specs.declared.layer.Place.{Place}
+use Rattle.grid.specs.declared.Place.{Place}
 use Rattle.grid.specs.Grid.{atEnd, gridOf, box, cellsOf, sidesGood}
 use Rattle.grid.specs.inner.Passes.{Inner, Stands, Of, placeAfter, outerAt, lowOf}
 use Rattle.grid.proofs.GoodSides.{good-sides}

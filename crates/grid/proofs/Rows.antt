@@ -11,7 +11,7 @@ use lib.ListN.{length, getD}
 use borrow.Author.Tests.{le-ltb}
 use Rattle.whole.specs.laws.Search.{first-is, first-all}
 use Rattle.grid.specs.declared.Sides.{Sides}
-use Rattle.grid.specs.declared.layer.Place.{Place}
+use Rattle.grid.specs.declared.Place.{Place}
 use Rattle.grid.specs.Grid.{gridOf, box, cellsOf, sidesGood}
 use Rattle.grid.specs.Good.{flagGood, badFlag}
 use Rattle.grid.specs.inner.Passes.{Stands, Of, RowAt, outerAt, placeAfter}

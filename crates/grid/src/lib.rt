@@ -1,12 +1,9 @@
-// Layer 2, the grid: states, the check, the normal. Knows the promises of lattice.
+// Layer 2, the grid: states, neighbours, searches, copies, the normal. Knows the promises of lattice.
 pub mod cells;
-pub mod checking;
 pub mod copying;
 pub mod extent;
 pub mod fill;
-pub mod fluid;
 pub mod kinds;
-pub mod layer;
 pub mod lengths;
 pub mod neighbours;
 pub mod normal;
@@ -17,6 +14,13 @@ pub struct Sides {
     pub nx: usize,
     pub ny: usize,
     pub nz: usize,
+}
+
+// A cell's coordinates.
+pub struct Place {
+    pub x: usize,
+    pub y: usize,
+    pub z: usize,
 }
 
 // What a call answers: done, or the refusal's number and place as document 01 has them.

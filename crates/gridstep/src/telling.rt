@@ -1,9 +1,9 @@
 // The program's text: the line of a refused record, or the lines of a state, of its step, and of the state after it.
-use crate::counting::Line;
-use crate::playing::Told;
 use console::answers::answered;
 use console::answers::refused;
 use console::line;
+use lines::counting::Line;
+use lines::playing::Told;
 
 fn state(text: &[u8], l: Line) {
     line::word(text);

@@ -5,11 +5,11 @@ use Rattle.lattice.specs.Cell.{open-cell}
 use Rattle.grid.specs.Grid.{open-grid}
 use Rattle.grid.specs.Outcome.{open-outcome}
 use Rattle.record.specs.Layout.{open-layout}
-use Rattle.heights.specs.Text.{open-text}
-use Rattle.heights.specs.Number.{open-number}
+use Rattle.numerals.specs.Text.{open-text}
+use Rattle.numerals.specs.Number.{open-number}
 use Rattle.heights.specs.Header.{open-header}
 use Rattle.heights.specs.Rows.{open-rows}
-use Rattle.invert.specs.Invert.{open-invert}
+use Rattle.solids.specs.Invert.{open-invert}
 use Rattle.invert.specs.Outcome as invert
 use Rattle.heightfigures.specs.Texts.{hold}
 use Rattle.heightfigures.specs.Numbers.{numbers}

@@ -2,9 +2,9 @@
 use mathlib.Core.List.{List, [], _∷_}
 use Prim.Native.String.{String}
 use lib.IntN.{ℤ, pos, negsuc}
-use Rattle.heights.specs.declared.number.Number.{Number}
-use Rattle.heights.specs.declared.number.Number.the-variants.{Thousandths, Unreadable}
-use Rattle.heights.specs.Number.{numberOf}
+use Rattle.numerals.specs.declared.number.Number.{Number}
+use Rattle.numerals.specs.declared.number.Number.the-variants.{Thousandths, Unreadable}
+use Rattle.numerals.specs.Number.{numberOf}
 use Rattle.heightfigures.specs.Texts.{bytes, Figure}
 
 -- a number in thousandths, nothing if the word is none

@@ -4,13 +4,13 @@ use mathlib.Core.List.{List, [], _∷_}
 use Prim.Native.Nat.{ℕ, zero, suc, _+_}
 use lib.Dec.{eqb}
 use lib.ListN.{length}
-use Rattle.heights.specs.declared.text.Kind.the-variants.{Word}
-use Rattle.heights.specs.declared.number.Number.{Number}
-use Rattle.heights.specs.declared.number.Number.the-variants.{Thousandths, Unreadable}
+use Rattle.numerals.specs.declared.text.Kind.the-variants.{Word}
+use Rattle.numerals.specs.declared.number.Number.{Number}
+use Rattle.numerals.specs.declared.number.Number.the-variants.{Thousandths, Unreadable}
 use Rattle.heights.specs.declared.rows.Rows.{Rows}
 use Rattle.heights.specs.declared.rows.Rows.the-variants.{Fine, Unfit}
-use Rattle.heights.specs.Text.{ofKind, word, afterWord, nextLine}
-use Rattle.heights.specs.Number.{numberOf}
+use Rattle.numerals.specs.Text.{ofKind, word, afterWord, nextLine}
+use Rattle.numerals.specs.Number.{numberOf}
 use Rattle.heights.specs.Header.{isWhole}
 
 abbrev pub isWholeNumber : Number → Bool

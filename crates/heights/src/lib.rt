@@ -1,5 +1,3 @@
-// The text of an ASCII height grid: its words, its numbers, its header and its rows.
+// The text of an ASCII height grid: its header and its rows. Knows the promises of numerals.
 pub mod header;
-pub mod number;
 pub mod rows;
-pub mod text;

@@ -1,9 +1,9 @@
 // The step.
-use calls::stepping;
 use grid::Sides;
 use host::answers::number_of;
 use host::answers::place_of;
 use lattice::Settings;
+use steps::stepping;
 ghost use Rattle.grid.specs.State.{lent};
 ghost use Rattle.index.specs.Index.{index};
 ghost use Rattle.index.specs.Held.{held};

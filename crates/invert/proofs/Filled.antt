@@ -11,8 +11,8 @@ use Rattle.grid.specs.State.{Lent, lent}
 use Rattle.grid.specs.Outcome.{accepted}
 use Rattle.record.specs.declared.Head.{Head}
 use Rattle.index.specs.Index.{Index, index}
-use Rattle.heights.specs.Text.{fromLine}
-use Rattle.invert.specs.Invert.{invertFlags}
+use Rattle.numerals.specs.Text.{fromLine}
+use Rattle.solids.specs.Invert.{invertFlags}
 use Rattle.invert.specs.Outcome.{countOf, readHead, lengthsOf, dry, dryIndex, setBy, indexBy, Inverted}
 use Rattle.invert.proofs.Tested.{Fit}
 

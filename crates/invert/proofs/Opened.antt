@@ -12,17 +12,17 @@ use lib.IntN.{ℤ}
 use lib.ListN.{length, drop, length-drop}
 use lib.Seq.{length-take-le}
 use Rattle.whole.specs.laws.Bools.{and-right}
-use Rattle.heights.specs.declared.text.Kind.the-variants.{Blank, Word, Line}
-use Rattle.heights.specs.declared.number.Number.{Number}
-use Rattle.heights.specs.declared.number.Number.the-variants.{Thousandths, Unreadable}
+use Rattle.numerals.specs.declared.text.Kind.the-variants.{Blank, Word, Line}
+use Rattle.numerals.specs.declared.number.Number.{Number}
+use Rattle.numerals.specs.declared.number.Number.the-variants.{Thousandths, Unreadable}
 use Rattle.heights.specs.declared.header.Key.{Key}
 use Rattle.heights.specs.declared.header.Key.the-variants.{Columns, Rows, West, South, Edge, Missing}
 use Rattle.heights.specs.declared.header.Frame.{Frame}
 use Rattle.heights.specs.declared.header.Header.{Header}
 use Rattle.heights.specs.declared.header.Header.the-variants.{Read, Bad}
-use Rattle.heights.specs.Text.{ofKind, blank, lower, run, ahead, behind, word, afterWord, nextLine, fromLine, alike}
+use Rattle.numerals.specs.Text.{ofKind, blank, lower, run, ahead, behind, word, afterWord, nextLine, fromLine, alike}
 use Rattle.heights.specs.Header.{keyOf, lineOf, lastOf, lineValue, entryOf, orBad, headerOf}
-use Rattle.heights.proofs.Runs.{run-le, run-yes, run-no}
+use Rattle.numerals.proofs.Runs.{run-le, run-yes, run-no}
 
 -- ---- a run lies in a run of what it is a kind of
 run-over : (f g : ℕ → Bool) → ((b : ℕ) → g b ≡ true → f b ≡ true) → (t : List ℕ) → run f t ≡ run g t + run f (drop (run g t) t)

@@ -1,4 +1,2 @@
-pub mod Invert
 pub mod Outcome
 pub mod Demands
-pub mod inner

@@ -23,11 +23,11 @@ use Rattle.heights.specs.declared.header.Header.{Header}
 use Rattle.heights.specs.declared.header.Header.the-variants.{Read, Bad}
 use Rattle.heights.specs.declared.rows.Rows.{Rows}
 use Rattle.heights.specs.declared.rows.Rows.the-variants.{Fine, Unfit}
-use Rattle.heights.specs.Text.{fromLine}
+use Rattle.numerals.specs.Text.{fromLine}
 use Rattle.heights.specs.Header.{headerOf}
 use Rattle.heights.specs.Rows.{rowsOf}
 use Rattle.invert.specs.declared.testing.Lengths.{Lengths}
-use Rattle.invert.specs.Invert.{invertFlags}
+use Rattle.solids.specs.Invert.{invertFlags}
 
 -- ---- the grid that header and host say
 

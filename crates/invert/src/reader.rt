@@ -1,13 +1,13 @@
 // The reader of an invert.
-use crate::clearing;
 use crate::testing;
 use crate::testing::Lengths;
 use crate::testing::count_of;
-use crate::walls;
-use heights::text::line_at;
 use lattice::Settings;
+use numerals::text::line_at;
 use record::Head;
 use record::section::passed;
+use solids::clearing;
+use solids::walls;
 ghost use Rattle.grid.specs.State.{lent};
 ghost use Rattle.index.specs.Index.{index};
 ghost use Rattle.invert.specs.Outcome.{Inverted};

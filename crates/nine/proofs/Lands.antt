@@ -2,6 +2,7 @@
 use mathlib.Core.Path.{_≡_, refl, sym, ap₂, _∙_}
 use mathlib.Core.Bool.{Bool, true, false}
 use mathlib.Core.List.{List}
+use mathlib.Core.Logic.{inr}
 use Prim.Native.Nat.{ℕ, suc, _+_, _%_, _<_, _≤_}
 use native.Mathlib.Omega.{arith}
 use lib.IntN.{ℤ, pos, _-ℤ_}
@@ -29,4 +30,4 @@ module _ (v : Flow) (p : ℤ) (f : List ℤ) (e : List ℕ) (quiet : Quiet f) (d
           ∙ sym (idle-stays (v .rho) (vec v) p (partsOf f) (suc k) n (quiet .at (suc k) n))
       go false t =
           let s = ends .at k h t in
-          landed-part spreadLattice v p (partsOf f) (suc k) (getD e k 0) (s .lack) deep (s .near) (omega (arith, s .small, low))
+          landed-part spreadLattice v p (partsOf f) (suc k) (getD e k 0) (s .lack) deep (s .near) (inr (omega (arith, s .small, low)))

@@ -1,7 +1,7 @@
 // The check of a set whose carry slice holds three numbers: carry, poured, taken.
+use checks::checking;
 use grid::Answer;
 use grid::Sides;
-use grid::checking;
 use grid::extent;
 ghost use mathlib.Core.Path.{_≡_};
 ghost use mathlib.Core.Bool.{true, _&&_};

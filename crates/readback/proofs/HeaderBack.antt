@@ -10,13 +10,13 @@ use lib.ListN.{length}
 use Rattle.whole.specs.laws.Bounds.{abs-mul}
 use Rattle.whole.specs.laws.Quot.{quot-exact}
 use Rattle.grid.specs.declared.Sides.{Sides}
-use Rattle.heights.specs.declared.text.Kind.the-variants.{Word}
-use Rattle.heights.specs.declared.number.Number.the-variants.{Thousandths}
+use Rattle.numerals.specs.declared.text.Kind.the-variants.{Word}
+use Rattle.numerals.specs.declared.number.Number.the-variants.{Thousandths}
 use Rattle.heights.specs.declared.header.Key.the-variants.{Columns, Rows, West, South, Edge, Missing}
 use Rattle.heights.specs.declared.header.Frame.{Frame}
 use Rattle.heights.specs.declared.header.Header.the-variants.{Read}
-use Rattle.heights.specs.Text.{ofKind, nextLine, fromLine, open-text}
-use Rattle.heights.specs.Number.{numberOf, open-number}
+use Rattle.numerals.specs.Text.{ofKind, nextLine, fromLine, open-text}
+use Rattle.numerals.specs.Number.{numberOf, open-number}
 use Rattle.heights.specs.Header.{keyOf, isWhole, checked, lineValue, entryOf, headerOf}
 use Rattle.heights.proofs.Headers.{header-so}
 use Rattle.spelling.specs.Spelling.{spellOf, wholeOf, metresOf}

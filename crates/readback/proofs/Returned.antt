@@ -25,7 +25,7 @@ use Rattle.tunnel.proofs.Columns.{open-le}
 use Rattle.heights.specs.declared.header.Header.{Header}
 use Rattle.heights.specs.declared.header.Header.the-variants.{Read}
 use Rattle.heights.specs.declared.rows.Rows.the-variants.{Fine}
-use Rattle.heights.specs.Text.{fromLine}
+use Rattle.numerals.specs.Text.{fromLine}
 use Rattle.heights.specs.Header.{headerOf}
 use Rattle.heights.specs.Rows.{rowsOf}
 use Rattle.invert.specs.declared.testing.Lengths.{Lengths}

@@ -8,10 +8,10 @@ use borrow.Author.Tests.{eq-eqb}
 use lib.IntN.{ℤ, natAbs}
 use lib.ListN.{length, drop}
 use lib.Seq.{drop-append-add}
-use Rattle.heights.specs.declared.text.Kind.the-variants.{Word, Line}
+use Rattle.numerals.specs.declared.text.Kind.the-variants.{Word, Line}
 use Rattle.heights.specs.declared.rows.Rows.the-variants.{Fine}
-use Rattle.heights.specs.Text.{ofKind, run, behind, word, afterWord, nextLine, open-text}
-use Rattle.heights.specs.Number.{numberOf}
+use Rattle.numerals.specs.Text.{ofKind, run, behind, word, afterWord, nextLine, open-text}
+use Rattle.numerals.specs.Number.{numberOf}
 use Rattle.heights.specs.Rows.{isWholeNumber, rowGood, tailOf, rowsOf}
 use Rattle.spelling.specs.Spelling.{wholeOf}
 use Rattle.depths.specs.Map.{rowText, rowsText}

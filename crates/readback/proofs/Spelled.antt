@@ -9,15 +9,15 @@ use borrow.Author.Tests.{eq-eqb, ne-eqb, le-leb}
 use lib.IntN.{ℤ, pos, negsuc, negℤ, natAbs, _*ℤ_}
 use lib.ListN.{length, drop, getD, length-append}
 use lib.Seq.{getD-at, getD-append-add, drop-append-add}
-use Rattle.heights.specs.declared.text.Kind.the-variants.{Digit, Nought}
-use Rattle.heights.specs.declared.number.Magnitude.the-variants.{Amount}
-use Rattle.heights.specs.declared.number.Number.the-variants.{Thousandths}
-use Rattle.heights.specs.Text.{ofKind, run, every}
-use Rattle.heights.specs.Number.{digitAt, valueTo, thousandthsAt, endsWell, plainOf, kept, negated, numberOf}
+use Rattle.numerals.specs.declared.text.Kind.the-variants.{Digit, Nought}
+use Rattle.numerals.specs.declared.number.Magnitude.the-variants.{Amount}
+use Rattle.numerals.specs.declared.number.Number.the-variants.{Thousandths}
+use Rattle.numerals.specs.Text.{ofKind, run, every}
+use Rattle.numerals.specs.Number.{digitAt, valueTo, thousandthsAt, endsWell, plainOf, kept, negated, numberOf}
 use Rattle.spelling.specs.Spelling.{digitsOf, width, spellOf, wholeOf, metresOf}
 use Rattle.spelling.proofs.Widths.{length-digits, width-some, width-holds, width-fits, plain-sign, minus-sign}
-use Rattle.heights.proofs.Runs.{run-yes, run-no}
-use Rattle.heights.proofs.Digits.{plain-so, ends-so, ends-here}
+use Rattle.numerals.proofs.Runs.{run-yes, run-no}
+use Rattle.numerals.proofs.Digits.{plain-so, ends-so, ends-here}
 
 -- ---- lists whose every byte passes
 abbrev pub Each : (ℕ → Bool) → List ℕ → Type 0

@@ -10,16 +10,16 @@ use lib.IntN.{ℤ, pos, negsuc, natAbs, _*ℤ_}
 use lib.ListN.{length, drop, length-append}
 use lib.Seq.{take-at, drop-at}
 use Rattle.whole.specs.laws.Bools.{and-left, and-right}
-use Rattle.heights.specs.declared.text.Kind.the-variants.{Blank, Word, Line, Digit}
-use Rattle.heights.specs.declared.number.Number.the-variants.{Unreadable}
+use Rattle.numerals.specs.declared.text.Kind.the-variants.{Blank, Word, Line, Digit}
+use Rattle.numerals.specs.declared.number.Number.the-variants.{Unreadable}
 use Rattle.heights.specs.declared.header.Key.{Key}
 use Rattle.heights.specs.declared.header.Key.the-variants.{Columns, Rows, West, South, Edge, Missing}
-use Rattle.heights.specs.Text.{ofKind, blank, run, ahead, behind, word, afterWord, nextLine, alike, open-text}
-use Rattle.heights.specs.Number.{numberOf}
+use Rattle.numerals.specs.Text.{ofKind, blank, run, ahead, behind, word, afterWord, nextLine, alike, open-text}
+use Rattle.numerals.specs.Number.{numberOf}
 use Rattle.heights.specs.Header.{keyOf, checked, lastOf, lineValue}
 use Rattle.spelling.specs.Spelling.{spellOf, signOf, digitsOf, wholeOf, metresOf}
 use Rattle.depths.specs.Map.{lineText}
-use Rattle.heights.proofs.Runs.{run-yes, run-no}
+use Rattle.numerals.proofs.Runs.{run-yes, run-no}
 use Rattle.heights.proofs.Headers.{last-so}
 use Rattle.spelling.proofs.Widths.{width-some, plain-sign}
 use Rattle.readback.proofs.Spelled.{Each, each-append, each-more, run-each, digits-each, spell-each, length-spell}

@@ -12,8 +12,8 @@ use Rattle.grid.specs.Grid.{cellsOf}
 use Rattle.grid.specs.State.{Lent}
 use Rattle.record.specs.declared.Site.{Site}
 use Rattle.record.specs.Layout.{siteGood}
-use Rattle.heights.specs.declared.number.Number.the-variants.{Thousandths}
-use Rattle.heights.specs.Number.{numberOf}
+use Rattle.numerals.specs.declared.number.Number.the-variants.{Thousandths}
+use Rattle.numerals.specs.Number.{numberOf}
 use Rattle.invert.specs.declared.testing.Lengths.{Lengths}
 use Rattle.invert.specs.Outcome.{setFits, givenAnswer, toldHead, readHead}
 use Rattle.spelling.specs.Spelling.{wholeOf, metresOf}

@@ -1,9 +1,9 @@
 // The reader's last tests, of a record whose sections passed: 3, 5 and 6.
 use crate::fair::first_unfair;
+use checks::fluid::first_open;
 use grid::Answer;
 use grid::Sides;
 use grid::extent::cells;
-use grid::fluid::first_open;
 use lattice::limits::fair_carry;
 use pumps::entry::good_totals;
 use record::count::interface_cells;

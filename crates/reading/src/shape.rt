@@ -1,8 +1,8 @@
 // The reader's sections in their order, with tests 1, 2 and 4 on the way.
+use checks::layer::first_bad_flag;
 use grid::Answer;
 use grid::Sides;
 use grid::extent::cells;
-use grid::layer::first_bad_flag;
 use record::count::interface_cells;
 use record::count::liquid_cells;
 use record::given::opening;

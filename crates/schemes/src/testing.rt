@@ -1,8 +1,8 @@
 // The tests of a scheme: 1, 2, 4, 5 and 6 of the map, the own flags and the grid that they make. No grid is written for it: test 4 looks at both bytes
 // of a cell, test 5 at both bytes of its neighbours, and test 6 is the base's on the own flags, for empty cells and walls keep the same rules.
+use checks::checking;
 use grid::Answer;
 use grid::Sides;
-use grid::checking;
 use grid::extent;
 use grid::neighbours;
 use pumps::entry;

@@ -25,12 +25,12 @@ use Rattle.grid.specs.inner.Passes.{lowOf, offsetOf, openedBy, openedMark}
 use Rattle.grid.proofs.Beside.{Offsets}
 use Rattle.grid.proofs.Listed.{same-lent, lengths-listed}
 use Rattle.grid.proofs.Prepared.{sized}
-use Rattle.flow.specs.declared.passing.Passed.{Passed}
-use Rattle.flow.specs.declared.passing.Passed.the-variants.{Stopped, Through}
-use Rattle.flow.specs.inner.Flowed.{Flowable, Went, stopped, through, Flowed}
-use Rattle.flow.proofs.Marking.{opened-box}
+use Rattle.passes.specs.declared.passing.Passed.{Passed}
+use Rattle.passes.specs.declared.passing.Passed.the-variants.{Stopped, Through}
+use Rattle.passes.specs.inner.Flowed.{Flowable, Went, stopped, through, Flowed}
+use Rattle.passes.proofs.Marking.{opened-box}
 use Rattle.flow.proofs.Poise.{poised}
-use Rattle.flow.proofs.Walked.{moved-list}
+use Rattle.passes.proofs.Walked.{moved-list}
 use Rattle.fills.specs.inner.Filled.{Fillable, Refilled}
 use Rattle.conversion.proofs.Field.{fieldOf, Sound}
 use Rattle.conversion.proofs.Converts.{ready-field, moved-parts, turned-parts}

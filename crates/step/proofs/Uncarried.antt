@@ -13,7 +13,7 @@ use Rattle.grid.specs.Grid.{Grid}
 use Rattle.grid.specs.State.{Scene, byFlag, liquid}
 use Rattle.grid.specs.Step.{seen, normal, oldDensity, oldMomentum, leansTo, rebuilds, rebuiltPart, arrives, streamed, difference, traded, tradedMass, streamedDensity, streamedMomentum, unsteady, collidedDir, collided}
 use Rattle.grid.specs.inner.Between.{movedPart, movedMass, firstMark}
-use Rattle.flow.specs.inner.Flowed.{MovedTo}
+use Rattle.passes.specs.inner.Flowed.{MovedTo}
 
 module _ (L : Lattice) (G : Grid) (flag : ℕ → ℕ) (part : ℕ → ℕ → ℤ) (mass : ℕ → ℤ) (fill : ℕ → ℕ) (g : V3) (p : ℕ → ℤ) (k k′ : ℤ) where
   abbrev A : Scene

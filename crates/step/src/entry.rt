@@ -1,7 +1,7 @@
 // Tests 1 to 6 of what a step is lent.
+use checks::checking;
 use grid::Answer;
 use grid::Sides;
-use grid::checking;
 use grid::extent;
 use grid::lengths;
 use lattice::Settings;

@@ -1,16 +1,16 @@
 // The step of a set that passed tests 1 to 6: passes in a row, and on refusal 7 or 8 the copy.
 use crate::entry;
 use crate::sets;
+use checks::checking;
 use conversion::turning;
 use fills::filling;
-use flow::marks;
-use flow::passing;
-use flow::passing::Passed;
 use grid::Answer;
 use grid::Sides;
-use grid::checking;
 use grid::copying;
 use lattice::Settings;
+use passes::marks;
+use passes::passing;
+use passes::passing::Passed;
 ghost use mathlib.Core.Path.{_≡_};
 ghost use Prim.Native.Nat.{suc};
 ghost use lib.ListN.{length};

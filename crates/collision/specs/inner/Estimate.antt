@@ -1,15 +1,18 @@
--- The estimate of p times a cell's equilibrium parts, and where a part lands by it. Everything is in 2^-32, or 2^-33 where said. Assumes nothing.
+-- The estimate of p times a cell's equilibrium parts, where a part lands by it, and whether it tells. Everything is in 2^-32, or 2^-33 where said.
+-- Assumes nothing.
 use mathlib.Core.Path.{_≡_}
-use mathlib.Core.Bool.{cond}
+use mathlib.Core.Bool.{Bool, cond}
 use mathlib.Core.List.{List}
-use Prim.Native.Nat.{ℕ, suc, _/_, _<_}
-use lib.IntN.{ℤ, pos, _+ℤ_, _-ℤ_, _*ℤ_}
+use Prim.Native.Nat.{ℕ, suc, _+_, _*_, _/_, _<_, _≤_}
+use lib.IntN.{ℤ, pos, natAbs, _+ℤ_, _-ℤ_, _*ℤ_}
 use lib.Signed.{_<ℤ_, ltZ, quotZ, shrZ}
 use lib.ListN.{getD}
+use Rattle.whole.specs.laws.Machine.{Within}
 use Rattle.lattice.specs.declared.Flow.{Flow}
 use Rattle.lattice.specs.Lattice.{dot, Lattice, d3q19}
 use Rattle.lattice.specs.Cell.{quad}
-use Rattle.lattice.specs.inner.Held.{vec}
+use Rattle.lattice.specs.inner.Held.{partsOf, vec}
+use Rattle.lattice.specs.Body.{eqZ}
 use Rattle.collision.specs.declared.estimate.Rates.{Rates}
 use Rattle.collision.specs.declared.estimate.Two.{Two}
 use Rattle.collision.specs.declared.estimate.Four.{Four}
@@ -88,8 +91,23 @@ pub record EndsNear (v : Flow) (p : ℤ) (e : List ℕ) : Type 0 where
   pub at : (k : ℕ) → k < 18 → Near d3q19 524288 v p (suc k) (getD e k 0)
   pub most : (k : ℕ) → k < 18 → getD e k 0 < 2305843009213693952
 
--- where part f lands whose end is e, with c = 1024 − p
+-- 1024 times what part f tends to whose end is e, with c = 1024 − p; and numbers of which it fits 32 bits with one more
+abbrev pub mixed : ℕ → ℤ → ℤ → ℤ
+mixed e f c = pos (e / 4294967296) +ℤ c *ℤ f
+
+pub record Mixes (e : ℕ) (f c : ℤ) : Type 0 where
+  pub fit : e / 4294967296 + 1023 * natAbs f ≤ 2147483646
+  pub part : Within f 1572864
+  pub own : Within c 1023
+
+-- where it lands
 unfoldable pub landed : ℕ → ℤ → ℤ → ℤ
-landed e f c =
-    cond (ltZ (shrZ (pos (e / 4294967296) +ℤ c *ℤ f) 1024) f) (shrZ (pos (e / 4294967296) +ℤ c *ℤ f) 1024 +ℤ pos 1)
-    (shrZ (pos (e / 4294967296) +ℤ c *ℤ f) 1024)
+landed e f c = cond (ltZ (shrZ (mixed e f c) 1024) f) (shrZ (mixed e f c) 1024 +ℤ pos 1) (shrZ (mixed e f c) 1024)
+
+-- one more would not move it: that is the most by which the end, cut, may lie below the true number, cut
+unfoldable pub tells : ℕ → ℤ → ℤ → Bool
+tells e f c = eqZ (shrZ (mixed e f c) 1024) (shrZ (mixed e f c +ℤ pos 1) 1024)
+
+-- of end k and its part
+abbrev pub tellsAt : List ℕ → List ℤ → ℤ → ℕ → Bool
+tellsAt e f c k = tells (getD e k 0) (partsOf f (suc k)) c

@@ -19,15 +19,17 @@ use Rattle.grid.specs.State.{Scene, liquid, partOf}
 use Rattle.grid.specs.Step.{flagAt, streamedDensity, streamedMomentum, liquidNear, bornDensity, bornMomentum, born}
 use Rattle.grid.specs.inner.Pasted.{pasted}
 use Rattle.grid.specs.inner.Sight.{Bodies, Bodied, bodiesOf, Around, sight, boxSight}
+use Rattle.flow.specs.inner.Sources.{Enclosed}
 use Rattle.flow.specs.inner.Trade.{Fills}
 use Rattle.conversion.specs.declared.birth.Sum.{Sum}
 
--- stage 3 has passed: every liquid cell's ρ' and j' are in their ranges; and whatever is no wall has all its neighbours
+-- stage 3 has passed: every liquid cell's ρ' and j' are in their ranges; whatever is no wall has all its neighbours, and no fluid cell an empty one
 pub record Tested (flags : List ℕ) (parts : List ℤ) (fills off : List ℕ) (low : ℕ) (g : Settings) : Type 0 where
   pub bodies : Bodied flags parts
   pub fills-good : Fills flags fills
   pub gravity : gravityGood (g .gx) (g .gy) (g .gz) ≡ true
   pub around : (c : ℕ) → c < length flags → getD flags c 3 < 3 → Around (length flags) off low c
+  pub enclosed : (c : ℕ) → c < length flags → Enclosed flags off low c
   pub is-dense : (c : ℕ) → c < length flags → liquid (getD flags c 3) ≡ true → dense (streamedDensity (boxSight flags parts [] fills off low g) c) ≡ true
   pub is-slow : (c : ℕ) → c < length flags → liquid (getD flags c 3) ≡ true
       → slow (streamedDensity (boxSight flags parts [] fills off low g) c) (dot (streamedMomentum (boxSight flags parts [] fills off low g) c) (streamedMomentum (boxSight flags parts [] fills off low g) c)) ≡ true

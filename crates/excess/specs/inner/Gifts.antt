@@ -1,7 +1,7 @@
 -- Stage 6 over the lists that its functions are lent: the new flags, the old fills, the parts and masses on the way, the settled marks, and the offsets
 -- of neighbours. Each is Step's formula over lists, and over parts as a function of cell and direction; conversion's proofs/Given has one law each that turns it into the step's scene. Assumes nothing.
 use mathlib.Core.Path.{_≡_}
-use mathlib.Core.Bool.{Bool, true, cond}
+use mathlib.Core.Bool.{Bool, true, cond, not}
 use mathlib.Core.List.{List}
 use Prim.Native.Nat.{ℕ, zero, suc, _+_, _-_, _*_, _/_, _%_, _≤_, _<_}
 use lib.IntN.{ℤ, pos, negℤ, _+ℤ_, _-ℤ_}
@@ -66,6 +66,10 @@ giftAt flags fills part masses off low c m i = share 18 (excessAt part masses m 
 unfoldable pub giftFrom : List ℕ → List ℕ → (ℕ → ℕ → ℤ) → List ℤ → List ℕ → List ℕ → ℕ → ℕ → ℕ → ℤ
 giftFrom flags fills part masses marks off low b i =
     cond (eqb (getD marks b 0) 0) (pos 0) (giftAt flags fills part masses off low b (getD marks b 0) i)
+
+-- the neighbour in direction i is marked
+abbrev pub markedAt : List ℕ → List ℕ → ℕ → ℕ → Bool
+markedAt marks off k i = not (eqb (getD marks (k + getD off i 0) 0) 0)
 
 -- what the neighbours give to c
 unfoldable pub receivedAt : List ℕ → List ℕ → (ℕ → ℕ → ℤ) → List ℤ → List ℕ → List ℕ → ℕ → ℕ → ℤ

@@ -17,7 +17,7 @@ use Rattle.grid.specs.Outcome.{settingsGood}
 use Rattle.grid.specs.inner.Sight.{Bodied, Around}
 use Rattle.grid.specs.inner.Pasted.{pasted}
 use Rattle.flow.specs.declared.moving.Put.{Put}
-use Rattle.flow.specs.inner.Sources.{Mirrored, sourceOf, Immersed}
+use Rattle.flow.specs.inner.Sources.{Mirrored, sourceOf, Immersed, Enclosed}
 use Rattle.flow.specs.inner.Trade.{Fills}
 
 -- what is told of cell c of scene S: the test, and if it passed its density and whether its parts keep test 6's rules
@@ -32,7 +32,7 @@ pub record PutAt (S : Scene) (c : ℕ) (before after : List ℤ) (r : Put) : Typ
   pub told : Told S c r
   pub parts : r .ok ≡ true → after ≡ pasted before (19 * c) (tab 19 (movedPart S c))
 
--- what the code asks at cell c: a liquid cell has its neighbours around it, and is fluid with liquid all around where pass 0 marked it
+-- what the code asks at cell c: a liquid cell has its neighbours around it, is fluid with liquid all around where pass 0 marked it, and has no empty cell beside it where it is fluid
 pub record Putting (flags : List ℕ) (parts : List ℤ) (fills : List ℕ) (room : List ℤ) (mark : ℕ) (off from : List ℕ) (low c : ℕ) (g : Settings) (keep : ℕ) : Type 0 where
   pub bodied : Bodied flags parts
   pub filled : Fills flags fills
@@ -41,6 +41,7 @@ pub record Putting (flags : List ℕ) (parts : List ℤ) (fills : List ℕ) (roo
   pub mirrored : Mirrored off low
   pub sources : from ≡ tab 19 (sourceOf off)
   pub marked : liquid (getD flags c 3) ≡ true → mark ≡ 1 → Immersed flags off low c
+  pub enclosed : Enclosed flags off low c
   pub settings : settingsGood g ≡ true
   pub keeps : Keeps (natAbs (g .p)) keep
   pub size : length room ≡ length parts

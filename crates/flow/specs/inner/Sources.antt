@@ -1,9 +1,10 @@
 -- Where the parts that stream into a cell come from, which way it leans, and what stage 1's code asks at a cell. Assumes nothing.
 use mathlib.Core.Path.{_≡_}
-use mathlib.Core.Bool.{true}
+use mathlib.Core.Bool.{true, cond}
 use mathlib.Core.List.{List}
 use Prim.Native.Nat.{ℕ, _+_, _-_, _*_, _<_, _≤_}
 use lib.IntN.{ℤ, pos}
+use lib.Dec.{ltb}
 use lib.ListN.{length, getD}
 use Rattle.lattice.specs.Lattice.{dot, pairOpp, d3q19, density, momentum}
 use Rattle.lattice.specs.inner.Held.{vec}
@@ -25,6 +26,14 @@ sourceOf off k = 19 * getD off (pairOpp k) 0 + k
 pub record Immersed (flags off : List ℕ) (low c : ℕ) : Type 0 where
   pub fluid : getD flags c 3 ≡ 2
   pub each : (i : ℕ) → 0 < i → i < 19 → liquid (getD flags ((c - low) + getD off i 0) 3) ≡ true
+
+-- no neighbour of cell c is empty, where it is fluid
+abbrev pub Enclosed : List ℕ → List ℕ → ℕ → ℕ → Type 0
+Enclosed flags off low c = getD flags c 3 ≡ 2 → (i : ℕ) → 0 < i → i < 19 → getD flags ((c - low) + getD off i 0) 3 ≡ 0 → ⊥
+
+-- where the part lies that arrives at such a cell from its neighbour b in direction i, whose opposite is k: behind a wall the cell's own
+unfoldable pub arrivalAt : List ℕ → ℕ → ℕ → ℕ → ℕ → ℕ
+arrivalAt flags c b i k = cond (ltb 2 (getD flags b 3)) (19 * c + i) (19 * b + k)
 
 -- n·e of direction i for an interface cell c, 0 for any other
 unfoldable pub leanAt : List ℕ → List ℕ → List ℕ → ℕ → ℕ → ℕ → ℤ

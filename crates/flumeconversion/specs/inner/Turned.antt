@@ -7,13 +7,13 @@ use lib.IntN.{ℤ, pos}
 use lib.ListN.{length}
 use Rattle.lattice.specs.declared.Settings.{Settings}
 use Rattle.grid.specs.State.{Lent}
-use Rattle.flow.specs.inner.Flowed.{MovedTo}
+use Rattle.passes.specs.inner.Flowed.{MovedTo}
 use Rattle.conversion.specs.inner.Turned.{TurnedTo}
 use Rattle.flume.specs.declared.FlumeSides.{FlumeSides}
 use Rattle.flume.specs.Flume.{flumeCells}
 use Rattle.nine.specs.inner.Cells.{partOf9}
 use Rattle.flumegrid.specs.inner.Ready.{FlumeReady}
-use Rattle.flumeflow.specs.inner.Flowed.{wideScene}
+use Rattle.flumepasses.specs.inner.Flowed.{wideScene}
 
 -- what the conversion asks: a set that is ready under settings with gy = 0, stages 1 to 4 made, and room for flags and carry
 pub record FlumeTurning (s : FlumeSides) (g : Settings) (a : Lent) (flags : List ℕ) (parts masses carry : List ℤ) (marks : List ℕ) (calm : Bool) : Type 0 where

@@ -8,14 +8,14 @@ use Rattle.grid.specs.declared.Answer.{Answer}
 use Rattle.grid.specs.declared.Answer.the-variants.{Done}
 use Rattle.grid.specs.State.{Lent}
 use Rattle.grid.specs.Outcome.{accepted, moveAnswer}
-use Rattle.flow.specs.inner.Flowed.{MovedTo}
+use Rattle.passes.specs.inner.Flowed.{MovedTo}
 use Rattle.flume.specs.declared.FlumeSides.{FlumeSides}
 use Rattle.flume.specs.declared.FlumeSettings.{FlumeSettings}
 use Rattle.flume.specs.Flume.{flumeCells, levelSettings}
 use Rattle.flume.specs.Outcome.{flumeScene, flumeNext}
 use Rattle.nine.specs.inner.Cells.{partOf9}
 use Rattle.flumegrid.specs.inner.Ready.{FlumeSized, FlumeReady}
-use Rattle.flumeflow.specs.inner.Flowed.{wideScene}
+use Rattle.flumepasses.specs.inner.Flowed.{wideScene}
 
 -- stages 1 to 4 are made in the second set, whose slices are of their lengths
 pub record FlumeFinishing (s : FlumeSides) (g : FlumeSettings) (a b : Lent) (marks : List ℕ) (fair calm : Bool) : Type 0 where

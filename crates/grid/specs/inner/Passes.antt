@@ -10,7 +10,7 @@ use lib.ListN.{length, getD}
 use Rattle.whole.specs.Fold.{anyDir, first}
 use Rattle.lattice.specs.Lattice.{V3, d3q19}
 use Rattle.grid.specs.declared.Sides.{Sides}
-use Rattle.grid.specs.declared.layer.Place.{Place}
+use Rattle.grid.specs.declared.Place.{Place}
 use Rattle.grid.specs.Grid.{cellAt, atEnd, toward, cellsOf, sidesGood, gridOf}
 use Rattle.grid.specs.State.{byFlag, flagOf, liquid}
 use Rattle.grid.specs.Step.{flagAfter}

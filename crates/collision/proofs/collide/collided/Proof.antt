@@ -1,23 +1,27 @@
--- `collision::collide::collided`: pair by pair each part lands by its end, what the pairs leave of the density is part 0, and where the low words
--- tell, each landing is the definition's. Assumes nothing.
+-- `collision::collide::collided`: pair by pair each part lands by its end, what the pairs leave of the density is part 0, and where every end
+-- tells, each landing is the definition's. Assumes nothing.
 use mathlib.Core.Path.{_≡_, refl, sym, _∙_, ap, ap₂, subst}
+use mathlib.Core.Bool.{true}
 use mathlib.Core.List.{List}
-use Prim.Native.Nat.{ℕ, suc, _+_, _-_, _%_, _<_, _≤_}
+use mathlib.Core.Logic.{inl}
+use Prim.Native.Nat.{ℕ, suc, _+_, _-_, _<_}
 use native.Mathlib.Omega.{arith}
 use borrow.Author.Needs.{needs}
+use borrow.Author.Tests.{not-false}
 use lib.ListN.{getD}
 use lib.IntN.{ℤ, pos, _+ℤ_, _-ℤ_}
 use mir.Syntax.{w32, w64}
 use mir.Val.{toZ, ofZ}
 use mir.Facts.{toZ-ofZ}
 use Rattle.whole.specs.laws.Machine.{Within, known, v32, within-by, does-fit, reads-as}
+use Rattle.whole.specs.laws.Search.{all-at}
 use Rattle.lattice.specs.Lattice.{d3q19}
 use Rattle.lattice.specs.inner.Held.{partsOf, vec}
 use Rattle.lattice.specs.Body.{relaxedDir}
 use Rattle.lattice.proofs.Ranges.{relaxation-in}
 use Rattle.lattice.proofs.Reading.{reading, inside}
 use Rattle.lattice.proofs.Tame.{steady-tame}
-use Rattle.collision.specs.inner.Estimate.{landed, EndsNear}
+use Rattle.collision.specs.inner.Estimate.{landed, EndsNear, Mixes, tellsAt}
 use Rattle.collision.proofs.Landed.{room, slack, landed-part}
 use Rattle.collision.proofs.Turns.{Done, eighteen, begun, more, all-done}
 use Rattle.collision.proofs.collide.collided.Statement.{statement}
@@ -72,15 +76,16 @@ slack-in s =
     let p = relaxation-in (s .args .p) (s .pre .2) in
     subst (λ (z : ℤ). Within z 1023) (sym (reads-as (search reading depth 20) tt)) (slack (s .args .p) (s .pre .2))
 
+-- what an end and a part are mixed to fits
+mixes : (t : tie.After-ends Inv-loop μ-loop) {z : ℤ} (k : ℕ) → k < 18 → Within z 1572864
+    → Mixes (getD (t .ends .result) k 0) z (toZ w32 (ofZ w32 (toZ w64 (ofZ w64 (pos 1024 -ℤ toZ w64 (ofZ w64 (t .before .args .p)))))))
+mixes t k h m = record { fit = room 2305843009213693952 1572864 (ends-are t .most k h) m tt; part = m; own = slack-in (t .before) }
+
 settled-requires : tie.Need-settled-requires Inv-loop μ-loop
 settled-requires c κs =
     let t = c .before .before .before .before in
-    let s = t .before in
     let i = c .before .before .loop .i in
-    let p = relaxation-in (s .args .p) (s .pre .2) in
-    let hf = s .pre .0 .at i (omega arith) (omega arith) in
-    let h : Within (toZ w32 (ofZ w32 (partsOf (s .args .t1) (c .before .before .loop .i)))) 1572864 = within-by (search reading depth 20) tt in
-    (room 2305843009213693952 1572864 (ends-are t .most (i - 1) (omega arith)) h tt, h, slack-in s)
+    mixes t (i - 1) (omega arith) (within-by (v32 (inside (t .before .pre .0 .at i (omega arith) (omega arith)))) tt)
 
 mul-settled-3 : tie.Need-mul-settled-3 Inv-loop μ-loop
 mul-settled-3 c = search needs
@@ -100,12 +105,8 @@ array-copy-out-settled-2 c = search needs
 settled-requires-2 : tie.Need-settled-requires-2 Inv-loop μ-loop
 settled-requires-2 c κs =
     let t = c .before .before .before .before .before .before in
-    let s = t .before in
     let i = c .before .before .before .before .loop .i in
-    let p = relaxation-in (s .args .p) (s .pre .2) in
-    let hf = s .pre .0 .at (i + 1) (omega arith) (omega arith) in
-    let h : Within (toZ w32 (ofZ w32 (partsOf (s .args .t1) (c .before .before .before .before .loop .i + 1)))) 1572864 = within-by (search reading depth 20) tt in
-    (room 2305843009213693952 1572864 (ends-are t .most i (omega arith)) h tt, h, slack-in s)
+    mixes t i (omega arith) (within-by (v32 (inside (t .before .pre .0 .at (i + 1) (omega arith) (omega arith)))) tt)
 
 mul-a : tie.Need-mul-a Inv-loop μ-loop
 mul-a c = search needs
@@ -183,8 +184,8 @@ loop-again c =
     reads-as (search reading depth 20) tt in
     rw (er, ex, ey) (more (want c) _ m n (l .inv) (omega arith) (first c) (second c) hx hy)
 
-highest-requires : tie.Need-highest-requires Inv-loop μ-loop
-highest-requires c κs = search needs
+telling-requires : tie.Need-telling-requires Inv-loop μ-loop
+telling-requires c κs k h = mixes (c .before .before .before) k h (c .before .before .before .before .pre .0 .at (suc k) (omega arith) (omega arith))
 
 by-divider-requires : tie.Need-by-divider-requires Inv-loop μ-loop
 by-divider-requires c κs =
@@ -199,7 +200,7 @@ returns c =
 array-set-from-a-3 : tie.Need-array-set-from-a-3 Inv-loop μ-loop
 array-set-from-a-3 c = search needs
 
--- where the low words tell: what each part is, by the definition
+-- where every end tells: what each part is, by the definition
 module _ (c : tie.Else1 Inv-loop μ-loop) where
   abbrev first-of : tie.Start Inv-loop μ-loop
   first-of = c .before .before .before .before .before .before
@@ -213,14 +214,18 @@ module _ (c : tie.Else1 Inv-loop μ-loop) where
   share-is : toZ w32 (ofZ w32 (toZ w64 (ofZ w64 (pos 1024 -ℤ toZ w64 (ofZ w64 (first-of .args .p)))))) ≡ pos 1024 -ℤ first-of .args .p
   share-is = let p = relaxation-in (first-of .args .p) (first-of .pre .2) in reads-as (search reading depth 20) tt
 
+  told : (k : ℕ) → k < 18 → tellsAt (c .before .before .before .before .before .ends .result) (first-of .args .t1) (pos 1024 -ℤ first-of .args .p) k ≡ true
+  told =
+      all-at 18 (tellsAt (c .before .before .before .before .before .ends .result) (first-of .args .t1) (pos 1024 -ℤ first-of .args .p))
+      (rw share-is at (sym (c .before .telling .ensures)) ∙ not-false _ (c .if1 .left))
+
   form-is : (k : ℕ) → k < 18 → forms (suc k) ≡ wanted (suc k)
   form-is k h =
       let s = first-of in
       let t = c .before .before .before .before .before in
       let z : suc k - 1 ≡ k = omega arith in
-      let low : getD (t .ends .result) k 0 % 4294967296 + 524288 < 4294967296 = omega (arith, c .before .highest .ensures k h) in
       ap₂ (λ (n : ℕ) (y : ℤ). landed (getD (t .ends .result) n 0) (partsOf (s .args .t1) (suc k)) y) z share-is
-      ∙ landed-part d3q19 (s .args .v) (s .args .p) (partsOf (s .args .t1)) (suc k) (getD (t .ends .result) k 0) 524288 (steady-tame (s .args .v) (s .pre .1) .low) (ends-are t .at k h) low
+      ∙ landed-part d3q19 (s .args .v) (s .args .p) (partsOf (s .args .t1)) (suc k) (getD (t .ends .result) k 0) 524288 (steady-tame (s .args .v) (s .pre .1) .low) (ends-are t .at k h) (inl (omega arith, told k h))
 
 returns-2 : tie.Need-returns-2 Inv-loop μ-loop
 returns-2 c =
@@ -260,7 +265,7 @@ collided-spec =
     add-i
     loop-less
     loop-again
-    highest-requires
+    telling-requires
     by-divider-requires
     returns
     array-set-from-a-3

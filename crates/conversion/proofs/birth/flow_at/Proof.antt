@@ -18,7 +18,7 @@ use Rattle.conversion.proofs.birth.flow_at.Tie as tie
 streamed-requires : tie.Need-streamed-requires
 streamed-requires c κs =
     let s : tie.Start = search in
-    (s .pre .0 .bodies, s .pre .0 .fills-good, s .pre .0 .around (s .args .b) (s .pre .1) (wet-low _ (s .pre .2)), s .pre .2)
+    (s .pre .0 .bodies, s .pre .0 .fills-good, s .pre .0 .around (s .args .b) (s .pre .1) (wet-low _ (s .pre .2)), s .pre .2, s .pre .0 .enclosed (s .args .b) (s .pre .1))
 
 bounded : (c : tie.After-streamed) → Bounded (c .streamed .result) 1073741824 33554432
 bounded c =

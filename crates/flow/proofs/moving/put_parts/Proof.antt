@@ -34,7 +34,7 @@ chosen-requires : tie.Need-chosen-requires
 chosen-requires c κs =
     let start : tie.Start = search in let p = start .pre in
     let l = kind c in
-    (p .bodied, p .filled, p .around l, l, p .mirrored, p .sources, p .marked l)
+    (p .bodied, p .filled, p .around l, l, p .mirrored, p .sources, p .marked l, p .enclosed)
 
 shared-slice-read-put-moved : tie.Need-shared-slice-read-put-moved
 shared-slice-read-put-moved c = let start : tie.Start = search in start .pre .is-cell

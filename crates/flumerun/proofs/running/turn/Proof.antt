@@ -1,12 +1,12 @@
 -- `flumerun::running::turn`: the step goes from the set that holds the state to the other one, and leaves the first as it is. Assumes nothing.
 use borrow.Author.Needs.{needs}
 use mathlib.Core.Path.{refl}
-use Rattle.flumerun.proofs.Runs.{stepping-back, stepping-forth, crossed-back, crossed-forth}
+use Rattle.flumerun.proofs.Runs.{resuming-back, resuming-forth, crossed-back, crossed-forth}
 use Rattle.flumerun.proofs.running.turn.Statement.{statement}
 use Rattle.flumerun.proofs.running.turn.Tie as tie
 
-advanced-requires : tie.Need-advanced-requires
-advanced-requires c κs = let then1 : tie.Then1 = search in let start : tie.Start = search in stepping-back _ _ _ _ _ _ (then1 .if1 .taken) (start .pre)
+resumed-requires : tie.Need-resumed-requires
+resumed-requires c κs = let then1 : tie.Then1 = search in let start : tie.Start = search in resuming-back _ _ _ _ _ _ (then1 .if1 .taken) (start .pre)
 
 same-length : tie.Need-same-length
 same-length c = let after-flags : tie.After-flags = search in after-flags .flags .given
@@ -42,10 +42,10 @@ same-length-11 : tie.Need-same-length-11
 same-length-11 c = let after-marks : tie.After-marks = search in after-marks .marks .given
 
 returns : tie.Need-returns
-returns c = let after-advanced : tie.After-advanced = search in let then1 : tie.Then1 = search in crossed-back _ _ _ _ _ _ _ _ (then1 .if1 .taken) (after-advanced .advanced .ensures)
+returns c = let after-resumed : tie.After-resumed = search in let then1 : tie.Then1 = search in crossed-back _ _ _ _ _ _ _ _ (then1 .if1 .taken) (after-resumed .resumed .ensures)
 
-advanced-requires-2 : tie.Need-advanced-requires-2
-advanced-requires-2 c κs = let else1 : tie.Else1 = search in let start : tie.Start = search in stepping-forth _ _ _ _ _ _ (else1 .if1 .left) (start .pre)
+resumed-requires-2 : tie.Need-resumed-requires-2
+resumed-requires-2 c κs = let else1 : tie.Else1 = search in let start : tie.Start = search in resuming-forth _ _ _ _ _ _ (else1 .if1 .left) (start .pre)
 
 same-length-12 : tie.Need-same-length-12
 same-length-12 c = refl
@@ -81,13 +81,13 @@ same-length-22 : tie.Need-same-length-22
 same-length-22 c = search needs
 
 returns-2 : tie.Need-returns-2
-returns-2 c = let after-advanced2 : tie.After-advanced2 = search in let else1 : tie.Else1 = search in crossed-forth _ _ _ _ _ _ _ _ (else1 .if1 .left) (after-advanced2 .advanced2 .ensures)
+returns-2 c = let after-resumed2 : tie.After-resumed2 = search in let else1 : tie.Else1 = search in crossed-forth _ _ _ _ _ _ _ _ (else1 .if1 .left) (after-resumed2 .resumed2 .ensures)
 
 pub turn-spec : {M : Type 1} → statement M
 turn-spec =
     tie.close
     (tie.spec
-    advanced-requires
+    resumed-requires
     same-length
     same-length-2
     same-length-3
@@ -100,7 +100,7 @@ turn-spec =
     same-length-10
     same-length-11
     returns
-    advanced-requires-2
+    resumed-requires-2
     same-length-12
     same-length-13
     same-length-14

@@ -11,10 +11,10 @@ use Rattle.grid.proofs.seeking.dry.Statement.{statement}
 use Rattle.grid.proofs.seeking.dry.Tie as tie
 
 abbrev Inv-loop : tie.InvT-loop
-Inv-loop flags flags2 a none₀ k₀ none k = (k ≤ 32) × (none ≡ all k (λ i. not (eitherLiquid flags flags2 (a + i))))
+Inv-loop flags flags2 a n none₀ k₀ none k = (k ≤ n) × (none ≡ all k (λ i. not (eitherLiquid flags flags2 (a + i))))
 
 abbrev μ-loop : tie.MeasureT-loop
-μ-loop flags flags2 a none₀ k₀ none k = 32 - k
+μ-loop flags flags2 a n none₀ k₀ none k = n - k
 
 loop-holds : tie.Need-loop-holds Inv-loop μ-loop
 loop-holds c = (omega arith, all-none _)

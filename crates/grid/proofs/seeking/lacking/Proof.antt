@@ -12,10 +12,10 @@ use Rattle.grid.proofs.seeking.lacking.Statement.{statement}
 use Rattle.grid.proofs.seeking.lacking.Tie as tie
 
 abbrev Inv-loop : tie.InvT-loop
-Inv-loop flags a kind none₀ k₀ none k = (k ≤ 32) × (none ≡ all k (λ i. not (eqb (getD flags (a + i) 0) kind)))
+Inv-loop flags a n kind none₀ k₀ none k = (k ≤ n) × (none ≡ all k (λ i. not (eqb (getD flags (a + i) 0) kind)))
 
 abbrev μ-loop : tie.MeasureT-loop
-μ-loop flags a kind none₀ k₀ none k = 32 - k
+μ-loop flags a n kind none₀ k₀ none k = n - k
 
 loop-holds : tie.Need-loop-holds Inv-loop μ-loop
 loop-holds c = (omega arith, all-none _)

@@ -5,7 +5,7 @@ use Prim.Native.Nat.{ℕ, _+_, _-_, _≤_, _<_}
 use native.Mathlib.Omega.{arith}
 use lib.ListN.{length, getD}
 use Rattle.grid.specs.inner.Passes.{Lacking}
-use Rattle.grid.proofs.Ranges.{past-more}
+use Rattle.grid.proofs.Ranges.{past-more, past-on}
 use Rattle.grid.proofs.seeking.next_of.Statement.{statement}
 use Rattle.grid.proofs.seeking.next_of.Tie as tie
 
@@ -16,10 +16,13 @@ abbrev μ-loop : tie.MeasureT-loop
 μ-loop flags a kind c₀ c = length flags - c
 
 past-lacking-requires : tie.Need-past-lacking-requires Inv-loop μ-loop
-past-lacking-requires c κs = search needs
+past-lacking-requires c κs = let start : tie.Start Inv-loop μ-loop = search in (start .pre, omega arith)
+
+past-lacking-requires-2 : tie.Need-past-lacking-requires-2 Inv-loop μ-loop
+past-lacking-requires-2 c κs = (c .past-lacking .ensures .most, omega arith)
 
 loop-holds : tie.Need-loop-holds Inv-loop μ-loop
-loop-holds c = c .past-lacking .ensures
+loop-holds c = past-on (c .before .past-lacking .ensures) (c .past-lacking2 .ensures)
 
 shared-slice-read-if1 : tie.Need-shared-slice-read-if1 Inv-loop μ-loop
 shared-slice-read-if1 c = search needs
@@ -38,9 +41,9 @@ loop-less c = search needs
 loop-again : tie.Need-loop-again Inv-loop μ-loop
 loop-again c =
     let l = c .before .before .before .loop in
-    let a = c .before .before .before .before .before .before .args in
+    let start : tie.Start Inv-loop μ-loop = search in
     past-more 1 (l .inv) (omega (arith, c .before .before .loop-test .taken))
-    (λ k h e. c .if1 .left (ap (λ (i : ℕ). getD (a .flags .now) i 0) (omega arith) ∙ e))
+    (λ k h e. c .if1 .left (ap (λ (i : ℕ). getD (start .args .flags .now) i 0) (omega arith) ∙ e))
 
 returns-2 : tie.Need-returns-2 Inv-loop μ-loop
 returns-2 c =
@@ -54,6 +57,7 @@ next-of-spec =
     Inv-loop
     μ-loop
     past-lacking-requires
+    past-lacking-requires-2
     loop-holds
     shared-slice-read-if1
     returns

@@ -5,7 +5,7 @@ use Prim.Native.Nat.{ℕ, _-_}
 use native.Mathlib.Omega.{arith}
 use lib.ListN.{length}
 use Rattle.grid.specs.inner.Passes.{Dry, eitherLiquid}
-use Rattle.grid.proofs.Ranges.{past-more}
+use Rattle.grid.proofs.Ranges.{past-more, past-on}
 use Rattle.grid.proofs.seeking.next_wet.Statement.{statement}
 use Rattle.grid.proofs.seeking.next_wet.Tie as tie
 
@@ -16,10 +16,13 @@ abbrev μ-loop : tie.MeasureT-loop
 μ-loop flags flags2 a c₀ c = length flags - c
 
 past-dry-requires : tie.Need-past-dry-requires Inv-loop μ-loop
-past-dry-requires c κs = let start : tie.Start Inv-loop μ-loop = search in start .pre
+past-dry-requires c κs = let start : tie.Start Inv-loop μ-loop = search in (start .pre .0, start .pre .1, omega arith)
+
+past-dry-requires-2 : tie.Need-past-dry-requires-2 Inv-loop μ-loop
+past-dry-requires-2 c κs = let start : tie.Start Inv-loop μ-loop = search in (c .past-dry .ensures .most, start .pre .1, omega arith)
 
 loop-holds : tie.Need-loop-holds Inv-loop μ-loop
-loop-holds c = c .past-dry .ensures
+loop-holds c = past-on (c .before .past-dry .ensures) (c .past-dry2 .ensures)
 
 either-liquid-requires : tie.Need-either-liquid-requires Inv-loop μ-loop
 either-liquid-requires c κs =
@@ -54,6 +57,7 @@ next-wet-spec =
     Inv-loop
     μ-loop
     past-dry-requires
+    past-dry-requires-2
     loop-holds
     either-liquid-requires
     returns

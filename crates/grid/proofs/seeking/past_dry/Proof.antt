@@ -1,4 +1,4 @@
--- `grid::seeking::past_dry`: 32 cells more that are dry in both sets at each turn. Assumes nothing.
+-- `grid::seeking::past_dry`: n cells more that are dry in both sets at each turn. Assumes nothing.
 use borrow.Author.Needs.{needs}
 use borrow.Author.Tests.{not-false, not-true}
 use mathlib.Core.Path.{sym, _∙_}
@@ -12,10 +12,10 @@ use Rattle.grid.proofs.seeking.past_dry.Statement.{statement}
 use Rattle.grid.proofs.seeking.past_dry.Tie as tie
 
 abbrev Inv-loop : tie.InvT-loop
-Inv-loop flags flags2 a c₀ c = Dry flags flags2 a c
+Inv-loop flags flags2 a n c₀ c = Dry flags flags2 a c
 
 abbrev μ-loop : tie.MeasureT-loop
-μ-loop flags flags2 a c₀ c = length flags - c
+μ-loop flags flags2 a n c₀ c = length flags - c
 
 loop-holds : tie.Need-loop-holds Inv-loop μ-loop
 loop-holds c = let start : tie.Start Inv-loop μ-loop = search in past-first _ _ _ (start .pre .0)
@@ -33,14 +33,14 @@ add-c : tie.Need-add-c Inv-loop μ-loop
 add-c c = search needs
 
 loop-less : tie.Need-loop-less Inv-loop μ-loop
-loop-less c = omega (arith, c .before .before .loop-test .taken)
+loop-less c = let start : tie.Start Inv-loop μ-loop = search in omega (arith, start .pre .2, c .before .before .loop-test .taken)
 
 loop-again : tie.Need-loop-again Inv-loop μ-loop
 loop-again c =
     let start : tie.Start Inv-loop μ-loop = search in
     let a = start .args in
     let l = c .before .before .before .loop in
-    past-together (λ j. not (eitherLiquid (a .flags .now) (a .flags2 .now) j)) (λ j. not-true _) (l .inv) (omega (arith, l .inv .most, c .before .before .loop-test .taken))
+    past-together (a .n) (λ j. not (eitherLiquid (a .flags .now) (a .flags2 .now) j)) (λ j. not-true _) (l .inv) (omega (arith, l .inv .most, c .before .before .loop-test .taken))
     (sym (c .before .dry .ensures) ∙ not-false _ (c .if1 .left))
 
 returns-2 : tie.Need-returns-2 Inv-loop μ-loop

@@ -1,4 +1,4 @@
--- `grid::seeking::past_lacking`: 32 cells more of another kind at each turn. Assumes nothing.
+-- `grid::seeking::past_lacking`: n cells more of another kind at each turn. Assumes nothing.
 use borrow.Author.Needs.{needs}
 use borrow.Author.Tests.{eq-eqb, not-false}
 use mathlib.Core.Path.{sym, ap, _∙_}
@@ -13,13 +13,13 @@ use Rattle.grid.proofs.seeking.past_lacking.Statement.{statement}
 use Rattle.grid.proofs.seeking.past_lacking.Tie as tie
 
 abbrev Inv-loop : tie.InvT-loop
-Inv-loop flags a kind c₀ c = Lacking flags a kind c
+Inv-loop flags a n kind c₀ c = Lacking flags a kind c
 
 abbrev μ-loop : tie.MeasureT-loop
-μ-loop flags a kind c₀ c = length flags - c
+μ-loop flags a n kind c₀ c = length flags - c
 
 loop-holds : tie.Need-loop-holds Inv-loop μ-loop
-loop-holds c = past-first _ _ _ (c .before .pre)
+loop-holds c = past-first _ _ _ (c .before .pre .0)
 
 sub-loop : tie.Need-sub-loop Inv-loop μ-loop
 sub-loop c = c .loop .inv .most
@@ -34,13 +34,13 @@ add-c : tie.Need-add-c Inv-loop μ-loop
 add-c c = search needs
 
 loop-less : tie.Need-loop-less Inv-loop μ-loop
-loop-less c = omega (arith, c .before .before .loop-test .taken)
+loop-less c = let start : tie.Start Inv-loop μ-loop = search in omega (arith, start .pre .1, c .before .before .loop-test .taken)
 
 loop-again : tie.Need-loop-again Inv-loop μ-loop
 loop-again c =
     let l = c .before .before .before .loop in
     let a = c .before .before .before .before .before .args in
-    past-together (λ j. not (eqb (getD (a .flags .now) j 0) (a .kind))) (λ j t e. false≢true (sym (ap not (eq-eqb _ _ e)) ∙ t)) (l .inv) (omega (arith, l .inv .most, c .before .before .loop-test .taken))
+    past-together (a .n) (λ j. not (eqb (getD (a .flags .now) j 0) (a .kind))) (λ j t e. false≢true (sym (ap not (eq-eqb _ _ e)) ∙ t)) (l .inv) (omega (arith, l .inv .most, c .before .before .loop-test .taken))
     (sym (c .before .lacking .ensures) ∙ not-false _ (c .if1 .left))
 
 returns-2 : tie.Need-returns-2 Inv-loop μ-loop

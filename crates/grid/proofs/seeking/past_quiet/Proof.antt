@@ -39,7 +39,7 @@ loop-again : tie.Need-loop-again Inv-loop μ-loop
 loop-again c =
     let l = c .before .before .before .loop in
     let a = c .before .before .before .before .before .args in
-    past-together (λ j. eqb (getD (a .marks .now) j 0) 0) (λ j. eqb-true _ _) (l .inv) (omega (arith, l .inv .most, c .before .before .loop-test .taken))
+    past-together 32 (λ j. eqb (getD (a .marks .now) j 0) 0) (λ j. eqb-true _ _) (l .inv) (omega (arith, l .inv .most, c .before .before .loop-test .taken))
     (sym (c .before .quiet .ensures) ∙ not-false _ (c .if1 .left))
 
 returns-2 : tie.Need-returns-2 Inv-loop μ-loop

@@ -16,7 +16,7 @@ use Rattle.lattice.specs.Body.{relaxedDir}
 use Rattle.lattice.proofs.Ranges.{relaxation-in}
 use Rattle.lattice.proofs.Reading.{reading, inside}
 use Rattle.lattice.proofs.Tame.{steady-tame}
-use Rattle.collision.specs.inner.Estimate.{landed}
+use Rattle.collision.specs.inner.Estimate.{landed, Mixes}
 use Rattle.collision.proofs.Landed.{room, slack}
 use Rattle.collision.proofs.Turns.{Done, eighteen, begun, more, all-done}
 use Rattle.flume.specs.inner.Spread.{spreadLattice}
@@ -83,15 +83,16 @@ slack-in s =
     let p = relaxation-in (s .args .p) (s .pre .2) in
     subst (λ (z : ℤ). Within z 1023) (sym (reads-as (search reading depth 20) tt)) (slack (s .args .p) (s .pre .2))
 
+-- what an end and a part are mixed to fits
+mixes : (t : tie.After-ends9 Inv-loop μ-loop) {z : ℤ} (k : ℕ) → k < 18 → Within z 1441792
+    → Mixes (getD (t .ends9 .result) k 0) z (toZ w32 (ofZ w32 (toZ w64 (ofZ w64 (pos 1024 -ℤ toZ w64 (ofZ w64 (t .before .args .p)))))))
+mixes t k h m = record { fit = room 2866822637798031361 1441792 (below (ends-are t .most k h)) m tt; part = wider m; own = slack-in (t .before) }
+
 settled-requires : tie.Need-settled-requires Inv-loop μ-loop
 settled-requires c κs =
     let t = c .before .before .before .before in
-    let s = t .before in
     let i = c .before .before .loop .i in
-    let p = relaxation-in (s .args .p) (s .pre .2) in
-    let hf = s .pre .0 .at i (omega arith) (omega arith) in
-    let h : Within (toZ w32 (ofZ w32 (partsOf (s .args .t1) (c .before .before .loop .i)))) 1441792 = within-by (search reading depth 20) tt in
-    (room 2866822637798031361 1441792 (below (ends-are t .most (i - 1) (omega arith))) h tt, wider h, slack-in s)
+    mixes t (i - 1) (omega arith) (within-by (v32 (inside (t .before .pre .0 .at i (omega arith) (omega arith)))) tt)
 
 mul-settled-3 : tie.Need-mul-settled-3 Inv-loop μ-loop
 mul-settled-3 c = search needs
@@ -111,12 +112,8 @@ array-copy-out-settled-2 c = search needs
 settled-requires-2 : tie.Need-settled-requires-2 Inv-loop μ-loop
 settled-requires-2 c κs =
     let t = c .before .before .before .before .before .before in
-    let s = t .before in
     let i = c .before .before .before .before .loop .i in
-    let p = relaxation-in (s .args .p) (s .pre .2) in
-    let hf = s .pre .0 .at (i + 1) (omega arith) (omega arith) in
-    let h : Within (toZ w32 (ofZ w32 (partsOf (s .args .t1) (c .before .before .before .before .loop .i + 1)))) 1441792 = within-by (search reading depth 20) tt in
-    (room 2866822637798031361 1441792 (below (ends-are t .most i (omega arith))) h tt, wider h, slack-in s)
+    mixes t i (omega arith) (within-by (v32 (inside (t .before .pre .0 .at (i + 1) (omega arith) (omega arith)))) tt)
 
 mul-a : tie.Need-mul-a Inv-loop μ-loop
 mul-a c = search needs

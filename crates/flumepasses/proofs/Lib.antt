@@ -1,0 +1,2 @@
+pub mod Poise
+pub mod Puts

@@ -1,0 +1,4 @@
+// What gridstep tells: a record read and stepped, and the numbers of its lines. Knows the promises of reading, step and console.
+pub mod counting;
+pub mod playing;
+pub mod records;

@@ -1,0 +1,5 @@
+-- What inner functions ask and leave. Nothing of it need be believed: a call's own promise says what it gives without it.
+pub mod Flowed
+pub mod Stretch
+pub mod Skipped
+pub mod Marks

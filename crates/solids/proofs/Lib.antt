@@ -1,0 +1,4 @@
+pub mod Heights
+pub mod Spread
+pub mod Inverts
+pub mod Cleared

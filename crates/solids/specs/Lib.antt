@@ -1,0 +1,2 @@
+pub mod Invert
+pub mod inner
