@@ -1,6 +1,6 @@
 -- The trade of mass by cases of the neighbour's flag, its bounds, and the same as the stages' definitions over what a cell sees. Assumes nothing.
 use mathlib.Core.Path.{_≡_, refl, sym, ap, _∙_, subst}
-use mathlib.Core.Bool.{Bool, true, false, cond}
+use mathlib.Core.Bool.{Bool, true, false, cond, true≢false, false≢true}
 use mathlib.Core.List.{List}
 use Prim.Native.Nat.{ℕ, zero, suc, _+_, _-_, _*_, _%_, _<_, _≤_}
 use native.Mathlib.Nat.{le-trans, le-of-eq, mul-le-mul-right, div-le-of-le-mul}
@@ -23,13 +23,19 @@ use Rattle.grid.specs.inner.Sight.{Bodies, Around, sight}
 use Rattle.grid.proofs.Lists.{getD-there}
 use Rattle.flow.specs.inner.Trade.{Fills, Trading, apart, passed}
 
--- neither fluid nor interface
+-- ---- a choice by flag
 module _ {ℓ} {A : Type ℓ} where
-  pub by-neither : (f : ℕ) (x y z : A) → (f ≡ 2 → ⊥) → (f ≡ 1 → ⊥) → byFlag f x y z x ≡ x
-  by-neither zero x y z g h = refl
-  by-neither (suc zero) x y z g h = absurd (h refl)
-  by-neither (suc (suc zero)) x y z g h = absurd (g refl)
-  by-neither (suc (suc (suc n))) x y z g h = refl
+  by-dry : (f : ℕ) (x y z : A) → liquid f ≡ false → byFlag f x y z x ≡ x
+  by-dry zero x y z l = refl
+  by-dry (suc zero) x y z l = absurd (true≢false l)
+  by-dry (suc (suc zero)) x y z l = absurd (true≢false l)
+  by-dry (suc (suc (suc n))) x y z l = refl
+
+  by-interface : (f : ℕ) (x y z : A) → liquid f ≡ true → (f ≡ 2 → ⊥) → byFlag f x y z x ≡ y
+  by-interface zero x y z l g = absurd (false≢true l)
+  by-interface (suc zero) x y z l g = refl
+  by-interface (suc (suc zero)) x y z l g = absurd (g refl)
+  by-interface (suc (suc (suc n))) x y z l g = absurd (false≢true l)
 
   -- no interface cell
   pub by-other : (f : ℕ) (x y : A) → (f ≡ 1 → ⊥) → byFlag f x y x x ≡ x
@@ -47,15 +53,15 @@ module _ (flags : List ℕ) (part : ℕ → ℕ → ℤ) (fills : List ℕ) (c b
   unfolding passed
   passed-fluid e = rw (read 2 e) refl
 
-  pub passed-interface : getD flags b 0 ≡ 1 → exchange (getD fills c 0 + getD fills b 0) (apart part c b i k) ≡ passed flags part fills c b i k
+  -- liquid and not fluid
+  pub passed-interface : liquid (getD flags b 0) ≡ true → (getD flags b 0 ≡ 2 → ⊥)
+      → exchange (getD fills c 0 + getD fills b 0) (apart part c b i k) ≡ passed flags part fills c b i k
   unfolding passed
-  passed-interface e = rw (read 1 e) refl
+  passed-interface l g = rw (read _ refl) (sym (by-interface (getD flags b 0) (pos 0) _ (apart part c b i k) l g))
 
-  pub passed-neither : (getD flags b 0 ≡ 2 → ⊥) → (getD flags b 0 ≡ 1 → ⊥) → pos 0 ≡ passed flags part fills c b i k
+  pub passed-dry : liquid (getD flags b 0) ≡ false → pos 0 ≡ passed flags part fills c b i k
   unfolding passed
-  passed-neither f g =
-      sym (by-neither (getD flags b 3) (pos 0) (exchange (getD fills c 0 + getD fills b 0) (apart part c b i k)) (apart part c b i k)
-      (λ e. f (getD-there flags b 0 3 h ∙ e)) (λ e. g (getD-there flags b 0 3 h ∙ e)))
+  passed-dry l = rw (read _ refl) (sym (by-dry (getD flags b 0) (pos 0) (exchange (getD fills c 0 + getD fills b 0) (apart part c b i k)) (apart part c b i k) l))
 
 -- ---- bounds
 

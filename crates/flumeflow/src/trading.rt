@@ -1,6 +1,7 @@
 // Stage 2: what an interface cell gains from its neighbours.
 use flow::trading::both;
 use flow::trading::difference;
+use grid::kinds::is_liquid;
 use nine::cells::place;
 use surface::exchange::exchange;
 use whole::wide;
@@ -16,7 +17,7 @@ ghost use Rattle.flume.specs.inner.Spread.{wide};
 ghost use Rattle.nine.specs.inner.Cells.{partOf9};
 ghost use Rattle.flumeflow.specs.inner.Seen.{sight9, Bodied9, Traders9};
 
-// What cell c gains from cell b in direction k, whose opposite is m.
+// What cell c gains from cell b in direction k, whose opposite is m. Of a dry neighbour the flag alone is looked at.
 fn traded9(
     flags: &[u8],
     parts: &[i32],
@@ -30,14 +31,14 @@ fn traded9(
     ensures { λ r. ⌜ r ≡ passed (now (flags .entry)) (partOf9 (now (parts .entry))) (now (fills .entry)) c b (wide k) (wide m) ⌝ }
 {
     let f = flags[b];
+    if !is_liquid(f) {
+        return 0;
+    }
     let d = difference(parts[9 * b + m], parts[9 * c + k]);
     if f == 2 {
         return d;
     }
-    if f == 1 {
-        return exchange(both(fills[c], fills[b]), d);
-    }
-    0
+    exchange(both(fills[c], fills[b]), d)
 }
 
 // The mass of interface cell c with what it gains from its neighbours.

@@ -1,6 +1,7 @@
--- `flow::trading::traded`: the difference of the two parts, by the neighbour's flag. Assumes nothing.
+-- `flow::trading::traded`: nothing from a dry neighbour, from any other the difference of the two parts, by its flag. Assumes nothing.
 use borrow.Author.Needs.{needs}
-use mathlib.Core.Path.{_≡_, _∙_, ap, ap₂}
+use borrow.Author.Tests.{not-true, not-false}
+use mathlib.Core.Path.{_≡_, sym, _∙_, ap, ap₂}
 use Prim.Native.Nat.{_+_, _*_}
 use native.Mathlib.Omega.{arith}
 use lib.IntN.{ℤ, pos, _-ℤ_, natAbs}
@@ -12,12 +13,21 @@ use Rattle.lattice.specs.Cell.{exchange}
 use Rattle.grid.specs.State.{partOf}
 use Rattle.flow.specs.inner.Trade.{apart}
 use Rattle.flow.proofs.Held.{held32, held64, apart-in}
-use Rattle.flow.proofs.Trades.{passed-fluid, passed-interface, passed-neither}
+use Rattle.flow.proofs.Trades.{passed-fluid, passed-interface, passed-dry}
 use Rattle.flow.proofs.trading.traded.Statement.{statement}
 use Rattle.flow.proofs.trading.traded.Tie as tie
 
 shared-slice-read-f : tie.Need-shared-slice-read-f
 shared-slice-read-f c = search needs
+
+is-liquid-requires : tie.Need-is-liquid-requires
+is-liquid-requires c κs = search needs
+
+returns : tie.Need-returns
+returns c =
+    let after-is-liquid : tie.After-is-liquid = search in let s : tie.Start = search in
+    passed-dry (s .args .flags .now) (partOf (s .args .parts .now)) (s .args .fills .now) (s .args .c) (s .args .b) (s .args .i) (s .args .k) (s .pre .3)
+    (sym (after-is-liquid .is-liquid .ensures) ∙ not-true _ (c .if1 .taken))
 
 mul-difference : tie.Need-mul-difference
 mul-difference c = search needs
@@ -47,7 +57,7 @@ difference-requires : tie.Need-difference-requires
 difference-requires c κs = search needs
 
 -- the code's difference
-apart-is : (c : tie.After-difference) → let s = c .before .before .before .before .before .before in
+apart-is : (c : tie.After-difference) → let s = c .before .before .before .before .before .before .before .before in
     toZ w64 (ofZ w64 (c .difference .result)) ≡ apart (partOf (s .args .parts .now)) (s .args .c) (s .args .b) (s .args .i) (s .args .k)
 apart-is c =
     let after-difference-arg2 : tie.After-difference-arg2 = search in let after-difference-arg : tie.After-difference-arg = search in let s : tie.Start = search in
@@ -56,11 +66,11 @@ apart-is c =
     (held32 (getD (s .args .parts .now) (19 * s .args .b + s .args .k) (pos 0)) (after-difference-arg .difference-arg .given))
     (held32 (getD (s .args .parts .now) (19 * s .args .c + s .args .i) (pos 0)) (after-difference-arg2 .difference-arg2 .given))
 
-returns : tie.Need-returns
-returns c =
+returns-2 : tie.Need-returns-2
+returns-2 c =
     let s : tie.Start = search in
     apart-is (search)
-    ∙ passed-fluid (s .args .flags .now) (partOf (s .args .parts .now)) (s .args .fills .now) (s .args .c) (s .args .b) (s .args .i) (s .args .k) (s .pre .3) (c .if1 .taken)
+    ∙ passed-fluid (s .args .flags .now) (partOf (s .args .parts .now)) (s .args .fills .now) (s .args .c) (s .args .b) (s .args .i) (s .args .k) (s .pre .3) (c .if2 .taken)
 
 mul-both : tie.Need-mul-both
 mul-both c = search needs
@@ -78,7 +88,7 @@ both-requires : tie.Need-both-requires
 both-requires c κs = search needs
 
 -- the code's sum of fills
-both-is : (c : tie.After-both) → let s = c .before .before .before .before .before .before .before .before .before .before .before in
+both-is : (c : tie.After-both) → let s = c .before .before .before .before .before .before .before .before .before .before .before .before in
     toZ w64 (ofZ w64 (c .both .result)) ≡ pos (getD (s .args .fills .now) (s .args .c) 0 + getD (s .args .fills .now) (s .args .b) 0)
 both-is c = held64 (c .both .result) (c .both .ok) ∙ c .both .ensures
 
@@ -92,26 +102,24 @@ exchange-requires c κs =
           (after-difference-arg .difference-arg .given) (after-difference-arg2 .difference-arg2 .given)),
     )
 
-returns-2 : tie.Need-returns-2
-returns-2 c =
-    let then2 : tie.Then2 = search in let s : tie.Start = search in
+returns-3 : tie.Need-returns-3
+returns-3 c =
+    let after-is-liquid : tie.After-is-liquid = search in let else1 : tie.Else1 = search in let else2 : tie.Else2 = search in let s : tie.Start = search in
     let d : tie.After-difference = search in
     held64 (c .exchange .result) (c .exchange .ok)
     ∙ c .exchange .ensures
     ∙ ap (λ (z : ℤ). exchange (natAbs z) (toZ w64 (ofZ w64 (d .difference .result)))) (both-is (search))
     ∙ ap (λ (z : ℤ). exchange (getD (s .args .fills .now) (s .args .c) 0 + getD (s .args .fills .now) (s .args .b) 0) z) (apart-is d)
-    ∙ passed-interface (s .args .flags .now) (partOf (s .args .parts .now)) (s .args .fills .now) (s .args .c) (s .args .b) (s .args .i) (s .args .k) (s .pre .3) (then2 .if2 .taken)
-
-returns-3 : tie.Need-returns-3
-returns-3 c =
-    let else1 : tie.Else1 = search in let s : tie.Start = search in
-    passed-neither (s .args .flags .now) (partOf (s .args .parts .now)) (s .args .fills .now) (s .args .c) (s .args .b) (s .args .i) (s .args .k) (s .pre .3) (else1 .if1 .left) (c .if2 .left)
+    ∙ passed-interface (s .args .flags .now) (partOf (s .args .parts .now)) (s .args .fills .now) (s .args .c) (s .args .b) (s .args .i) (s .args .k) (s .pre .3)
+    (sym (after-is-liquid .is-liquid .ensures) ∙ not-false _ (else1 .if1 .left)) (else2 .if2 .left)
 
 pub traded-spec : {M : Type 1} → statement M
 traded-spec =
     tie.close
     (tie.spec
     shared-slice-read-f
+    is-liquid-requires
+    returns
     mul-difference
     add-difference
     mul-difference-2
@@ -121,12 +129,11 @@ traded-spec =
     mul-difference-4
     shared-slice-copy-out-difference-2
     difference-requires
-    returns
+    returns-2
     mul-both
     shared-slice-read-both
     mul-both-2
     shared-slice-read-both-2
     both-requires
     exchange-requires
-    returns-2
     returns-3)
