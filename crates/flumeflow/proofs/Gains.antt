@@ -12,9 +12,9 @@ use Rattle.lattice.specs.Lattice.{pairOpp, d3q19}
 use Rattle.lattice.specs.declared.Settings.{Settings}
 use Rattle.grid.specs.Step.{traded, tradedMass}
 use Rattle.grid.specs.inner.Sight.{sight, Around}
-use Rattle.flow.specs.inner.Trade.{Trading, passed}
-use Rattle.flow.proofs.Trades.{amassed, amassed-within, gain, gain-is, odd-opp, even-opp}
-use Rattle.flow.proofs.Trades as trades
+use Rattle.arrivals.specs.inner.Trade.{Trading, passed}
+use Rattle.arrivals.proofs.Trades.{amassed, amassed-within, gain, gain-is, odd-opp, even-opp}
+use Rattle.arrivals.proofs.Trades as trades
 use Rattle.flume.specs.inner.Spread.{wide, spreadLattice}
 use Rattle.flume.proofs.Places.{dirs-same, wide-dir}
 use Rattle.flume.proofs.Flowing.{traded-none}

@@ -22,8 +22,8 @@ use Rattle.lattice.specs.Body.{relaxedDir, collidedPart}
 use Rattle.lattice.specs.declared.Settings.{Settings}
 use Rattle.grid.specs.Step.{streamed}
 use Rattle.grid.specs.inner.Sight.{sight}
-use Rattle.flow.specs.inner.Sources.{Mirrored}
-use Rattle.flow.proofs.Spans.{Light}
+use Rattle.arrivals.specs.inner.Sources.{Mirrored}
+use Rattle.arrivals.proofs.Spans.{Light}
 use Rattle.flume.specs.inner.Spread.{wide, narrow, idle, spread, spreadLattice, Idle}
 use Rattle.flume.proofs.Places.{by-eight, by-nine, spread-at, spread-none, is-spread}
 use Rattle.flume.proofs.Flowing.{streamed-none}

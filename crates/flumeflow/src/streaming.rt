@@ -1,5 +1,5 @@
 // Stage 1: the parts that stream into a cell. By the eight directions: nothing is looked at, and nothing arrives, at an idle place.
-use flow::streaming::leaning;
+use arrivals::streaming::leaning;
 use lattice::Flow;
 use lattice::directions::dots;
 use lattice::directions::flow_of;
@@ -20,8 +20,8 @@ ghost use Rattle.lattice.specs.declared.Settings.{Settings};
 ghost use Rattle.grid.specs.State.{liquid};
 ghost use Rattle.grid.specs.Step.{leansTo, arrives, streamed};
 ghost use Rattle.grid.specs.inner.Sight.{Around};
-ghost use Rattle.flow.specs.inner.Sources.{Mirrored, Immersed};
-ghost use Rattle.flow.specs.inner.Trade.{Fills};
+ghost use Rattle.arrivals.specs.inner.Sources.{Mirrored, Immersed};
+ghost use Rattle.arrivals.specs.inner.Trade.{Fills};
 ghost use Rattle.flume.specs.inner.Spread.{wide, spread};
 ghost use Rattle.flumeflow.specs.inner.Seen.{sight9, Bodied9, sourceOf9, Beside9};
 

@@ -1,6 +1,6 @@
 // Stage 2: what an interface cell gains from its neighbours.
-use flow::trading::both;
-use flow::trading::difference;
+use arrivals::trading::both;
+use arrivals::trading::difference;
 use nine::cells::place;
 use surface::exchange::exchange;
 use whole::wide;
@@ -11,7 +11,7 @@ ghost use Rattle.lattice.specs.declared.Settings.{Settings};
 ghost use Rattle.grid.specs.State.{byFlag};
 ghost use Rattle.grid.specs.inner.Sight.{Around};
 ghost use Rattle.grid.specs.Step.{tradedMass};
-ghost use Rattle.flow.specs.inner.Trade.{Fills, passed};
+ghost use Rattle.arrivals.specs.inner.Trade.{Fills, passed};
 ghost use Rattle.flume.specs.inner.Spread.{wide};
 ghost use Rattle.nine.specs.inner.Cells.{partOf9};
 ghost use Rattle.flumeflow.specs.inner.Seen.{sight9, Bodied9, Traders9};

@@ -18,7 +18,7 @@ use Rattle.grid.specs.inner.Passes.{Amid}
 use Rattle.grid.specs.inner.Sight.{Around}
 use Rattle.grid.proofs.Laid.{inner}
 use Rattle.grid.proofs.Prepared.{cell-body, cell-mass, cell-fill}
-use Rattle.flow.specs.inner.Sources.{Mirrored, Immersed}
+use Rattle.arrivals.specs.inner.Sources.{Mirrored, Immersed}
 use Rattle.flow.proofs.Poise.{fill-cases}
 use Rattle.flume.specs.declared.FlumeSides.{FlumeSides}
 use Rattle.flume.specs.declared.FlumeSettings.{FlumeSettings}

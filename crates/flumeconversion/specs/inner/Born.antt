@@ -13,7 +13,7 @@ use Rattle.lattice.specs.Body.{bodyGood}
 use Rattle.lattice.specs.declared.Settings.{Settings}
 use Rattle.grid.specs.State.{Scene}
 use Rattle.grid.specs.Step.{liquidNear, born}
-use Rattle.flow.specs.inner.Trade.{Fills}
+use Rattle.arrivals.specs.inner.Trade.{Fills}
 use Rattle.conversion.specs.inner.Born.{TestedOn, newlyBorn, laterPart, laterFair}
 use Rattle.flume.specs.inner.Spread.{spreadLattice}
 use Rattle.nine.specs.inner.Cells.{partOf9, pasted9}

@@ -11,8 +11,8 @@ use Rattle.lattice.specs.declared.Flow.{Flow}
 use Rattle.lattice.specs.declared.Settings.{Settings}
 use Rattle.grid.specs.State.{Scene, liquid}
 use Rattle.grid.specs.inner.Sight.{sight, Bodies}
-use Rattle.flow.specs.inner.Sources.{Flows}
-use Rattle.flow.specs.inner.Trade.{Fills, Masses, Trading}
+use Rattle.arrivals.specs.inner.Sources.{Flows}
+use Rattle.arrivals.specs.inner.Trade.{Fills, Masses, Trading}
 use Rattle.flume.specs.inner.Spread.{wide, spreadLattice}
 use Rattle.nine.specs.inner.Cells.{partOf9}
 

@@ -19,9 +19,9 @@ use Rattle.lattice.specs.inner.Held.{vec}
 use Rattle.lattice.proofs.Reading.{inside}
 use Rattle.grid.specs.inner.Sight.{Body}
 use Rattle.grid.proofs.Lists.{getD-there}
-use Rattle.flow.proofs.Arrivals.{arrives-wall, arrives-rebuilt, arrives-liquid}
-use Rattle.flow.proofs.Leans.{above-zero}
-use Rattle.flow.proofs.Spans.{gas-body, along-body, tame-body}
+use Rattle.arrivals.proofs.Arrivals.{arrives-wall, arrives-rebuilt, arrives-liquid}
+use Rattle.arrivals.proofs.Leans.{above-zero}
+use Rattle.arrivals.proofs.Spans.{gas-body, along-body, tame-body}
 use Rattle.flume.specs.inner.Spread.{spreadLattice}
 use Rattle.nine.specs.inner.Cells.{partOf9}
 use Rattle.nine.proofs.Weighed.{weight-in}

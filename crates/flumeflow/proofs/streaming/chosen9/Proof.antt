@@ -7,7 +7,7 @@ use lib.IntN.{pos}
 use lib.ListN.{getD}
 use Rattle.whole.specs.laws.Tab.{getD-tab}
 use Rattle.lattice.specs.Lattice.{pairOpp}
-use Rattle.flow.proofs.Arrivals.{streamed-straight, opposite-low}
+use Rattle.arrivals.proofs.Arrivals.{streamed-straight, opposite-low}
 use Rattle.flume.specs.inner.Spread.{wide, spreadLattice}
 use Rattle.nine.specs.inner.Cells.{partOf9}
 use Rattle.flumeflow.specs.inner.Seen.{sourceOf9}

@@ -8,9 +8,9 @@ use mir.Syntax.{w64}
 use mir.Val.{toZ, ofZ}
 use Rattle.whole.specs.laws.Parts.{parts-≤}
 use Rattle.lattice.specs.Cell.{exchange}
-use Rattle.flow.specs.inner.Trade.{apart}
-use Rattle.flow.proofs.Held.{held32, held64, apart-in}
-use Rattle.flow.proofs.Trades.{passed-fluid, passed-interface, passed-neither}
+use Rattle.arrivals.specs.inner.Trade.{apart}
+use Rattle.arrivals.proofs.Held.{held32, held64, apart-in}
+use Rattle.arrivals.proofs.Trades.{passed-fluid, passed-interface, passed-neither}
 use Rattle.flume.specs.inner.Spread.{wide}
 use Rattle.nine.specs.inner.Cells.{partOf9}
 use Rattle.flumeflow.proofs.Nines.{part-at}

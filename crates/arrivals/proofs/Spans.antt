@@ -29,7 +29,7 @@ use Rattle.grid.specs.State.{Scene, liquid}
 use Rattle.grid.specs.Step.{leansTo, arrives, streamed}
 use Rattle.grid.specs.inner.Sight.{Body, Bodies, Around, sight}
 use Rattle.grid.proofs.Same.{density-same, momentum-same}
-use Rattle.flow.proofs.Arrivals.{arrives-wall, arrives-rebuilt, arrives-liquid, opposite-some, opposite-most}
+use Rattle.arrivals.proofs.Arrivals.{arrives-wall, arrives-rebuilt, arrives-liquid, opposite-some, opposite-most}
 
 -- ---- the table: a direction's components, one computed test each
 

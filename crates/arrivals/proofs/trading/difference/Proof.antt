@@ -1,9 +1,9 @@
--- `flow::trading::difference`: a difference of two numbers of 32 bits fits 64. Assumes nothing.
+-- `arrivals::trading::difference`: a difference of two numbers of 32 bits fits 64. Assumes nothing.
 use borrow.Author.Needs.{needs}
 use mir.Syntax.{w32}
 use Rattle.whole.specs.laws.Machine.{machine, any, same, does-fit, reads-as}
-use Rattle.flow.proofs.trading.difference.Statement.{statement}
-use Rattle.flow.proofs.trading.difference.Tie as tie
+use Rattle.arrivals.proofs.trading.difference.Statement.{statement}
+use Rattle.arrivals.proofs.trading.difference.Tie as tie
 
 wide-requires : tie.Need-wide-requires
 wide-requires c κs = search needs

@@ -1,4 +1,4 @@
--- `flow::streaming::leaning` is n·e of an interface cell's directions, and 0 of a fluid one's. Assumes nothing.
+-- `arrivals::streaming::leaning` is n·e of an interface cell's directions, and 0 of a fluid one's. Assumes nothing.
 use mathlib.Core.Path.{_≡_, sym, ap, _∙_}
 use Prim.Native.Nat.{_+_, _-_, _<_}
 use lib.IntN.{pos}
@@ -8,9 +8,9 @@ use Rattle.whole.specs.laws.Tab.{tab-cong}
 use Rattle.lattice.specs.Lattice.{dot, d3q19}
 use Rattle.grid.specs.inner.Passes.{Sloping}
 use Rattle.grid.proofs.Lists.{getD-there}
-use Rattle.flow.proofs.Leans.{normal-low, even-lean, any-lean}
-use Rattle.flow.proofs.streaming.leaning.Statement.{statement}
-use Rattle.flow.proofs.streaming.leaning.Tie as tie
+use Rattle.arrivals.proofs.Leans.{normal-low, even-lean, any-lean}
+use Rattle.arrivals.proofs.streaming.leaning.Statement.{statement}
+use Rattle.arrivals.proofs.streaming.leaning.Tie as tie
 
 -- the flag that was read, whatever stands for a missing one
 flag : (s : tie.Start) → getD (s .args .flags .now) (s .args .c) 0 ≡ getD (s .args .flags .now) (s .args .c) 3

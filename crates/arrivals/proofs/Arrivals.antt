@@ -14,8 +14,8 @@ use Rattle.lattice.specs.declared.Settings.{Settings}
 use Rattle.grid.specs.State.{Scene, byFlag, liquid}
 use Rattle.grid.specs.Step.{oldDensity, oldMomentum, leansTo, rebuilds, rebuiltPart, arrives, streamed}
 use Rattle.grid.specs.inner.Sight.{sight, Around}
-use Rattle.flow.specs.inner.Sources.{Mirrored, sourceOf, Immersed}
-use Rattle.flow.proofs.Trades.{odd-opp, even-opp}
+use Rattle.arrivals.specs.inner.Sources.{Mirrored, sourceOf, Immersed}
+use Rattle.arrivals.proofs.Trades.{odd-opp, even-opp}
 
 -- ---- opposite directions: an odd one and the one after it
 

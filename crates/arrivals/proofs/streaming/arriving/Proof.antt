@@ -1,4 +1,4 @@
--- `flow::streaming::arriving` is what arrives from one direction, by the neighbour's flag. What is rebuilt fits, since gas and own part are bounded. Assumes nothing.
+-- `arrivals::streaming::arriving` is what arrives from one direction, by the neighbour's flag. What is rebuilt fits, since gas and own part are bounded. Assumes nothing.
 use mathlib.Core.Path.{_≡_, sym, ap, ap₂, _∙_, subst}
 use mathlib.Core.Bool.{Bool, _||_}
 use Prim.Native.Nat.{ℕ, _+_, _*_, _≤_, _<_}
@@ -20,11 +20,11 @@ use Rattle.lattice.proofs.Reading.{inside}
 use Rattle.grid.specs.State.{partOf}
 use Rattle.grid.specs.inner.Sight.{Body}
 use Rattle.grid.proofs.Lists.{getD-there}
-use Rattle.flow.proofs.Arrivals.{arrives-wall, arrives-rebuilt, arrives-liquid}
-use Rattle.flow.proofs.Leans.{above-zero}
-use Rattle.flow.proofs.Spans.{light19, gas-body, along-body, tame-body, weight-low}
-use Rattle.flow.proofs.streaming.arriving.Statement.{statement}
-use Rattle.flow.proofs.streaming.arriving.Tie as tie
+use Rattle.arrivals.proofs.Arrivals.{arrives-wall, arrives-rebuilt, arrives-liquid}
+use Rattle.arrivals.proofs.Leans.{above-zero}
+use Rattle.arrivals.proofs.Spans.{light19, gas-body, along-body, tame-body, weight-low}
+use Rattle.arrivals.proofs.streaming.arriving.Statement.{statement}
+use Rattle.arrivals.proofs.streaming.arriving.Tie as tie
 
 -- the flag that was read, whatever stands for a missing one
 flag : (s : tie.Start) → getD (s .args .flags .now) (s .args .b) 0 ≡ getD (s .args .flags .now) (s .args .b) 3

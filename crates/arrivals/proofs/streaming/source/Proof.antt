@@ -1,4 +1,4 @@
--- `flow::streaming::source`: the one place or the other, by the neighbour's flag. Assumes nothing.
+-- `arrivals::streaming::source`: the one place or the other, by the neighbour's flag. Assumes nothing.
 use borrow.Author.Needs.{needs}
 use borrow.Author.Tests.{lt-ltb, le-ltb}
 use mathlib.Core.Path.{_≡_, sym, subst}
@@ -6,9 +6,9 @@ use Prim.Native.Nat.{ℕ, _≤_, _<_}
 use lib.ListN.{getD}
 use Rattle.whole.specs.laws.Bools.{cond-yes, cond-no}
 use Rattle.grid.proofs.Lists.{getD-there}
-use Rattle.flow.specs.inner.Sources.{arrivalAt}
-use Rattle.flow.proofs.streaming.source.Statement.{statement}
-use Rattle.flow.proofs.streaming.source.Tie as tie
+use Rattle.arrivals.specs.inner.Sources.{arrivalAt}
+use Rattle.arrivals.proofs.streaming.source.Statement.{statement}
+use Rattle.arrivals.proofs.streaming.source.Tie as tie
 
 -- the flag that was read, whatever stands for a missing one
 flag : (s : tie.Start) → getD (s .args .flags .now) (s .args .b) 0 ≡ getD (s .args .flags .now) (s .args .b) 3

@@ -21,7 +21,7 @@ use Rattle.grid.specs.State.{byFlag, liquid}
 use Rattle.grid.specs.Step.{traded, tradedMass, difference}
 use Rattle.grid.specs.inner.Sight.{Bodies, Around, sight}
 use Rattle.grid.proofs.Lists.{getD-there}
-use Rattle.flow.specs.inner.Trade.{Fills, Trading, apart, passed}
+use Rattle.arrivals.specs.inner.Trade.{Fills, Trading, apart, passed}
 
 -- neither fluid nor interface
 module _ {ℓ} {A : Type ℓ} where

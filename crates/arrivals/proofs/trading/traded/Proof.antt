@@ -1,4 +1,4 @@
--- `flow::trading::traded`: the difference of the two parts, by the neighbour's flag. Assumes nothing.
+-- `arrivals::trading::traded`: the difference of the two parts, by the neighbour's flag. Assumes nothing.
 use borrow.Author.Needs.{needs}
 use mathlib.Core.Path.{_≡_, _∙_, ap, ap₂}
 use Prim.Native.Nat.{_+_, _*_}
@@ -10,11 +10,11 @@ use mir.Val.{toZ, ofZ}
 use Rattle.whole.specs.laws.Parts.{parts-≤}
 use Rattle.lattice.specs.Cell.{exchange}
 use Rattle.grid.specs.State.{partOf}
-use Rattle.flow.specs.inner.Trade.{apart}
-use Rattle.flow.proofs.Held.{held32, held64, apart-in}
-use Rattle.flow.proofs.Trades.{passed-fluid, passed-interface, passed-neither}
-use Rattle.flow.proofs.trading.traded.Statement.{statement}
-use Rattle.flow.proofs.trading.traded.Tie as tie
+use Rattle.arrivals.specs.inner.Trade.{apart}
+use Rattle.arrivals.proofs.Held.{held32, held64, apart-in}
+use Rattle.arrivals.proofs.Trades.{passed-fluid, passed-interface, passed-neither}
+use Rattle.arrivals.proofs.trading.traded.Statement.{statement}
+use Rattle.arrivals.proofs.trading.traded.Tie as tie
 
 shared-slice-read-f : tie.Need-shared-slice-read-f
 shared-slice-read-f c = search needs

@@ -23,7 +23,7 @@ use Rattle.grid.specs.Step.{seen, normal, leansTo}
 use Rattle.grid.specs.inner.Passes.{seenAt, seenBeside, normalAt, Sloping}
 use Rattle.grid.specs.inner.Sight.{sight}
 use Rattle.grid.proofs.Slopes.{seen-in, vector, dot-turn}
-use Rattle.flow.specs.inner.Sources.{leanAt}
+use Rattle.arrivals.specs.inner.Sources.{leanAt}
 
 -- the code's test
 pub above-zero : (x : ℤ) → ltZ (pos 0) x ≡ isPositive x

@@ -1,11 +1,11 @@
--- `flow::trading::both`: two numbers of 32 bits and their sum fit 64. Assumes nothing.
+-- `arrivals::trading::both`: two numbers of 32 bits and their sum fit 64. Assumes nothing.
 use borrow.Author.Needs.{needs}
 use Prim.Native.Nat.{_≤_}
 use native.Mathlib.Omega.{arith}
 use Rattle.whole.specs.laws.Machine.{machine, does-fit, reads-as}
 use Rattle.whole.specs.laws.Casts.{n64}
-use Rattle.flow.proofs.trading.both.Statement.{statement}
-use Rattle.flow.proofs.trading.both.Tie as tie
+use Rattle.arrivals.proofs.trading.both.Statement.{statement}
+use Rattle.arrivals.proofs.trading.both.Tie as tie
 
 cast-result : tie.Need-cast-result
 cast-result c = search needs
