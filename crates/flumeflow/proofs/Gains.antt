@@ -19,8 +19,8 @@ use Rattle.flume.specs.inner.Spread.{wide, spreadLattice}
 use Rattle.flume.proofs.Places.{dirs-same, wide-dir}
 use Rattle.flume.proofs.Flowing.{traded-none}
 use Rattle.nine.specs.inner.Cells.{partOf9}
-use Rattle.flumeflow.specs.inner.Seen.{sight9}
-use Rattle.flumeflow.proofs.Nines.{Paired, part-none}
+use Rattle.flumearrivals.specs.inner.Seen.{sight9}
+use Rattle.flumearrivals.proofs.Nines.{Paired, part-none}
 
 module _ (flags : List ℕ) (parts masses : List ℤ) (fills off : List ℕ) (low c : ℕ) where
   -- what c gains from direction k, and its mass with what it gains from the first n

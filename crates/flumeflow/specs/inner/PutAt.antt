@@ -19,7 +19,7 @@ use Rattle.flow.specs.inner.PutAt.{Told}
 use Rattle.arrivals.specs.inner.Sources.{Mirrored, Immersed}
 use Rattle.arrivals.specs.inner.Trade.{Fills}
 use Rattle.nine.specs.inner.Cells.{pasted9}
-use Rattle.flumeflow.specs.inner.Seen.{Bodied9, sourceOf9}
+use Rattle.flumearrivals.specs.inner.Seen.{Bodied9, sourceOf9}
 
 -- a flow with its density put in its place
 abbrev pub atDensity : Flow → ℤ → Flow

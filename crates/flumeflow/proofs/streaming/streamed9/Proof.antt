@@ -24,8 +24,8 @@ use Rattle.arrivals.proofs.Spans.{bounded-own, density-own, momentum-own, tame-
 use Rattle.flume.specs.inner.Spread.{wide, spreadLattice}
 use Rattle.nine.specs.inner.Cells.{partOf9}
 use Rattle.nine.proofs.Places.{Filled, filled-zero, filled-more, filled-all}
-use Rattle.flumeflow.specs.inner.Seen.{sight9}
-use Rattle.flumeflow.proofs.Nines.{Paired, paired, part-at, streamed-spread, filled-pair}
+use Rattle.flumearrivals.specs.inner.Seen.{sight9}
+use Rattle.flumearrivals.proofs.Nines.{Paired, paired, part-at, streamed-spread, filled-pair}
 use borrow.Author.Needs.{sfits-of, needs}
 use Rattle.lattice.specs.declared.Settings.{Settings}
 use Rattle.flumeflow.proofs.streaming.streamed9.Statement.{statement}

@@ -12,8 +12,8 @@ use Rattle.arrivals.proofs.Held.{held32, held64}
 use Rattle.arrivals.proofs.Trades.{amassed-none, amassed-pair}
 use Rattle.flume.specs.inner.Spread.{wide}
 use Rattle.nine.specs.inner.Cells.{partOf9}
-use Rattle.flumeflow.specs.inner.Seen.{trading9}
-use Rattle.flumeflow.proofs.Nines.{Paired, paired}
+use Rattle.flumearrivals.specs.inner.Seen.{trading9}
+use Rattle.flumearrivals.proofs.Nines.{Paired, paired}
 use Rattle.flumeflow.proofs.Gains.{gain9, gained9, first-is, second-is, gain-within, gained-within, gained-all}
 use borrow.Author.Needs.{needs}
 use Rattle.flumeflow.proofs.trading.traded_mass9.Statement.{statement}

@@ -1,4 +1,4 @@
--- `flumeflow::streaming::arriving9` is what arrives from one direction, by the neighbour's flag. What is rebuilt fits, since gas and own part are bounded.
+-- `flumearrivals::streaming::arriving9` is what arrives from one direction, by the neighbour's flag. What is rebuilt fits, since gas and own part are bounded.
 -- Assumes nothing.
 use mathlib.Core.Path.{_≡_, sym, ap, ap₂, _∙_, subst}
 use mathlib.Core.Bool.{Bool, _||_}
@@ -25,10 +25,10 @@ use Rattle.arrivals.proofs.Spans.{gas-body, along-body, tame-body}
 use Rattle.flume.specs.inner.Spread.{spreadLattice}
 use Rattle.nine.specs.inner.Cells.{partOf9}
 use Rattle.nine.proofs.Weighed.{weight-in}
-use Rattle.flumeflow.proofs.Nines.{light9, part-at}
+use Rattle.flumearrivals.proofs.Nines.{light9, part-at}
 use borrow.Author.Needs.{sfits-of, needs}
-use Rattle.flumeflow.proofs.streaming.arriving9.Statement.{statement}
-use Rattle.flumeflow.proofs.streaming.arriving9.Tie as tie
+use Rattle.flumearrivals.proofs.streaming.arriving9.Statement.{statement}
+use Rattle.flumearrivals.proofs.streaming.arriving9.Tie as tie
 
 -- the flag that was read, whatever stands for a missing one
 flag : (s : tie.Start) → getD (s .args .flags .now) (s .args .b) 0 ≡ getD (s .args .flags .now) (s .args .b) 3

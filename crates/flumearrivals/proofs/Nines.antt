@@ -29,7 +29,7 @@ use Rattle.flume.proofs.Places.{by-eight, by-nine, spread-at, spread-none, is-s
 use Rattle.flume.proofs.Flowing.{streamed-none}
 use Rattle.nine.specs.inner.Cells.{partOf9, Quiet}
 use Rattle.nine.proofs.Places.{Filled, filled-more}
-use Rattle.flumeflow.specs.inner.Seen.{sight9, sourceOf9}
+use Rattle.flumearrivals.specs.inner.Seen.{sight9, sourceOf9}
 
 -- ---- where a part lies
 pub part-at : (parts : List ℤ) (c k : ℕ) → k < 9 → partOf9 parts c (wide k) ≡ getD parts (9 * c + k) (pos 0)

@@ -1,4 +1,4 @@
--- `flumeflow::trading::traded9`: the difference of the two parts, by the neighbour's flag. Assumes nothing.
+-- `flumearrivals::trading::traded9`: the difference of the two parts, by the neighbour's flag. Assumes nothing.
 use mathlib.Core.Path.{_≡_, _∙_, sym, ap, ap₂}
 use Prim.Native.Nat.{_+_, _*_}
 use native.Mathlib.Omega.{arith}
@@ -13,10 +13,10 @@ use Rattle.arrivals.proofs.Held.{held32, held64, apart-in}
 use Rattle.arrivals.proofs.Trades.{passed-fluid, passed-interface, passed-neither}
 use Rattle.flume.specs.inner.Spread.{wide}
 use Rattle.nine.specs.inner.Cells.{partOf9}
-use Rattle.flumeflow.proofs.Nines.{part-at}
+use Rattle.flumearrivals.proofs.Nines.{part-at}
 use borrow.Author.Needs.{needs}
-use Rattle.flumeflow.proofs.trading.traded9.Statement.{statement}
-use Rattle.flumeflow.proofs.trading.traded9.Tie as tie
+use Rattle.flumearrivals.proofs.trading.traded9.Statement.{statement}
+use Rattle.flumearrivals.proofs.trading.traded9.Tie as tie
 
 shared-slice-read-f : tie.Need-shared-slice-read-f
 shared-slice-read-f c = search needs
