@@ -23,7 +23,7 @@ ghost use Rattle.grid.specs.State.{liquid};
 ghost use Rattle.grid.specs.Step.{liquidNear};
 ghost use Rattle.grid.specs.inner.Sight.{Around};
 ghost use Rattle.conversion.specs.inner.Born.{Roomy, NewFlow, Added, Begins, newlyBorn};
-ghost use Rattle.flumeflow.specs.inner.Seen.{sight9};
+ghost use Rattle.flumearrivals.specs.inner.Seen.{sight9};
 ghost use Rattle.flumeconversion.specs.inner.Born.{Tested9, Fertile9, Placed9, Visited9, Peopled9};
 
 // The flow of liquid cell b after stage 3.

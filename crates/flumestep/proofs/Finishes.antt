@@ -47,7 +47,7 @@ use Rattle.flumegrid.specs.inner.Ready.{FlumeSized, FlumeReady, FlumeEntered, F
 use Rattle.flumegrid.proofs.Checks.{sized}
 use Rattle.flumegrid.proofs.Poise.{poised}
 use Rattle.flumepasses.specs.inner.Flowed.{wideScene, FlumeFlowable, FlumeWent, stopped, through, FlumeFlowed}
-use Rattle.flumeflow.proofs.Nines.{part-at, place-low}
+use Rattle.flumearrivals.proofs.Nines.{part-at, place-low}
 use Rattle.flumefills.specs.inner.Filled.{Fillable9}
 use Rattle.flumeconversion.specs.inner.Turned.{FlumeTurning, FlumeTurned}
 use Rattle.flumeconversion.proofs.Flumes.{flumeField, flume-scene, flume-sound}

@@ -8,8 +8,8 @@ use lib.ListN.{length, getD}
 use Rattle.whole.specs.laws.Tab.{getD-tab, tab-cong}
 use Rattle.lattice.specs.Lattice.{d3q19}
 use Rattle.grid.specs.State.{partOf}
-use Rattle.flow.specs.inner.Sources.{sourceOf}
-use Rattle.flow.proofs.Arrivals.{source-low, at-source, streamed-straight}
+use Rattle.arrivals.specs.inner.Sources.{sourceOf}
+use Rattle.arrivals.proofs.Arrivals.{source-low, at-source, streamed-straight}
 use borrow.Author.Needs.{needs}
 use Rattle.flow.proofs.streaming.chosen.Statement.{statement}
 use Rattle.flow.proofs.streaming.chosen.Tie as tie
