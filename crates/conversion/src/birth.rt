@@ -7,7 +7,7 @@ use grid::cells::paste;
 use grid::kinds::is_liquid;
 use grid::neighbours::low_of;
 use grid::neighbours::offsets;
-use grid::seeking::next_of;
+use walks::seeking::next_of;
 use lattice::Flow;
 use lattice::Settings;
 use lattice::directions::flow_of;

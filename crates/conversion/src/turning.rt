@@ -6,7 +6,7 @@ use crate::settling;
 use excess::giving;
 use excess::straying;
 use grid::Sides;
-use grid::copying;
+use walks::copying;
 use lattice::Settings;
 use lattice::limits::fair_carry;
 ghost use mathlib.Core.Path.{_≡_};

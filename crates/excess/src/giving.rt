@@ -4,7 +4,7 @@ use grid::Sides;
 use grid::cells::own;
 use grid::neighbours::low_of;
 use grid::neighbours::offsets;
-use grid::seeking::next_of;
+use walks::seeking::next_of;
 use lattice::directions::opposite;
 use lattice::moments::density;
 use surface::excess::given;

@@ -4,7 +4,7 @@ use crate::leaning::evens;
 use grid::Sides;
 use grid::neighbours::low_of;
 use grid::neighbours::offsets;
-use grid::seeking::next_marked;
+use walks::seeking::next_marked;
 use surface::excess::total;
 ghost use mathlib.Core.Path.{_≡_};
 ghost use Prim.Native.Nat.{_<_};

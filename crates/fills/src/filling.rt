@@ -1,6 +1,6 @@
 // Stage 7: the fills, worked out afresh, and whether interface masses are still in their range.
 use grid::fill::interface_fill;
-use grid::seeking::next_of;
+use walks::seeking::next_of;
 use lattice::limits::fair_mass;
 use whole::wide;
 ghost use mathlib.Core.Path.{_≡_};

@@ -7,7 +7,7 @@ use conversion::birth::joined;
 use conversion::birth::mean;
 use flumeflow::streaming::streamed9;
 use grid::kinds::is_liquid;
-use grid::seeking::next_of;
+use walks::seeking::next_of;
 use lattice::Flow;
 use lattice::Settings;
 use lattice::directions::flow_of;

@@ -1,5 +1,5 @@
 // Pass 7 in the flume: filled and emptied cells come to their own, and the marks go.
-use grid::seeking::next_marked;
+use walks::seeking::next_marked;
 use lattice::moments::density;
 use nine::cells::own9;
 use nine::cells::paste9;

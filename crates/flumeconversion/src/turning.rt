@@ -7,7 +7,7 @@ use flumeexcess::giving;
 use flumeexcess::straying;
 use flumegrid::neighbours;
 use flumemarks::marks;
-use grid::copying;
+use walks::copying;
 use lattice::Settings;
 use lattice::limits::fair_carry;
 ghost use mathlib.Core.Path.{_≡_};

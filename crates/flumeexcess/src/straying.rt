@@ -1,7 +1,7 @@
 // Stage 6 in the flume: the excess of converted cells with no target joins the carry.
 use crate::giving::excess9;
 use excess::leaning::evens;
-use grid::seeking::next_marked;
+use walks::seeking::next_marked;
 use surface::excess::total;
 ghost use mathlib.Core.Path.{_≡_};
 ghost use Prim.Native.Nat.{_<_};

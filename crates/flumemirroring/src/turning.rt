@@ -4,7 +4,7 @@ use crate::reflection;
 use flume::FlumeSides;
 use grid::Answer;
 use grid::Sides;
-use grid::copying;
+use walks::copying;
 use mirroring::turning;
 ghost use Rattle.grid.specs.State.{lent};
 ghost use Rattle.flumemirroring.specs.Promise.{FlumeMirrored};

@@ -4,7 +4,7 @@ use flume::FlumeSides;
 use flumegrid::entry;
 use flumestep::stepping;
 use grid::Answer;
-use grid::copying;
+use walks::copying;
 use run::running;
 use run::running::Ran;
 ghost use mathlib.Core.Path.{_≡_};

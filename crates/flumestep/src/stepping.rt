@@ -8,7 +8,7 @@ use flumegrid::checking;
 use flumegrid::entry;
 use flumepasses::passing;
 use grid::Answer;
-use grid::copying;
+use walks::copying;
 use passes::passing::Passed;
 use step::sets;
 ghost use mathlib.Core.Path.{_≡_};

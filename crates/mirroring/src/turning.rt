@@ -3,7 +3,7 @@ use crate::entry;
 use crate::reflection;
 use grid::Answer;
 use grid::Sides;
-use grid::copying;
+use walks::copying;
 use index::keeping;
 ghost use mathlib.Core.Path.{_≡_};
 ghost use mathlib.Core.List.{[]};

@@ -7,7 +7,7 @@ use flow::trading;
 use grid::Sides;
 use grid::kinds;
 use grid::neighbours;
-use grid::seeking;
+use walks::seeking;
 use lattice::Settings;
 ghost use Prim.Native.Nat.{_≤_};
 ghost use lib.IntN.{pos};

@@ -1,7 +1,7 @@
 // The run: step after step between the two lent sets, first to second and back, until one is refused or all are made.
 use grid::Answer;
 use grid::Sides;
-use grid::copying;
+use walks::copying;
 use lattice::Settings;
 use step::entry;
 use step::sets;

@@ -6,7 +6,7 @@ use conversion::turning;
 use fills::filling;
 use grid::Answer;
 use grid::Sides;
-use grid::copying;
+use walks::copying;
 use lattice::Settings;
 use passes::marks;
 use passes::passing;
