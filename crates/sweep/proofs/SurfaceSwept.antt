@@ -8,11 +8,11 @@ use Rattle.grid.specs.declared.Sides.{Sides}
 use Rattle.grid.specs.declared.Answer.the-variants.{Done}
 use Rattle.grid.specs.Grid.{cellsOf}
 use Rattle.grid.specs.State.{Lent}
 use Rattle.index.specs.Index.{Index, interface, isSet}
 use Rattle.index.specs.Outcome.{loadAnswer}
-use Rattle.index.specs.Sweep.{Sweep, SurfaceSwept}
+use Rattle.sweep.specs.Sweep.{Sweep, SurfaceSwept}
 use Rattle.index.proofs.Loaded.{same, number}
-use Rattle.index.proofs.Sweeps.{swept, within, list-cong}
+use Rattle.sweep.proofs.Sweeps.{swept, within, list-cong}
 
 pub surface-swept : (s : Sides) (a : Lent) (x : Index) → loadAnswer s a x ≡ Done → {start : ℕ} {cells : List ℕ} {read : ℕ} → Sweep s (x .words) start cells read → SurfaceSwept s a start cells read
 surface-swept s a x loaded {start} {cells} {read} w =

@@ -1,8 +1,8 @@
 // Document 01's number and place of what the two questions answer, 0 0 if accepted, and its values, 0 beside a refusal.
-use crate::Counted;
-use crate::Next;
+use index::Counted;
+use index::Next;
 ghost use mathlib.Core.Path.{_≡_};
 ghost use Rattle.index.specs.Outcome.{countNumber, countPlace, countCells, nextNumber, nextPlace, nextKind, nextCell, nextWords};
 
 pub fn count_number(a: Counted) -> u8
     ensures { λ r. ⌜ r ≡ countNumber a ⌝ }
