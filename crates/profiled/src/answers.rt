@@ -1,7 +1,7 @@
 // What the profile answers, in document 01's numbers: the refusal's number and place, 0 0 if accepted, and the values, 0 beside a refusal.
-use crate::Profiled;
+use profile::Profiled;
 ghost use mathlib.Core.Path.{_≡_};
 ghost use Rattle.profile.specs.Outcome.{profiledNumber, profiledPlace, wetOf, deepestOf};
 
 pub fn number(a: Profiled) -> u8
     ensures { λ r. ⌜ r ≡ profiledNumber a ⌝ }

@@ -1,17 +1,17 @@
--- `profile::writing::written`: the lines below i are written, and the best so far is the deepest of them. Assumes nothing.
+-- `profiled::writing::written`: the lines below i are written, and the best so far is the deepest of them. Assumes nothing.
 use borrow.Author.Needs.{needs}
 use mathlib.Core.Path.{_≡_, sym, _∙_, subst}
 use Prim.Native.Nat.{ℕ, _+_, _-_, _≤_}
 use native.Mathlib.Omega.{arith}
 use lib.Ieee.{Float}
 use Rattle.tunnel.specs.inner.Parts.{Parts}
-use Rattle.profile.specs.declared.writing.Best.{Best}
+use Rattle.profile.specs.declared.Best.{Best}
 use Rattle.profile.specs.Profile.{Survey, survey, depthAt}
 use Rattle.profile.specs.inner.Lines.{IsBest, LinesTo}
 use Rattle.profile.proofs.Deepest.{best-none, best-more, best-is}
 use Rattle.profile.proofs.Written.{value-parts, number-of, lines-none, lines-more, lines-kinds, lines-depths}
-use Rattle.profile.proofs.writing.written.Statement.{statement}
-use Rattle.profile.proofs.writing.written.Tie as tie
+use Rattle.profiled.proofs.writing.written.Statement.{statement}
+use Rattle.profiled.proofs.writing.written.Tie as tie
 
 abbrev Inv-loop : tie.InvT-loop
 Inv-loop f flags fills points kinds₀ depths₀ m best₀ i₀ kinds depths best i =

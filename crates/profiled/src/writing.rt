@@ -1,17 +1,12 @@
 // The lines: each point's kind and depth, and the deepest point on the way.
-use crate::Frame;
 use crate::kinds;
-use crate::points;
+use profile::Best;
+use profile::Frame;
+use profile::points;
 use tunnel::answers;
 use tunnel::exact;
 ghost use mathlib.Core.Path.{_≡_};
 ghost use Rattle.profile.specs.inner.Lines.{bestOf, Ready, Written};
-
-// The deepest point so far, and its depth in 65,536ths; depth 0 while no point is wet.
-pub(crate) struct Best {
-    pub(crate) at: usize,
-    pub(crate) sum: usize,
-}
 
 // A deeper point takes its place; one as deep does not.
 fn better(b: Best, sum: usize, i: usize) -> Best
