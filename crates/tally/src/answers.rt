@@ -1,7 +1,7 @@
 // What the question answers, in document 01's numbers: the refusal's number and place, 0 0 if accepted, and how many pools, 0 beside a refusal.
-use crate::Told;
+use pools::Told;
 ghost use mathlib.Core.Path.{_≡_};
 ghost use Rattle.pools.specs.Outcome.{toldNumber, toldPlace, toldPools};
 
 pub fn number(a: Told) -> u8
     ensures { λ r. ⌜ r ≡ toldNumber a ⌝ }

@@ -1,4 +1,4 @@
--- `pools::asking::entered`: tests 1, 2, 4, 5 and 6 in the outcome's order. Assumes nothing.
+-- `tally::asking::entered`: tests 1, 2, 4, 5 and 6 in the outcome's order. Assumes nothing.
 use borrow.Author.Needs.{needs}
 use borrow.Author.Tests.{not-true, not-false}
 use mathlib.Core.Path.{_≡_, sym, _∙_}
@@ -7,10 +7,10 @@ use native.Mathlib.Omega.{arith}
 use Rattle.grid.specs.Grid.{sidesGood, cellsOf}
 use Rattle.grid.specs.State.{Lent, lent}
 use Rattle.grid.proofs.GoodSides.{good-sides}
 use Rattle.pools.specs.Outcome.{Room, room}
 use Rattle.pools.proofs.Tested.{lengths, lengths-told, refuses-sides, refuses-lengths, then-tested, set-lengths}
-use Rattle.pools.proofs.asking.entered.Statement.{statement}
-use Rattle.pools.proofs.asking.entered.Tie as tie
+use Rattle.tally.proofs.asking.entered.Statement.{statement}
+use Rattle.tally.proofs.asking.entered.Tie as tie
 
 abbrev set : tie.Start → Lent
 set w = lent (w .args .flags .now) (w .args .parts .now) (w .args .masses .now) (w .args .fills .now) (w .args .carry .now)

@@ -1,15 +1,15 @@
 // One pool or three? The question, for every input.
-use crate::Told;
-use crate::flood;
 use crate::listing;
 use grid::Answer;
 use grid::Sides;
 use grid::extent;
+use pools::Told;
+use pools::flood;
 use pumps::entry;
 ghost use mathlib.Core.Path.{_≡_};
 ghost use lib.ListN.{length, replicate};
 ghost use Rattle.grid.specs.State.{lent};
 ghost use Rattle.pools.specs.Outcome.{room, tested, Asked};
 
 // Tests 1, 2, 4, 5 and 6 of what is lent.
 fn entered(

@@ -1,12 +1,12 @@
--- `pools::asking::pools`: the outcome's definition, whatever is lent. Assumes nothing.
+-- `tally::asking::pools`: the outcome's definition, whatever is lent. Assumes nothing.
 use borrow.Author.Needs.{needs}
 use mathlib.Core.Path.{_≡_, sym, _∙_}
 use Rattle.grid.specs.declared.Answer.the-variants.{Done}
 use Rattle.grid.specs.State.{Lent, lent}
 use Rattle.pools.specs.Outcome.{Room, room, tested}
 use Rattle.pools.proofs.Tested.{Passed, refused, has-passed, flagged, too-many, may-list, accepted, cleared, marks-size}
-use Rattle.pools.proofs.asking.pools.Statement.{statement}
-use Rattle.pools.proofs.asking.pools.Tie as tie
+use Rattle.tally.proofs.asking.pools.Statement.{statement}
+use Rattle.tally.proofs.asking.pools.Tie as tie
 
 abbrev set : tie.Start → Lent
 set w = lent (w .args .flags .now) (w .args .parts .now) (w .args .masses .now) (w .args .fills .now) (w .args .carry .now)
