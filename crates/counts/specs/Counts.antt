@@ -6,7 +6,7 @@ use lib.IntN.{ℤ, pos, _+ℤ_}
 use lib.ListN.{length, getD}
 use Rattle.whole.specs.Fold.{count, sum}
 use Rattle.grid.specs.State.{Lent}
-use Rattle.lines.specs.declared.counting.Line.{Line}
+use Rattle.counts.specs.declared.counting.Line.{Line}
 
 -- the cells of a kind
 unfoldable pub cellsWith : ℕ → List ℕ → ℕ

@@ -1,7 +1,7 @@
--- `lines::counting::one` is 1 at a cell of the kind. Assumes nothing.
+-- `counts::counting::one` is 1 at a cell of the kind. Assumes nothing.
 use borrow.Author.Tests.{eq-eqb, ne-eqb}
-use Rattle.lines.proofs.counting.one.Statement.{statement}
-use Rattle.lines.proofs.counting.one.Tie as tie
+use Rattle.counts.proofs.counting.one.Statement.{statement}
+use Rattle.counts.proofs.counting.one.Tie as tie
 
 returns : tie.Need-returns
 returns c = simp (eq-eqb _ _ (c .if1 .taken))

@@ -1,4 +1,4 @@
--- `lines::counting::mass_sum` adds up the masses passed. Assumes nothing.
+-- `counts::counting::mass_sum` adds up the masses passed. Assumes nothing.
 use borrow.Author.Needs.{needs, sfits-of}
 use mathlib.Core.Path.{_≡_, refl, sym, ap, _∙_}
 use Prim.Native.Nat.{_+_, _*_, _-_, _≤_}
@@ -11,10 +11,10 @@ use mir.Facts.{toZ-ofZ}
 use Rattle.whole.specs.laws.Bounds.{abs-add}
 use Rattle.whole.specs.Fold.{sum}
 use Rattle.whole.specs.laws.Machine.{Val, known, does-fit, reads-as, same, v+, v64}
-use Rattle.lines.specs.Counts.{massSum}
-use Rattle.lines.proofs.Addends.{massIn, mass-more, abs-mag}
-use Rattle.lines.proofs.counting.mass_sum.Statement.{statement}
-use Rattle.lines.proofs.counting.mass_sum.Tie as tie
+use Rattle.counts.specs.Counts.{massSum}
+use Rattle.counts.proofs.Addends.{massIn, mass-more, abs-mag}
+use Rattle.counts.proofs.counting.mass_sum.Statement.{statement}
+use Rattle.counts.proofs.counting.mass_sum.Tie as tie
 
 abbrev Inv-loop : tie.InvT-loop
 Inv-loop masses sum₀ c₀ sum c = (c ≤ length masses) × (toZ w64 sum ≡ massIn masses c) × (natAbs (massIn masses c) ≤ c * 2147483648)

@@ -1,14 +1,14 @@
--- `lines::counting::cells_with` counts the flags passed. Assumes nothing.
+-- `counts::counting::cells_with` counts the flags passed. Assumes nothing.
 use borrow.Author.Needs.{needs}
 use mathlib.Core.Path.{_≡_, refl, ap, ap₂, _∙_}
 use Prim.Native.Nat.{ℕ, _+_, _-_, _≤_}
 use native.Mathlib.Omega.{arith}
 use lib.ListN.{length}
 use Rattle.whole.specs.Fold.{count}
-use Rattle.lines.specs.Counts.{cellsWith}
-use Rattle.lines.proofs.Addends.{kindIn, kind-more, kind-most}
-use Rattle.lines.proofs.counting.cells_with.Statement.{statement}
-use Rattle.lines.proofs.counting.cells_with.Tie as tie
+use Rattle.counts.specs.Counts.{cellsWith}
+use Rattle.counts.proofs.Addends.{kindIn, kind-more, kind-most}
+use Rattle.counts.proofs.counting.cells_with.Statement.{statement}
+use Rattle.counts.proofs.counting.cells_with.Tie as tie
 
 abbrev Inv-loop : tie.InvT-loop
 Inv-loop flags wanted found₀ c₀ found c = (c ≤ length flags) × (found ≡ kindIn flags wanted c)

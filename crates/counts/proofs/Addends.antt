@@ -6,8 +6,7 @@ use Prim.Native.Nat.{ℕ, zero, suc, _+_, _*_, _≤_, _<_}
 use native.Mathlib.Omega.{arith}
 use lib.Dec.{eqb}
 use lib.IntN.{ℤ, pos, negsuc, natAbs, _+ℤ_}
-use lib.ListN.{length, getD, take}
-use lib.Seq.{length-take-le}
+use lib.ListN.{getD}
 use lib.Signed.{mag}
 use Rattle.whole.specs.Fold.{count, sum}
 
@@ -42,7 +41,3 @@ mass-more masses n = ap (massIn masses) (next n)
 pub abs-mag : (z : ℤ) (k : ℕ) → mag z < k → natAbs z ≤ k
 abs-mag (pos n) k h = omega arith
 abs-mag (negsuc n) k h = omega arith
-
--- the start of a list is as long as was asked
-pub take-low : {A : Type 0} (n : ℕ) (xs : List A) (k : ℕ) → n ≤ length xs → n ≤ k → length (take n xs) ≤ k
-take-low n xs k h l = omega (arith, length-take-le n xs h)

@@ -1,4 +1,4 @@
--- `lines::counting::total` is the masses and the carry together, where the carry is in its range. Assumes nothing.
+-- `counts::counting::total` is the masses and the carry together, where the carry is in its range. Assumes nothing.
 use borrow.Author.Needs.{needs, sfits-of}
 use borrow.Author.Tests.{leb-true}
 use mathlib.Core.Path.{_≡_, sym, ap, _∙_}
@@ -10,9 +10,9 @@ use mir.Val.{toZ, ofZ}
 use mir.Facts.{toZ-ofZ}
 use Rattle.whole.specs.laws.Machine.{Val, known, does-fit, reads-as, same, v+, v64}
 use Rattle.lattice.specs.Cell.{carryGood}
-use Rattle.lines.specs.inner.Playing.{totalBy}
-use Rattle.lines.proofs.counting.total.Statement.{statement}
-use Rattle.lines.proofs.counting.total.Tie as tie
+use Rattle.counts.specs.inner.Totals.{totalBy}
+use Rattle.counts.proofs.counting.total.Statement.{statement}
+use Rattle.counts.proofs.counting.total.Tie as tie
 
 fair-carry-requires : tie.Need-fair-carry-requires
 fair-carry-requires c κs = search needs

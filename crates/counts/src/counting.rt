@@ -7,8 +7,8 @@ ghost use Prim.Native.Nat.{_≤_};
 ghost use lib.Dec.{eqb};
 ghost use lib.IntN.{natAbs};
 ghost use lib.ListN.{length};
-ghost use Rattle.lines.specs.Counts.{cellsWith, massSum, lineWith};
-ghost use Rattle.lines.specs.inner.Playing.{totalBy};
+ghost use Rattle.counts.specs.Counts.{cellsWith, massSum, lineWith};
+ghost use Rattle.counts.specs.inner.Totals.{totalBy};
 
 // A line's numbers, as document 01 orders them.
 pub struct Line {

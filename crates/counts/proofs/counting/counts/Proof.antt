@@ -1,13 +1,13 @@
--- `lines::counting::counts` is each of its calls. Assumes nothing.
+-- `counts::counting::counts` is each of its calls. Assumes nothing.
 use borrow.Author.Needs.{needs, sfits-of}
 use mathlib.Core.Path.{_≡_, ap, _∙_}
 use lib.IntN.{ℤ}
 use mir.Syntax.{w64}
 use mir.Val.{toZ, ofZ}
 use mir.Facts.{toZ-ofZ}
-use Rattle.lines.specs.inner.Playing.{totalBy}
-use Rattle.lines.proofs.counting.counts.Statement.{statement}
-use Rattle.lines.proofs.counting.counts.Tie as tie
+use Rattle.counts.specs.inner.Totals.{totalBy}
+use Rattle.counts.proofs.counting.counts.Statement.{statement}
+use Rattle.counts.proofs.counting.counts.Tie as tie
 
 cells-with-requires : tie.Need-cells-with-requires
 cells-with-requires c κs = search needs
