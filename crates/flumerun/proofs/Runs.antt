@@ -32,8 +32,9 @@ use Rattle.flume.proofs.Demands.{flume-laid}
 use Rattle.flumegrid.specs.inner.Ready.{FlumeSized, FlumeReady, FlumeEntered, FlumeDried, FlumeResuming}
 use Rattle.flumegrid.proofs.Entrance.{enters}
 use Rattle.flumegrid.proofs.Poise.{poised, dried}
-use Rattle.flumestep.specs.inner.Finished.{FlumeAdvanced}
-use Rattle.flumestep.proofs.Finishes.{alike-sized, next-sized}
+use Rattle.flumestep.specs.inner.Advanced.{FlumeAdvanced}
+use Rattle.flumefinish.proofs.Finishes.{next-sized}
+use Rattle.flumestep.proofs.Advances.{alike-sized}
 use Rattle.flumerun.specs.inner.Turns.{FlumeCrossed, FlumeWent}
 
 -- ---- an accepted step of a set that is ready

@@ -5,7 +5,7 @@ use mathlib.Core.Path.{sym, _∙_}
 use Prim.Native.Nat.{_-_}
 use native.Mathlib.Omega.{arith}
 use Rattle.grid.specs.inner.Halfway.{Alike}
-use Rattle.flumestep.proofs.Finishes.{alike-sized, soiled}
+use Rattle.flumestep.proofs.Advances.{alike-sized, soiled}
 use Rattle.grid.specs.State.{lent}
 use Rattle.flumerun.proofs.Runs.{Dry, Going, going-first, going-resuming, going-dry, going-alike, going-on, going-stops, going-ends}
 use Rattle.flumerun.proofs.running.going.Statement.{statement}
