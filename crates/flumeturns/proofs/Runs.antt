@@ -1,5 +1,5 @@
--- The flume's run: an accepted step of a set that is ready leaves one that is ready, so that its course is lawful; and the functions' contracts, one from the
--- other. Assumes nothing.
+-- The turns of a flume's run: an accepted step of a set that is ready leaves one that is ready, so that its course is lawful; and the functions' contracts,
+-- one from the other. Assumes nothing.
 use mathlib.Core.Path.{_≡_, refl, sym, _∙_, subst}
 use mathlib.Core.Bool.{Bool, true, false, _&&_, not}
 use mathlib.Core.List.{List}
@@ -20,21 +20,19 @@ use Rattle.grid.proofs.Conserved.{good-any-on}
 use Rattle.grid.proofs.Listed.{same-listed}
 use Rattle.grid.proofs.Reached.{step-good}
 use Rattle.run.specs.inner.Turns.{here, there, Evened}
-use Rattle.run.proofs.Admitted.{RanOn, refuses-on, entered-on, admits, not-admitted-on, ended-on}
 use Rattle.run.proofs.Courses
 use Rattle.run.proofs.Courses.{Course, Lawful, Passed, Ended}
 use Rattle.flume.specs.declared.FlumeSides.{FlumeSides}
 use Rattle.flume.specs.declared.FlumeSettings.{FlumeSettings}
-use Rattle.flume.specs.Flume.{flumeCells, flumeGrid, flumeLengths, flumeGround, levelSettings}
-use Rattle.flume.specs.Outcome.{flumeScene, flumeEntry, flumeStep, flumeNext, flumeRunEntry, open-outcome}
-use Rattle.flume.specs.Promise.{FlumeRanTo}
+use Rattle.flume.specs.Flume.{flumeCells, flumeGrid, flumeLengths}
+use Rattle.flume.specs.Outcome.{flumeScene, flumeStep, flumeNext, open-outcome}
 use Rattle.flume.proofs.Demands.{flume-laid}
 use Rattle.flumegrid.specs.inner.Ready.{FlumeSized, FlumeReady, FlumeEntered, FlumeDried, FlumeResuming}
-use Rattle.flumegrid.proofs.Entrance.{enters}
 use Rattle.flumegrid.proofs.Poise.{poised, dried}
-use Rattle.flumestep.specs.inner.Finished.{FlumeAdvanced}
-use Rattle.flumestep.proofs.Finishes.{alike-sized, next-sized}
-use Rattle.flumerun.specs.inner.Turns.{FlumeCrossed, FlumeWent}
+use Rattle.flumestep.specs.inner.Advanced.{FlumeAdvanced}
+use Rattle.flumefinish.proofs.Finishes.{next-sized}
+use Rattle.flumestep.proofs.Advances.{alike-sized}
+use Rattle.flumeturns.specs.inner.Turns.{FlumeCrossed, FlumeWent}
 
 -- ---- an accepted step of a set that is ready
 module _ (s : FlumeSides) (g : FlumeSettings) (a : Lent) where
@@ -155,33 +153,3 @@ module _ (steps : ℕ) (s : FlumeSides) (g : FlumeSettings) (start : Lent) (mark
   pub going-ends : (back : Bool) (a b first second : Lent) (marks after : List ℕ) → steps ≤ k → Going steps s g start marks₀ k back a b marks
       → Evened back a b first second → after ≡ replicate (length marks) 0 → FlumeWent steps s g start marks₀ k Done first second after
   going-ends back a b first second marks after h i t e = went (Courses.going-ends (course s g marks₀) back h i t e)
-
--- ---- the run itself, by what admitted it
-module _ (steps : ℕ) (s : FlumeSides) (g : FlumeSettings) (a b : Lent) (marks : List ℕ) where
-  -- the flume is one ground
-  on-ground : {count : ℕ} {answer : Answer} {first second : Lent} {after : List ℕ} → RanOn (flumeGround s) steps (levelSettings g) a b marks count answer first second after
-      → FlumeRanTo steps s g a b marks count answer first second after
-  unfolding open-outcome
-  on-ground w = record { count-is = w .count-is; answer-is = w .answer-is; first-is = w .first-is; second-is = w .second-is; marks-are = w .marks-are }
-
-  pub refuses-steps : 1000 < steps → Refused 9 0 ≡ flumeRunEntry steps s g a b marks
-  unfolding open-outcome
-  refuses-steps h = refuses-on (flumeGround s) steps (levelSettings g) a b marks h
-
-  pub then-entered : steps ≤ 1000 → flumeEntry s g a b marks Done ≡ flumeRunEntry steps s g a b marks
-  unfolding open-outcome
-  then-entered h = entered-on (flumeGround s) steps (levelSettings g) a b marks h
-
-  pub run-stepping : flumeRunEntry steps s g a b marks ≡ Done → FlumeEntered s g a b marks
-  unfolding open-outcome
-  run-stepping e = enters s g a b marks (admits (flumeGround s) steps (levelSettings g) a b marks e)
-
-  pub not-admitted : (n p : ℕ) → Refused n p ≡ flumeRunEntry steps s g a b marks → FlumeRanTo steps s g a b marks 0 (Refused n p) a b marks
-  unfolding open-outcome
-  not-admitted n p e = on-ground (not-admitted-on (flumeGround s) steps (levelSettings g) a b marks e)
-
-  pub admitted-went : (count : ℕ) (answer : Answer) (first second : Lent) (after : List ℕ) → Done ≡ flumeRunEntry steps s g a b marks
-      → FlumeWent steps s g a marks count answer first second after → FlumeRanTo steps s g a b marks count answer first second after
-  unfolding open-outcome
-  admitted-went count answer first second after e w =
-      on-ground (ended-on (flumeGround s) steps (levelSettings g) a b marks e (w .count-is) (w .answer-is) (w .first-is) (w .second-is) (w .marks-are))

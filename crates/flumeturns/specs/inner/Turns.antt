@@ -11,7 +11,7 @@ use Rattle.run.specs.inner.Turns.{here, there}
 use Rattle.flume.specs.declared.FlumeSides.{FlumeSides}
 use Rattle.flume.specs.declared.FlumeSettings.{FlumeSettings}
 use Rattle.flume.specs.Flume.{flumeCells, flumeGround, levelSettings}
-use Rattle.flumestep.specs.inner.Finished.{FlumeAdvanced}
+use Rattle.flumestep.specs.inner.Advanced.{FlumeAdvanced}
 
 -- one turn: a step from here to there, and nothing written here
 pub record FlumeCrossed (s : FlumeSides) (g : FlumeSettings) (back : Bool) (a b : Lent) (answer : Answer) (first second : Lent) (after : List ℕ) : Type 0 where

@@ -1,9 +1,9 @@
--- `flumerun::running::turn`: the step goes from the set that holds the state to the other one, and leaves the first as it is. Assumes nothing.
+-- `flumeturns::turns::turn`: the step goes from the set that holds the state to the other one, and leaves the first as it is. Assumes nothing.
 use borrow.Author.Needs.{needs}
 use mathlib.Core.Path.{refl}
-use Rattle.flumerun.proofs.Runs.{resuming-back, resuming-forth, crossed-back, crossed-forth}
-use Rattle.flumerun.proofs.running.turn.Statement.{statement}
-use Rattle.flumerun.proofs.running.turn.Tie as tie
+use Rattle.flumeturns.proofs.Runs.{resuming-back, resuming-forth, crossed-back, crossed-forth}
+use Rattle.flumeturns.proofs.turns.turn.Statement.{statement}
+use Rattle.flumeturns.proofs.turns.turn.Tie as tie
 
 resumed-requires : tie.Need-resumed-requires
 resumed-requires c κs = let then1 : tie.Then1 = search in let start : tie.Start = search in resuming-back _ _ _ _ _ _ (then1 .if1 .taken) (start .pre)

@@ -1,4 +1,4 @@
--- `flumestep::stepping::judged` is test 8: test 6's search over the second set. Assumes nothing.
+-- `flumefinish::finishing::judged` is test 8: test 6's search over the second set. Assumes nothing.
 use borrow.Author.Needs.{sfits-of}
 use mathlib.Core.Path.{_≡_, refl, sym, ap, _∙_}
 use Prim.Native.Nat.{ℕ, suc}
@@ -13,8 +13,8 @@ use Rattle.grid.specs.Good.{badRule}
 use Rattle.grid.proofs.Accepted.{skip}
 use Rattle.grid.proofs.Checks.{stop}
 use Rattle.flumegrid.proofs.Checks.{one-carry}
-use Rattle.flumestep.proofs.stepping.judged.Statement.{statement}
-use Rattle.flumestep.proofs.stepping.judged.Tie as tie
+use Rattle.flumefinish.proofs.finishing.judged.Statement.{statement}
+use Rattle.flumefinish.proofs.finishing.judged.Tie as tie
 
 abbrev second : tie.Start → Lent
 second w = lent (w .args .flags2 .now) (w .args .parts2 .now) (w .args .masses2 .now) (w .args .fills2 .now) (w .args .carry2 .now)

@@ -1,15 +1,15 @@
--- `flumerun::running::going`: turn after turn, and `back` tells which set holds the state reached. What an accepted turn leaves is ready again, so that no
+-- `flumeturns::turns::going`: turn after turn, and `back` tells which set holds the state reached. What an accepted turn leaves is ready again, so that no
 -- test is made twice. Every slice keeps its length, since both sets are sized at the start and at each turn. Assumes nothing.
 use borrow.Author.Needs.{needs}
 use mathlib.Core.Path.{sym, _∙_}
 use Prim.Native.Nat.{_-_}
 use native.Mathlib.Omega.{arith}
 use Rattle.grid.specs.inner.Halfway.{Alike}
-use Rattle.flumestep.proofs.Finishes.{alike-sized, soiled}
+use Rattle.flumestep.proofs.Advances.{alike-sized, soiled}
 use Rattle.grid.specs.State.{lent}
-use Rattle.flumerun.proofs.Runs.{Dry, Going, going-first, going-resuming, going-dry, going-alike, going-on, going-stops, going-ends}
-use Rattle.flumerun.proofs.running.going.Statement.{statement}
-use Rattle.flumerun.proofs.running.going.Tie as tie
+use Rattle.flumeturns.proofs.Runs.{Dry, Going, going-first, going-resuming, going-dry, going-alike, going-on, going-stops, going-ends}
+use Rattle.flumeturns.proofs.turns.going.Statement.{statement}
+use Rattle.flumeturns.proofs.turns.going.Tie as tie
 
 abbrev Inv-loop : tie.InvT-loop
 Inv-loop steps flags₀ parts₀ mass₀ fill₀ carry₀ flags2₀ parts2₀ mass2₀ fill2₀ carry2₀ marks₀ s g back₀ k₀ flags parts mass fill carry flags2 parts2 mass2 fill2 carry2 marks back k =

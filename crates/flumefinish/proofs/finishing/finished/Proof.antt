@@ -1,9 +1,9 @@
--- `flumestep::stepping::finished`: the conversion and the fills make the next state; test 8 passes where all was found fair, else the scan answers it.
+-- `flumefinish::finishing::finished`: the conversion and the fills make the next state; test 8 passes where all was found fair, else the scan answers it.
 -- Assumes nothing.
 use borrow.Author.Needs.{needs}
-use Rattle.flumestep.proofs.Finishes.{turning, turned-level, filling, set-lengths, finished-fair, finished-judged}
-use Rattle.flumestep.proofs.stepping.finished.Statement.{statement}
-use Rattle.flumestep.proofs.stepping.finished.Tie as tie
+use Rattle.flumefinish.proofs.Finishes.{turning, turned-level, filling, set-lengths, finished-fair, finished-judged}
+use Rattle.flumefinish.proofs.finishing.finished.Statement.{statement}
+use Rattle.flumefinish.proofs.finishing.finished.Tie as tie
 
 -- both passes are made
 module _ (d : tie.After-slice-known6) where
