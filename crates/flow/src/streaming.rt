@@ -120,6 +120,21 @@ pub fn streamed(
     rebuilt(flags, parts, fills, off, low, c)
 }
 
+// The same by a call of its own, so that what is lent to it is written down for the cells alone that take this way.
+fn streamed_beside(
+    flags: &[u8],
+    parts: &[i32],
+    fills: &[u32],
+    off: &[usize; 19],
+    low: usize,
+    c: usize,
+) -> [i32; 19]
+    requires { ⌜ Bodied (now flags) (now parts) × Fills (now flags) (now fills) × Around (length (now flags)) (now off) low c × (liquid (getD (now flags) c 3) ≡ true) × Enclosed (now flags) (now off) low c ⌝ }
+    ensures { λ r. ⌜ ((g : Settings) → r ≡ tab 19 (streamed (boxSight (now (flags .entry)) (now (parts .entry)) [] (now (fills .entry)) (now (off .entry)) low g) c)) ⌝ }
+{
+    streamed(flags, parts, fills, off, low, c)
+}
+
 // The same, the short way where the mark of pass 0 says that the cell has liquid all around.
 pub(crate) fn chosen(
     flags: &[u8],
@@ -137,5 +152,5 @@ pub(crate) fn chosen(
     if mark == 1 {
         return streamed_open(parts, from, 19 * (c - low));
     }
-    streamed(flags, parts, fills, off, low, c)
+    streamed_beside(flags, parts, fills, off, low, c)
 }
