@@ -1,7 +1,7 @@
 // What an act answers, in document 01's numbers: the refusal's number and place, 0 0 if accepted, and what was moved, 0 beside a refusal.
-use crate::Acted;
+use pumps::Acted;
 ghost use mathlib.Core.Path.{_≡_};
 ghost use Rattle.pumps.specs.Acts.{actedNumber, actedPlace, actedMoved};
 
 pub fn acted_number(a: Acted) -> u8
     ensures { λ r. ⌜ r ≡ actedNumber a ⌝ }

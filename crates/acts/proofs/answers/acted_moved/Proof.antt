@@ -1,11 +1,11 @@
--- `pumps::answers::acted_moved`: what the answer holds, 0 beside a refusal. Assumes nothing.
+-- `acts::answers::acted_moved`: what the answer holds, 0 beside a refusal. Assumes nothing.
 use borrow.Author.Needs.{needs}
 use mathlib.Core.Path.{sym, ap, _∙_}
 use mir.Syntax.{w64}
 use mir.Facts.{toZ-ofZ}
 use Rattle.pumps.specs.Acts.{actedMoved}
-use Rattle.pumps.proofs.answers.acted_moved.Statement.{statement}
-use Rattle.pumps.proofs.answers.acted_moved.Tie as tie
+use Rattle.acts.proofs.answers.acted_moved.Statement.{statement}
+use Rattle.acts.proofs.answers.acted_moved.Tie as tie
 
 enum-known-a : tie.Need-enum-known-a
 enum-known-a c = search needs

@@ -1,16 +1,18 @@
-// Pour and take, for every input.
-use crate::Acted;
-use crate::effect::effect;
-use crate::entry;
+// Layer 2, pumps and hoses: the two calls, pour and take, for every input. Knows the promises of grid and pumps.
+pub mod answers;
+
 use grid::Answer;
 use grid::Sides;
 use grid::fill::interface_fill;
+use pumps::Acted;
+use pumps::effect::effect;
+use pumps::entry;
 use whole::wide;
 ghost use mathlib.Core.Path.{_≡_};
 ghost use mathlib.Core.Bool.{true, false};
 ghost use Rattle.grid.specs.State.{lent};
 ghost use Rattle.pumps.specs.inner.Working.{Working, Worked};
 ghost use Rattle.pumps.specs.Acts.{countedIn, ActTold};
 
 // The act on an interface cell of a set that passed its tests: mass, fill and total number k.
 fn worked(

@@ -1,4 +1,4 @@
--- `pumps::acts::worked`: what the effect says, written to mass, fill and total. Assumes nothing.
+-- `acts::worked`: what the effect says, written to mass, fill and total. Assumes nothing.
 use borrow.Author.Needs.{needs, sfits-of}
 use borrow.Author.Tests.{not-true, not-false}
 use mathlib.Core.Path.{sym, ap, _∙_}
@@ -9,11 +9,11 @@ use mir.Facts.{toZ-ofZ}
 use Rattle.lattice.specs.Lattice.{d3q19, density}
 use Rattle.lattice.specs.Cell.{fillOf}
 use Rattle.grid.specs.State.{partOf}
 use Rattle.pumps.specs.inner.Working.{EffectIs}
 use Rattle.pumps.proofs.Amounts.{held}
-use Rattle.pumps.proofs.Working.{work-none, work-done}
-use Rattle.pumps.proofs.acts.worked.Statement.{statement}
-use Rattle.pumps.proofs.acts.worked.Tie as tie
+use Rattle.acts.proofs.Working.{work-none, work-done}
+use Rattle.acts.proofs.worked.Statement.{statement}
+use Rattle.acts.proofs.worked.Tie as tie
 
 -- the effect, of the numbers as they stand
 abbrev start : tie.After-effect → tie.Start
