@@ -1,11 +1,11 @@
--- `schemes::joining::join`: the outcome's definition, whatever is lent. Assumes nothing.
+-- `joins::joining::join`: the outcome's definition, whatever is lent. Assumes nothing.
 use borrow.Author.Needs.{needs}
 use mathlib.Core.Path.{sym, _∙_}
 use Rattle.grid.specs.State.{Lent, lent}
 use Rattle.pumps.proofs.Checked.{head-sized}
 use Rattle.schemes.proofs.Answers.{join-refused, join-scheme, join-done}
-use Rattle.schemes.proofs.joining.join.Statement.{statement}
-use Rattle.schemes.proofs.joining.join.Tie as tie
+use Rattle.joins.proofs.joining.join.Statement.{statement}
+use Rattle.joins.proofs.joining.join.Tie as tie
 
 abbrev set : tie.Start → Lent
 set w = lent (w .args .own .now) (w .args .parts .now) (w .args .masses .now) (w .args .fills .now) (w .args .carry .now)
