@@ -19,8 +19,8 @@ use Rattle.lattice.specs.inner.Held.{partsOf, vec, Tame}
 use Rattle.lattice.specs.Body.{relaxedDir}
 use Rattle.lattice.proofs.Ranges.{relaxation-in}
 use Rattle.lattice.proofs.Reading.{reading}
-use Rattle.collision.specs.declared.collide.Common.{Common}
-use Rattle.collision.specs.inner.Post.{CommonIs, Ready, grown}
+use Rattle.landings.specs.declared.pairs.Common.{Common}
+use Rattle.landings.specs.inner.Pairs.{CommonIs, Ready, grown}
 
 pub ready : (v : Flow) (p : ℤ) (k : Common) → Tame v → relaxationGood p ≡ true → CommonIs v p k → Ready k
 ready v p k t e is =

@@ -1,10 +1,3 @@
-pub mod Bracket
 pub mod Collision
-pub mod Dots
-pub mod Each
-pub mod Ends
-pub mod Landed
-pub mod Loss
-pub mod Rates
 pub mod Stillness
 pub mod Turns

@@ -1,40 +1,13 @@
-// Where a part lands, from the estimate of its equilibrium; and whether every estimate of a cell tells.
+// Whether every estimate of a cell tells.
+use landings::landing::high;
+use landings::landing::higher;
+use landings::landing::tells;
 ghost use mathlib.Core.Path.{_≡_};
 ghost use Prim.Native.Nat.{ℕ, suc, _%_, _<_, _≤_};
 ghost use lib.ListN.{getD};
 ghost use Rattle.whole.specs.Fold.{all};
-ghost use Rattle.whole.specs.laws.Machine.{Within};
 ghost use Rattle.lattice.specs.inner.Held.{partsOf};
-ghost use Rattle.collision.specs.inner.Estimate.{mixed, Mixes, landed, tells, tellsAt};
-
-// What part f tends to, in 1024ths: p times its equilibrium, estimated as e in 2^-32 and cut, and c = 1024 - p times itself.
-fn mixed(e: u64, f: i32, c: i32) -> i32
-    requires { ⌜ Mixes e f c ⌝ }
-    ensures { λ r. ⌜ (r ≡ mixed e f c) × Within r 2147483646 ⌝ }
-{
-    (e >> 32) as i32 + c * f
-}
-
-// Where it lands: the shift goes down, and stage 4 cuts what f shrinks by.
-pub fn settled(e: u64, f: i32, c: i32) -> i32
-    requires { ⌜ Mixes e f c ⌝ }
-    ensures { λ r. ⌜ (r ≡ landed e f c) × Within r 33554432 ⌝ }
-{
-    let n = mixed(e, f, c) >> 10;
-    if n < f {
-        return n + 1;
-    }
-    n
-}
-
-// Whether one more would land it there too. The estimate lacks less than one, so a whole number that it missed then moves nothing.
-fn tells(e: u64, f: i32, c: i32) -> bool
-    requires { ⌜ Mixes e f c ⌝ }
-    ensures { λ r. ⌜ r ≡ tells e f c ⌝ }
-{
-    let s = mixed(e, f, c);
-    s >> 10 == (s + 1) >> 10
-}
+ghost use Rattle.landings.specs.inner.Estimate.{Mixes, tellsAt};
 
 // Whether each of a cell's eighteen estimates tells: asked of all, with no branch between them.
 pub fn telling(e: [u64; 18], f: [i32; 19], c: i32) -> bool
@@ -48,27 +21,6 @@ pub fn telling(e: [u64; 18], f: [i32; 19], c: i32) -> bool
         i += 2;
     }
     w
-}
-
-// The higher of the low words of two ends.
-fn higher(a: u64, b: u64) -> u32
-    ensures { λ r. ⌜ (a % 4294967296 ≤ r) × (b % 4294967296 ≤ r) ⌝ }
-{
-    let s = (a % 4294967296) as u32;
-    let t = (b % 4294967296) as u32;
-    if s < t {
-        return t;
-    }
-    s
-}
-
-fn high(a: u32, b: u32) -> u32
-    ensures { λ r. ⌜ (a ≤ r) × (b ≤ r) ⌝ }
-{
-    if a < b {
-        return b;
-    }
-    a
 }
 
 // The highest low word, by which the flume asks whether an end lies just below a whole number. As a tree: one after the other would be branches on some processors.

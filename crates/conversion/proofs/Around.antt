@@ -17,7 +17,7 @@ use Rattle.whole.specs.laws.Search.{as-dir, any-dir, any-where}
 use Rattle.whole.specs.laws.Tab.{length-tab, getD-tab, upto-all}
 use Rattle.lattice.specs.Lattice.{pairOpp}
 use Rattle.grid.specs.inner.Passes.{Amid, besideAt, turnedAt, turnedBy, MarkedBy}
-use Rattle.flow.proofs.Arrivals.{opposite-some, opposite-most}
+use Rattle.arrivals.proofs.Arrivals.{opposite-some, opposite-most}
 use Rattle.conversion.specs.inner.Flags.{Enclosed, turnedAround}
 use Rattle.conversion.proofs.Flags.{marked, wall-after, filled-flag, emptied-flag, born-flag, bared-flag, kept-flag}
 

@@ -18,7 +18,7 @@ use Rattle.grid.specs.State.{liquid}
 use Rattle.grid.specs.Step.{streamed, streamedDensity, streamedMomentum, born}
 use Rattle.grid.specs.inner.Sight.{weighing, Bodies, Around, sight}
 use Rattle.grid.proofs.Same.{body-same}
-use Rattle.flow.proofs.Spans.{Light, streamed-in}
+use Rattle.arrivals.proofs.Spans.{Light, streamed-in}
 use Rattle.conversion.specs.inner.Born.{NewFlow, Joined, Added, Begins}
 use Rattle.conversion.specs.declared.birth.Sum.{Sum}
 use Rattle.grid.proofs.Arrays.{part-is, density-is, momentum-is, bounded-is}

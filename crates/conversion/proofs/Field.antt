@@ -28,7 +28,7 @@ use Rattle.grid.proofs.Laid.{Laid}
 use Rattle.grid.proofs.Offsets.{near-self}
 use Rattle.flow.proofs.Onward.{stepOn}
 use Rattle.flow.proofs.Poise.{poised-body, poised-mass, fill-in}
-use Rattle.flow.proofs.Spans.{Light, light19}
+use Rattle.arrivals.proofs.Spans.{Light, light19}
 
 pub record Field : Type 0 where
   pub weights : ℕ → ℕ

@@ -30,7 +30,7 @@ use Rattle.grid.specs.inner.Sight.{weighing, Around, Bodies, sight}
 use Rattle.flow.proofs.Modes.{relax-good}
 use Rattle.flow.proofs.Collisions.{relaxation-of}
 use Rattle.flow.proofs.Plain.{axial19, streamed-same}
-use Rattle.flow.proofs.Spans.{light-low, streamed-in}
+use Rattle.arrivals.proofs.Spans.{light-low, streamed-in}
 use Rattle.conversion.proofs.Amounts.{inner-cell}
 use Rattle.conversion.proofs.Field.{Field, sceneIn, Standing}
 

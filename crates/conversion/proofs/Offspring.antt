@@ -26,7 +26,7 @@ use Rattle.grid.specs.inner.Passes.{Amid}
 use Rattle.grid.specs.inner.Sight.{weighing, Around, sight}
 use Rattle.grid.proofs.Dense.{has-liquid, born-part}
 use Rattle.grid.proofs.Same.{body-same}
-use Rattle.flow.specs.inner.Trade.{Fills}
+use Rattle.arrivals.specs.inner.Trade.{Fills}
 use Rattle.flow.proofs.Onward.{density-seen, fast-seen}
 use Rattle.flow.proofs.Plain.{axial19, streamed-momentum-same}
 use Rattle.conversion.specs.inner.Born.{TestedOn, newlyBorn, laterPart, laterFair}

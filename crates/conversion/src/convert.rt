@@ -1,7 +1,7 @@
 // Stage 5's new flags.
 use grid::Sides;
 use grid::neighbours;
-use grid::seeking;
+use walks::seeking;
 ghost use mathlib.Core.Path.{_≡_};
 ghost use Prim.Native.Nat.{_-_, _≤_, _<_};
 ghost use lib.Dec.{eqb};

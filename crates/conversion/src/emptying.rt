@@ -1,7 +1,7 @@
 // Stage 5: which cells are emptied after all: none beside a filled one.
 use grid::Sides;
 use grid::neighbours;
-use grid::seeking;
+use walks::seeking;
 ghost use mathlib.Core.Path.{_≡_};
 ghost use mathlib.Core.Bool.{cond};
 ghost use lib.ListN.{length};

@@ -1,8 +1,8 @@
 // Pass 7: filled and emptied cells come to their own, and the marks go.
 use grid::cells::own;
 use grid::cells::paste;
-use grid::seeking::next_marked;
 use lattice::moments::density;
+use walks::seeking::next_marked;
 ghost use Prim.Native.Nat.{_<_};
 ghost use lib.ListN.{length};
 ghost use Rattle.grid.specs.State.{partOf};

@@ -6,7 +6,7 @@ use Rattle.whole.specs.Fold.{open-fold}
 use Rattle.grid.specs.Grid.{open-grid}
 use Rattle.index.specs.Index.{open-index}
 use Rattle.index.specs.Outcome.{open-outcome}
-use Rattle.index.specs.Sweep.{Sweep, over, found}
+use Rattle.sweep.specs.Sweep.{Sweep, over, found}
 use Rattle.figures.specs.Cases.{sides}
 use Rattle.figures.specs.Surface.{wordsT, cube, wordsTwo}
 

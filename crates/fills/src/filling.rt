@@ -1,7 +1,7 @@
 // Stage 7: the fills, worked out afresh, and whether interface masses are still in their range.
 use grid::fill::interface_fill;
-use grid::seeking::next_of;
 use lattice::limits::fair_mass;
+use walks::seeking::next_of;
 use whole::wide;
 ghost use mathlib.Core.Path.{_≡_};
 ghost use lib.ListN.{length};

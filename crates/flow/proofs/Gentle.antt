@@ -29,7 +29,7 @@ use Rattle.lattice.proofs.Ranges.{weak-x, weak-y, weak-z}
 use Rattle.lattice.proofs.Table.{unit-in}
 use Rattle.lattice.proofs.Tame.{steady-tame}
 use Rattle.collision.specs.inner.Post.{Pulled}
-use Rattle.collision.proofs.Landed.{slack}
+use Rattle.landings.proofs.Landed.{slack}
 use Rattle.grid.specs.Outcome.{settingsGood}
 use Rattle.grid.proofs.Same.{density-same, momentum-same}
 use Rattle.flow.specs.inner.Gentle.{gentle, Follows}

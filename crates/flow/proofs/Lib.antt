@@ -1,9 +1,4 @@
-pub mod Held
-pub mod Trades
 pub mod Stores
-pub mod Spans
-pub mod Leans
-pub mod Arrivals
 pub mod Mirrored
 pub mod Paces
 pub mod Plain

@@ -17,8 +17,8 @@ use Rattle.grid.specs.inner.Sight.{Around}
 use Rattle.grid.proofs.Beside.{Offsets, above, place-is, place-low}
 use Rattle.grid.proofs.Offsets.{near-self}
 use Rattle.grid.proofs.Offsets.{listed}
-use Rattle.flow.specs.inner.Sources.{Mirrored, Immersed, Enclosed}
-use Rattle.flow.proofs.Arrivals.{opposite-low}
+use Rattle.arrivals.specs.inner.Sources.{Mirrored, Immersed, Enclosed}
+use Rattle.arrivals.proofs.Arrivals.{opposite-low}
 
 sums : (s : Sides) → tab 19 (λ i. offsetOf s i + offsetOf s (pairOpp i)) ≡ tab 19 (λ i. lowOf s + lowOf s)
 unfolding offsetOf toward lowOf open-lattice open-fold

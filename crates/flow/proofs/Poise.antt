@@ -22,7 +22,7 @@ use Rattle.grid.proofs.Beside.{Offsets, place-is}
 use Rattle.grid.proofs.Coordinates.{inner-of}
 use Rattle.grid.proofs.Laid.{inner}
 use Rattle.grid.proofs.Prepared.{ready-sound, ready-cell, cell-body, cell-mass, cell-fill}
-use Rattle.flow.specs.inner.Trade.{Fills}
+use Rattle.arrivals.specs.inner.Trade.{Fills}
 use Rattle.grid.proofs.Inside.{few}
 
 -- no rule of a cell reads the carry

@@ -1,26 +1,23 @@
 // Stage 1: the parts that stream into a cell.
+use arrivals::streaming::arriving;
+use arrivals::streaming::leaning;
+use arrivals::streaming::source;
 use grid::cells::own;
-use grid::normal::normal;
-use lattice::Flow;
 use lattice::directions::dots;
 use lattice::directions::flow_of;
-use lattice::directions::weight_of;
-use surface::stream::gas_pair;
-use whole::wide;
 ghost use mathlib.Core.Path.{_≡_};
 ghost use mathlib.Core.Bool.{true};
 ghost use mathlib.Core.List.{List, []};
-ghost use Prim.Native.Nat.{ℕ, _+_, _-_, _<_, _≤_};
+ghost use Prim.Native.Nat.{ℕ, _+_, _<_};
 ghost use lib.IntN.{pos};
 ghost use lib.ListN.{length, getD};
 ghost use Rattle.whole.specs.Fold.{tab};
-ghost use Rattle.lattice.specs.Cell.{isPositive};
 ghost use Rattle.lattice.specs.declared.Settings.{Settings};
 ghost use Rattle.grid.specs.State.{liquid};
-ghost use Rattle.grid.specs.Step.{leansTo, arrives, streamed};
+ghost use Rattle.grid.specs.Step.{streamed};
 ghost use Rattle.grid.specs.inner.Sight.{boxSight, Bodied, Around};
-ghost use Rattle.flow.specs.inner.Sources.{Mirrored, sourceOf, arrivalAt, Immersed, Enclosed, leanAt, Beside};
-ghost use Rattle.flow.specs.inner.Trade.{Fills};
+ghost use Rattle.arrivals.specs.inner.Sources.{Mirrored, sourceOf, Immersed, Enclosed};
+ghost use Rattle.arrivals.specs.inner.Trade.{Fills};
 
 // Where part i that streams straight into a cell lies, counted from the first part of the cell c - low.
 pub fn sources(off: [usize; 19], low: usize) -> [usize; 19]
@@ -49,54 +46,6 @@ fn streamed_open(parts: &[i32], from: &[usize; 19], a: usize) -> [i32; 19]
         i += 1;
     }
     f
-}
-
-// n·e of each direction, once for all of them; a fluid cell has no such lean.
-pub fn leaning(flags: &[u8], fills: &[u32], off: &[usize; 19], low: usize, c: usize) -> [i32; 19]
-    requires { ⌜ Fills (now flags) (now fills) × Around (length (now flags)) (now off) low c ⌝ }
-    ensures { λ r. ⌜ r ≡ tab 19 (leanAt (now (flags .entry)) (now (fills .entry)) (now (off .entry)) low c) ⌝ }
-{
-    if flags[c] == 1 {
-        return dots(normal(flags, fills, off, c - low));
-    }
-    [0i32; 19]
-}
-
-// What arrives at cell c from its neighbour b in direction i, whose opposite is k; v is the cell's flow, d its e·j, and n·e its lean.
-fn arriving(
-    flags: &[u8],
-    parts: &[i32],
-    c: usize,
-    b: usize,
-    i: usize,
-    k: usize,
-    v: Flow,
-    d: i32,
-    lean: i32,
-) -> i32
-    requires { ⌜ Beside (now flags) (now parts) c b i k v d ⌝ }
-    ensures { λ r. ⌜ ((fills off : List ℕ) (low : ℕ) (g : Settings) → b ≡ (c - low) + getD off i 0 → isPositive lean ≡ leansTo (boxSight (now (flags .entry)) (now (parts .entry)) [] fills off low g) c i → r ≡ arrives (boxSight (now (flags .entry)) (now (parts .entry)) [] fills off low g) c i k) ⌝ }
-{
-    let f = flags[b];
-    if f > 2 {
-        return parts[19 * c + i];
-    }
-    if (f == 0) | (lean > 0) {
-        return (gas_pair(v, weight_of(i), d) - wide(parts[19 * c + i])) as i32;
-    }
-    parts[19 * b + k]
-}
-
-// Where the part lies that arrives at cell c from its neighbour b in direction i, whose opposite is k: a wall sends back what the cell sent. A choice
-// between two places, which is no branch, where one between two parts would be.
-fn source(flags: &[u8], c: usize, b: usize, i: usize, k: usize) -> usize
-    requires { ⌜ (length (now flags) ≤ 262144) × (c < length (now flags)) × (b < length (now flags)) × (i < 19) × (k < 19) ⌝ }
-    ensures { λ r. ⌜ r ≡ arrivalAt (now (flags .entry)) c b i k ⌝ }
-{
-    if flags[b] > 2 {
-        return 19 * c + i;
-    }
-    19 * b + k
 }
 
 // The parts that stream into a fluid cell, which has no empty cell beside it: walls send its own back.
@@ -171,6 +120,21 @@ pub fn streamed(
     rebuilt(flags, parts, fills, off, low, c)
 }
 
+// The same by a call of its own, so that what is lent to it is written down for the cells alone that take this way.
+fn streamed_beside(
+    flags: &[u8],
+    parts: &[i32],
+    fills: &[u32],
+    off: &[usize; 19],
+    low: usize,
+    c: usize,
+) -> [i32; 19]
+    requires { ⌜ Bodied (now flags) (now parts) × Fills (now flags) (now fills) × Around (length (now flags)) (now off) low c × (liquid (getD (now flags) c 3) ≡ true) × Enclosed (now flags) (now off) low c ⌝ }
+    ensures { λ r. ⌜ ((g : Settings) → r ≡ tab 19 (streamed (boxSight (now (flags .entry)) (now (parts .entry)) [] (now (fills .entry)) (now (off .entry)) low g) c)) ⌝ }
+{
+    streamed(flags, parts, fills, off, low, c)
+}
+
 // The same, the short way where the mark of pass 0 says that the cell has liquid all around.
 pub(crate) fn chosen(
     flags: &[u8],
@@ -188,5 +152,5 @@ pub(crate) fn chosen(
     if mark == 1 {
         return streamed_open(parts, from, 19 * (c - low));
     }
-    streamed(flags, parts, fills, off, low, c)
+    streamed_beside(flags, parts, fills, off, low, c)
 }

@@ -1,43 +1,14 @@
 // Stage 2: what an interface cell gains from its neighbours, and the mark that stage 5 makes of it.
+use arrivals::trading::traded;
 use whole::wide;
 ghost use mathlib.Core.Path.{_≡_};
-ghost use Prim.Native.Nat.{_+_, _<_};
-ghost use lib.IntN.{pos, _-ℤ_};
+ghost use Prim.Native.Nat.{_<_};
 ghost use lib.ListN.{length, getD};
 ghost use Rattle.lattice.specs.declared.Settings.{Settings};
-ghost use Rattle.grid.specs.State.{byFlag, partOf};
-ghost use Rattle.grid.specs.inner.Sight.{Bodied, Around, boxSight};
+ghost use Rattle.grid.specs.State.{byFlag};
+ghost use Rattle.grid.specs.inner.Sight.{Around, boxSight};
 ghost use Rattle.grid.specs.Step.{tradedMass};
-ghost use Rattle.flow.specs.inner.Trade.{Fills, Traders, passed, markFor};
-
-pub fn difference(a: i32, b: i32) -> i64
-    ensures { λ r. ⌜ r ≡ a -ℤ b ⌝ }
-{
-    wide(a) - wide(b)
-}
-
-// Two fills together.
-pub fn both(a: u32, b: u32) -> i64
-    ensures { λ r. ⌜ r ≡ pos (a + b) ⌝ }
-{
-    a as i64 + b as i64
-}
-
-// What cell c gains from cell b in direction i, whose opposite is k.
-fn traded(flags: &[u8], parts: &[i32], fills: &[u32], c: usize, b: usize, i: usize, k: usize) -> i64
-    requires { ⌜ Bodied (now flags) (now parts) × Fills (now flags) (now fills) × (c < length (now flags)) × (b < length (now flags)) × (i < 19) × (k < 19) ⌝ }
-    ensures { λ r. ⌜ r ≡ passed (now (flags .entry)) (partOf (now (parts .entry))) (now (fills .entry)) c b i k ⌝ }
-{
-    let f = flags[b];
-    let d = difference(parts[19 * b + k], parts[19 * c + i]);
-    if f == 2 {
-        return d;
-    }
-    if f == 1 {
-        return surface::exchange::exchange(both(fills[c], fills[b]), d);
-    }
-    0
-}
+ghost use Rattle.flow.specs.inner.Trade.{Traders, markFor};
 
 // The mass of interface cell c with what it gains from its neighbours.
 fn traded_mass(

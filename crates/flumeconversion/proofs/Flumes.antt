@@ -18,7 +18,7 @@ use Rattle.flumegrid.specs.inner.Ready.{FlumeReady, FlumePoised}
 use Rattle.flumegrid.proofs.GoodSides.{few}
 use Rattle.flumegrid.proofs.Offsets.{near-self, place-is, near-low, reaching, inner-of, near-back}
 use Rattle.flumegrid.proofs.Poise.{poised, ready-carry, body, mass, fill, flagged, walled, closed}
-use Rattle.flumeflow.proofs.Nines.{light9}
+use Rattle.flumearrivals.proofs.Nines.{light9}
 use Rattle.flumeflow.proofs.Spread.{scene-spread}
 use Rattle.conversion.proofs.Field.{Field, sceneIn, Standing, Sound}
 

@@ -24,7 +24,7 @@ use Rattle.flume.proofs.Places.{spread-none, idle-dir}
 use Rattle.flume.proofs.Turning.{equilibrium-none}
 use Rattle.nine.specs.inner.Cells.{partOf9, pasted9, Quiet}
 use Rattle.nine.proofs.Pasted.{length-pasted9, pasted-here, pasted-other}
-use Rattle.flumeflow.specs.inner.Seen.{sight9}
+use Rattle.flumearrivals.specs.inner.Seen.{sight9}
 use Rattle.flumeconversion.specs.inner.Born.{Placed9, Visited9}
 
 -- ---- one visit

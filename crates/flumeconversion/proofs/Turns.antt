@@ -31,7 +31,7 @@ use Rattle.flume.specs.declared.FlumeSides.{FlumeSides}
 use Rattle.flume.specs.Flume.{flumeCells}
 use Rattle.flume.specs.inner.Offsets.{flumeLow, flumeOffset}
 use Rattle.nine.specs.inner.Cells.{partOf9}
-use Rattle.flumeflow.specs.inner.Seen.{sight9}
+use Rattle.flumearrivals.specs.inner.Seen.{sight9}
 use Rattle.flumepasses.specs.inner.Flowed.{wideScene}
 use Rattle.flumeexcess.specs.inner.Gathered.{roomOf9, Gathering, Straying}
 use Rattle.flumeconversion.specs.inner.Settled.{Settling, Settled}

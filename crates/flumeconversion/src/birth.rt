@@ -7,13 +7,13 @@ use conversion::birth::joined;
 use conversion::birth::mean;
 use flumeflow::streaming::streamed9;
 use grid::kinds::is_liquid;
-use grid::seeking::next_of;
 use lattice::Flow;
 use lattice::Settings;
 use lattice::directions::flow_of;
 use lattice::rules::fair_parts;
 use nine::cells::paste9;
 use nine::equilibrium::equilibrium9;
+use walks::seeking::next_of;
 ghost use mathlib.Core.Path.{_≡_};
 ghost use mathlib.Core.Bool.{true};
 ghost use mathlib.Core.List.{[]};
@@ -23,7 +23,7 @@ ghost use Rattle.grid.specs.State.{liquid};
 ghost use Rattle.grid.specs.Step.{liquidNear};
 ghost use Rattle.grid.specs.inner.Sight.{Around};
 ghost use Rattle.conversion.specs.inner.Born.{Roomy, NewFlow, Added, Begins, newlyBorn};
-ghost use Rattle.flumeflow.specs.inner.Seen.{sight9};
+ghost use Rattle.flumearrivals.specs.inner.Seen.{sight9};
 ghost use Rattle.flumeconversion.specs.inner.Born.{Tested9, Fertile9, Placed9, Visited9, Peopled9};
 
 // The flow of liquid cell b after stage 3.

@@ -1,8 +1,8 @@
 // Pass 7 in the flume: filled and emptied cells come to their own, and the marks go.
-use grid::seeking::next_marked;
 use lattice::moments::density;
 use nine::cells::own9;
 use nine::cells::paste9;
+use walks::seeking::next_marked;
 ghost use Prim.Native.Nat.{_<_};
 ghost use lib.ListN.{length};
 ghost use Rattle.excess.specs.inner.Gifts.{Parts};

@@ -1,11 +1,11 @@
 // Stage 6 in the flume: what converted cells give to the interface cells beside them. An idle place leads to the cell itself, which takes and so gives nothing.
 use excess::giving::marked_beside;
 use excess::leaning::used_weights;
-use grid::seeking::next_of;
 use lattice::directions::opposite;
 use lattice::moments::density;
 use nine::cells::own9;
 use surface::excess::given;
+use walks::seeking::next_of;
 use whole::wide;
 ghost use mathlib.Core.Path.{_≡_};
 ghost use mathlib.Core.Bool.{true};

@@ -1,8 +1,8 @@
 // Stage 6 in the flume: the excess of converted cells with no target joins the carry.
 use crate::giving::excess9;
 use excess::leaning::evens;
-use grid::seeking::next_marked;
 use surface::excess::total;
+use walks::seeking::next_marked;
 ghost use mathlib.Core.Path.{_≡_};
 ghost use Prim.Native.Nat.{_<_};
 ghost use lib.IntN.{_+ℤ_};

@@ -1,8 +1,8 @@
 // Stage 7 in the flume: the fills, worked out afresh, and whether interface masses are still in their range.
 use fills::filling::plain_fills;
 use flumegrid::fill::interface_fill9;
-use grid::seeking::next_of;
 use lattice::limits::fair_mass;
+use walks::seeking::next_of;
 use whole::wide;
 ghost use mathlib.Core.Path.{_≡_};
 ghost use lib.ListN.{length};

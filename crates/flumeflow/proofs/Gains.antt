@@ -12,15 +12,15 @@ use Rattle.lattice.specs.Lattice.{pairOpp, d3q19}
 use Rattle.lattice.specs.declared.Settings.{Settings}
 use Rattle.grid.specs.Step.{traded, tradedMass}
 use Rattle.grid.specs.inner.Sight.{sight, Around}
-use Rattle.flow.specs.inner.Trade.{Trading, passed}
-use Rattle.flow.proofs.Trades.{amassed, amassed-within, gain, gain-is, odd-opp, even-opp}
-use Rattle.flow.proofs.Trades as trades
+use Rattle.arrivals.specs.inner.Trade.{Trading, passed}
+use Rattle.arrivals.proofs.Trades.{amassed, amassed-within, gain, gain-is, odd-opp, even-opp}
+use Rattle.arrivals.proofs.Trades as trades
 use Rattle.flume.specs.inner.Spread.{wide, spreadLattice}
 use Rattle.flume.proofs.Places.{dirs-same, wide-dir}
 use Rattle.flume.proofs.Flowing.{traded-none}
 use Rattle.nine.specs.inner.Cells.{partOf9}
-use Rattle.flumeflow.specs.inner.Seen.{sight9}
-use Rattle.flumeflow.proofs.Nines.{Paired, part-none}
+use Rattle.flumearrivals.specs.inner.Seen.{sight9}
+use Rattle.flumearrivals.proofs.Nines.{Paired, part-none}
 
 module _ (flags : List ℕ) (parts masses : List ℤ) (fills off : List ℕ) (low c : ℕ) where
   -- what c gains from direction k, and its mass with what it gains from the first n

@@ -1,3 +1,2 @@
-pub mod Nines
 pub mod Gains
 pub mod Spread

@@ -29,7 +29,7 @@ ghost use Rattle.grid.specs.State.{liquid};
 ghost use Rattle.grid.specs.Step.{streamed};
 ghost use Rattle.grid.specs.Outcome.{settingsGood};
 ghost use Rattle.nine.specs.inner.Cells.{Quiet, pasted9};
-ghost use Rattle.flumeflow.specs.inner.Seen.{sight9};
+ghost use Rattle.flumearrivals.specs.inner.Seen.{sight9};
 ghost use Rattle.flumeflow.specs.inner.PutAt.{PutAt9, Putting9, atDensity};
 
 // A flow whose density is known: its own sum then need not be made.

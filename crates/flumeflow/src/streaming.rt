@@ -1,29 +1,25 @@
 // Stage 1: the parts that stream into a cell. By the eight directions: nothing is looked at, and nothing arrives, at an idle place.
-use flow::streaming::leaning;
-use lattice::Flow;
+use arrivals::streaming::leaning;
+use flumearrivals::streaming::arriving9;
 use lattice::directions::dots;
 use lattice::directions::flow_of;
 use nine::cells::own9;
 use nine::cells::place;
-use nine::weights::weight9;
-use surface::stream::gas_pair;
-use whole::wide;
 ghost use mathlib.Core.Path.{_≡_};
 ghost use mathlib.Core.Bool.{true};
-ghost use mathlib.Core.List.{List, []};
-ghost use Prim.Native.Nat.{ℕ, _+_, _-_, _<_};
+ghost use mathlib.Core.List.{[]};
+ghost use Prim.Native.Nat.{ℕ, _+_, _<_};
 ghost use lib.IntN.{pos};
 ghost use lib.ListN.{length, getD};
 ghost use Rattle.whole.specs.Fold.{tab};
-ghost use Rattle.lattice.specs.Cell.{isPositive};
 ghost use Rattle.lattice.specs.declared.Settings.{Settings};
 ghost use Rattle.grid.specs.State.{liquid};
-ghost use Rattle.grid.specs.Step.{leansTo, arrives, streamed};
+ghost use Rattle.grid.specs.Step.{streamed};
 ghost use Rattle.grid.specs.inner.Sight.{Around};
-ghost use Rattle.flow.specs.inner.Sources.{Mirrored, Immersed};
-ghost use Rattle.flow.specs.inner.Trade.{Fills};
-ghost use Rattle.flume.specs.inner.Spread.{wide, spread};
-ghost use Rattle.flumeflow.specs.inner.Seen.{sight9, Bodied9, sourceOf9, Beside9};
+ghost use Rattle.arrivals.specs.inner.Sources.{Mirrored, Immersed};
+ghost use Rattle.arrivals.specs.inner.Trade.{Fills};
+ghost use Rattle.flume.specs.inner.Spread.{spread};
+ghost use Rattle.flumearrivals.specs.inner.Seen.{sight9, Bodied9, sourceOf9};
 
 // Where part k that streams straight into a cell lies, counted from the first part of the cell c - low.
 pub fn sources9(off: [usize; 19], low: usize) -> [usize; 9]
@@ -51,33 +47,6 @@ fn streamed_open9(parts: &[i32], from: &[usize; 9], a: usize) -> [i32; 19]
         k += 1;
     }
     f
-}
-
-// What arrives at cell c from its neighbour b in direction k, which stands at place i and whose opposite is m; v is the cell's flow, d its e·j, and n·e
-// its lean.
-fn arriving9(
-    flags: &[u8],
-    parts: &[i32],
-    c: usize,
-    b: usize,
-    i: usize,
-    k: usize,
-    m: usize,
-    v: Flow,
-    d: i32,
-    lean: i32,
-) -> i32
-    requires { ⌜ Beside9 (now flags) (now parts) c b i k m v d ⌝ }
-    ensures { λ r. ⌜ ((fills off : List ℕ) (low : ℕ) (g : Settings) → b ≡ (c - low) + getD off i 0 → isPositive lean ≡ leansTo (sight9 (now (flags .entry)) (now (parts .entry)) [] fills off low g) c i → r ≡ arrives (sight9 (now (flags .entry)) (now (parts .entry)) [] fills off low g) c i (wide m)) ⌝ }
-{
-    let f = flags[b];
-    if f > 2 {
-        return parts[9 * c + k];
-    }
-    if (f == 0) | (lean > 0) {
-        return (gas_pair(v, weight9(i), d) - wide(parts[9 * c + k])) as i32;
-    }
-    parts[9 * b + m]
 }
 
 // The parts that stream into a liquid cell, at their places. By pairs, so that the loop unrolls whole.

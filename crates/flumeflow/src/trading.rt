@@ -1,8 +1,6 @@
 // Stage 2: what an interface cell gains from its neighbours.
-use flow::trading::both;
-use flow::trading::difference;
+use flumearrivals::trading::traded9;
 use nine::cells::place;
-use surface::exchange::exchange;
 use whole::wide;
 ghost use mathlib.Core.Path.{_≡_};
 ghost use Prim.Native.Nat.{_<_};
@@ -11,34 +9,7 @@ ghost use Rattle.lattice.specs.declared.Settings.{Settings};
 ghost use Rattle.grid.specs.State.{byFlag};
 ghost use Rattle.grid.specs.inner.Sight.{Around};
 ghost use Rattle.grid.specs.Step.{tradedMass};
-ghost use Rattle.flow.specs.inner.Trade.{Fills, passed};
-ghost use Rattle.flume.specs.inner.Spread.{wide};
-ghost use Rattle.nine.specs.inner.Cells.{partOf9};
-ghost use Rattle.flumeflow.specs.inner.Seen.{sight9, Bodied9, Traders9};
-
-// What cell c gains from cell b in direction k, whose opposite is m.
-fn traded9(
-    flags: &[u8],
-    parts: &[i32],
-    fills: &[u32],
-    c: usize,
-    b: usize,
-    k: usize,
-    m: usize,
-) -> i64
-    requires { ⌜ Bodied9 (now flags) (now parts) × Fills (now flags) (now fills) × (c < length (now flags)) × (b < length (now flags)) × (k < 9) × (m < 9) ⌝ }
-    ensures { λ r. ⌜ r ≡ passed (now (flags .entry)) (partOf9 (now (parts .entry))) (now (fills .entry)) c b (wide k) (wide m) ⌝ }
-{
-    let f = flags[b];
-    let d = difference(parts[9 * b + m], parts[9 * c + k]);
-    if f == 2 {
-        return d;
-    }
-    if f == 1 {
-        return exchange(both(fills[c], fills[b]), d);
-    }
-    0
-}
+ghost use Rattle.flumearrivals.specs.inner.Seen.{sight9, Traders9};
 
 // The mass of interface cell c with what it gains from its neighbours.
 fn traded_mass9(

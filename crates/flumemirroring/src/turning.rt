@@ -4,8 +4,8 @@ use crate::reflection;
 use flume::FlumeSides;
 use grid::Answer;
 use grid::Sides;
-use grid::copying;
 use mirroring::turning;
+use walks::copying;
 ghost use Rattle.grid.specs.State.{lent};
 ghost use Rattle.flumemirroring.specs.Promise.{FlumeMirrored};
 

@@ -18,7 +18,7 @@ use Rattle.grid.specs.inner.Passes.{Amid}
 use Rattle.grid.specs.inner.Sight.{Around}
 use Rattle.grid.proofs.Laid.{inner}
 use Rattle.grid.proofs.Prepared.{cell-body, cell-mass, cell-fill}
-use Rattle.flow.specs.inner.Sources.{Mirrored, Immersed}
+use Rattle.arrivals.specs.inner.Sources.{Mirrored, Immersed}
 use Rattle.flow.proofs.Poise.{fill-cases}
 use Rattle.flume.specs.declared.FlumeSides.{FlumeSides}
 use Rattle.flume.specs.declared.FlumeSettings.{FlumeSettings}
@@ -32,9 +32,9 @@ use Rattle.flumegrid.specs.inner.Ready.{FlumePoised}
 use Rattle.flumegrid.proofs.GoodSides.{few}
 use Rattle.flumegrid.proofs.Offsets.{near-self, place-is, inner-of}
 use Rattle.flumegrid.proofs.Offsets as flumegrid
-use Rattle.flumeflow.specs.inner.Seen.{Bodied9, Traders9}
+use Rattle.flumearrivals.specs.inner.Seen.{Bodied9, Traders9}
 use Rattle.flumepasses.specs.inner.Flowed.{alongSettings}
-use Rattle.flumeflow.proofs.Nines.{part-at, part-none}
+use Rattle.flumearrivals.proofs.Nines.{part-at, part-none}
 
 -- the box's settings with gy = 0
 pub settings-good : (s : FlumeSides) (g : Settings) {flags : List ℕ} {parts masses : List ℤ} {fills : List ℕ} → FlumePoised s (alongSettings g) (lent flags parts masses fills []) → g .gy ≡ pos 0

@@ -17,8 +17,8 @@ use Rattle.grid.specs.inner.Sight.{sight}
 use Rattle.flume.proofs.Flowing.{collided-none}
 use Rattle.nine.specs.inner.Cells.{partOf9, pasted9, Quiet}
 use Rattle.nine.proofs.Pasted.{pasted-here, pasted-other}
-use Rattle.flumeflow.specs.inner.Seen.{sight9}
-use Rattle.flumeflow.proofs.Nines.{part-none}
+use Rattle.flumearrivals.specs.inner.Seen.{sight9}
+use Rattle.flumearrivals.proofs.Nines.{part-none}
 
 by-nothing : (f : ℕ) (x : ℤ) → x ≡ pos 0 → byFlag f (pos 0) x x (pos 0) ≡ pos 0
 by-nothing zero x e = refl

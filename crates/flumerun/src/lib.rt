@@ -1,2 +1,2 @@
-// Layer 2 of the flume, the run: step after step between two lent sets. Knows the promises of flumestep.
+// Layer 2 of the flume, the run: the number of steps, tests at entry, the turns. Knows the promises of flumegrid and flumeturns.
 pub mod running;

@@ -11,7 +11,7 @@ use Rattle.flume.specs.declared.FlumeSettings.{FlumeSettings}
 use Rattle.flume.specs.Flume.{levelSettings, flumeGround}
 use Rattle.flume.specs.Outcome.{flumeEntry, open-outcome}
 use Rattle.flume.specs.Promise.{FlumeStepped}
-use Rattle.flumestep.specs.inner.Finished.{FlumeAdvanced}
+use Rattle.flumestep.specs.inner.Advanced.{FlumeAdvanced}
 
 module _ (s : FlumeSides) (g : FlumeSettings) (a b : Lent) (marks : List ℕ) where
   on-ground : {answer : Answer} {second : Lent} {after : List ℕ} → SteppedOn (flumeGround s) (levelSettings g) a b marks answer second after

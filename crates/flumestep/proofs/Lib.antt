@@ -1,2 +1,2 @@
-pub mod Finishes
+pub mod Advances
 pub mod Entrance

@@ -1,3 +1,3 @@
-// Layer 2 of the flume, the step: tests at entry, the passes in a row, the copy on a refusal. Knows the promises of flumegrid, flumeflow, flumeconversion and flumefills.
+// Layer 2 of the flume, the step: tests at entry, the passes in a row, the copy on a refusal. Knows the promises of flumegrid, flumepasses and flumefinish.
 pub mod marking;
 pub mod stepping;

@@ -1,29 +1,14 @@
-// Pass 0 in the flume, and the settings of its passes.
-use flume::FlumeSettings;
+// Pass 0 in the flume.
 use flume::FlumeSides;
 use flumegrid::neighbours;
 use flumemarks::marks;
-use lattice::Settings;
 ghost use mathlib.Core.Path.{_≡_};
 ghost use mathlib.Core.Bool.{true};
 ghost use lib.ListN.{length};
 ghost use Rattle.whole.specs.Fold.{tab};
 ghost use Rattle.grid.specs.inner.Passes.{openedBy};
-ghost use Rattle.flume.specs.Flume.{flumeSidesGood, flumeCells, levelSettings};
+ghost use Rattle.flume.specs.Flume.{flumeSidesGood, flumeCells};
 ghost use Rattle.flume.specs.inner.Offsets.{flumeLow, flumeOffset};
-
-// The flume's gravity has no y.
-pub(crate) fn level(g: FlumeSettings) -> Settings
-    ensures { λ r. ⌜ r ≡ levelSettings g ⌝ }
-{
-    Settings {
-        p: g.p,
-        gx: g.gx,
-        gy: 0,
-        gz: g.gz,
-        turbulent: g.turbulent,
-    }
-}
 
 // Marks 1 at fluid cells with no wall beside them.
 pub(crate) fn mark_open(flags: &[u8], marks: &mut [u8], s: FlumeSides)

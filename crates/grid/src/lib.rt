@@ -1,13 +1,11 @@
-// Layer 2, the grid: states, neighbours, searches, copies, the normal. Knows the promises of lattice.
+// Layer 2, the grid: states, neighbours, the normal. Knows the promises of lattice.
 pub mod cells;
-pub mod copying;
 pub mod extent;
 pub mod fill;
 pub mod kinds;
 pub mod lengths;
 pub mod neighbours;
 pub mod normal;
-pub mod seeking;
 
 // The sides of a grid, in cells.
 pub struct Sides {

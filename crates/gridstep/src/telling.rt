@@ -2,7 +2,7 @@
 use console::answers::answered;
 use console::answers::refused;
 use console::line;
-use lines::counting::Line;
+use counts::counting::Line;
 use lines::playing::Told;
 
 fn state(text: &[u8], l: Line) {

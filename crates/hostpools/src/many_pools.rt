@@ -1,7 +1,7 @@
 // One pool or three?
 use grid::Sides;
-use pools::answers;
-use pools::asking;
+use tally::answers;
+use tally::asking;
 ghost use Rattle.grid.specs.State.{lent};
 ghost use Rattle.pools.specs.Outcome.{room};
 ghost use Rattle.hostpools.specs.Pools.{PoolsTold};

@@ -1,9 +1,8 @@
 // Pour.
+use acts::answers::acted_moved;
+use acts::answers::acted_number;
+use acts::answers::acted_place;
 use grid::Sides;
-use pumps::acts;
-use pumps::answers::acted_moved;
-use pumps::answers::acted_number;
-use pumps::answers::acted_place;
 ghost use mathlib.Core.Bool.{true};
 ghost use Rattle.grid.specs.State.{lent};
 ghost use Rattle.host.specs.Given.{sidesOf};

@@ -1,7 +1,7 @@
 // The two questions of the surface, over words alone.
 use grid::Sides;
-use index::asking;
-use index::numbers;
+use sweep::asking;
+use sweep::numbers;
 ghost use Rattle.host.specs.Given.{sidesOf};
 ghost use Rattle.hostsurface.specs.Promise.{CountTold, NextTold};
 

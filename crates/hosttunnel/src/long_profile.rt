@@ -1,8 +1,8 @@
 // The chainage profile.
 use grid::Sides;
 use profile::Frame;
-use profile::answers;
-use profile::asking;
+use profiled::answers;
+use profiled::asking;
 use tunnel::Point;
 ghost use Rattle.profile.specs.Profile.{survey};
 ghost use Rattle.hosttunnel.specs.Promise.{frameOf, ProfileTold};

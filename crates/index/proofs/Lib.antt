@@ -3,8 +3,6 @@ pub mod Digits
 pub mod Flagged
 pub mod Questions
 pub mod Answers
-pub mod Sweeps
 pub mod Loaded
 pub mod Indexed
-pub mod SurfaceSwept
 pub mod Unique

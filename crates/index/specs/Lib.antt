@@ -2,5 +2,4 @@ pub mod Index
 pub mod Outcome
 pub mod Held
 pub mod Walked
-pub mod Sweep
 pub mod inner

@@ -1,9 +1,8 @@
 // Layer 2, the index: one bit for each cell, set for interface cells, in words of 64. Knows the promises of grid and pumps.
-pub mod asking;
 pub mod bits;
+pub mod counting;
 pub mod keeping;
 pub mod loading;
-pub mod numbers;
 pub mod words;
 
 // What the question "how many" answers: the interface cells, or the refusal's number and place as document 01 has them.

@@ -16,7 +16,7 @@ use Rattle.record.specs.Reading.{sidesIn, settingsIn, totalsIn, cellsIn, flagIn
 use Rattle.record.proofs.Answers.{chain-both, or-pass, or-fail, whole-there}
 use Rattle.record.proofs.Sections.{chain-shapes, shaped, fitted}
 use Rattle.lines.specs.declared.playing.Told.{Told}
-use Rattle.lines.specs.Counts.{lineOf}
+use Rattle.counts.specs.Counts.{lineOf}
 use Rattle.lines.specs.Told.{recordAnswer, stateBefore, stepOf, stateAfter, refusal, toldOf}
 use Rattle.lines.specs.Demands.{TooLong, TooMany, AsRead, RoomTaken, Repeated}
 use Rattle.lines.proofs.Rooms.{answerWith, room-whole}

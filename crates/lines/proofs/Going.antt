@@ -19,11 +19,12 @@ use Rattle.grid.specs.Promise.{Stepped}
 use Rattle.grid.proofs.Accepted.{accepted-done}
 use Rattle.record.specs.declared.Head.{Head}
 use Rattle.record.specs.Reading.{sidesIn, settingsIn, siteIn, stateIn, readAnswer, readHead, readFlags, readSet}
-use Rattle.lines.specs.declared.counting.Line.{Line}
+use Rattle.counts.specs.declared.counting.Line.{Line}
 use Rattle.lines.specs.declared.playing.Told.{Told}
-use Rattle.lines.specs.Counts.{lineWith}
+use Rattle.counts.specs.Counts.{lineWith}
 use Rattle.lines.specs.Told.{stateBefore, refusal}
-use Rattle.lines.specs.inner.Playing.{totalBy, lineBy, steppedBy, toldBy}
+use Rattle.counts.specs.inner.Totals.{totalBy}
+use Rattle.lines.specs.inner.Playing.{lineBy, steppedBy, toldBy}
 
 -- a carry that passed the machine is what it was
 pub went : {s : Sides} {g : Settings} {flags fills : List ℕ} {parts masses : List ℤ} (k : ℤ) {b x : Lent} {marks left : List ℕ} {before after : Line} {step : Answer}

@@ -1,4 +1,3 @@
-pub mod Addends
 pub mod Rooms
 pub mod Stepping
 pub mod Lines

@@ -14,7 +14,7 @@ use Rattle.record.proofs.Answers.{or-pass}
 use Rattle.record.proofs.Shaped.{sound, fitting, shape-accepted, content-accepted}
 use Rattle.console.specs.Room.{roomFor}
 use Rattle.lines.specs.declared.playing.Told.{Told}
-use Rattle.lines.specs.Counts.{lineOf}
+use Rattle.counts.specs.Counts.{lineOf}
 use Rattle.lines.specs.Told.{recordAnswer, stateBefore, stepOf, stateAfter, refusal, toldOf}
 use Rattle.lines.specs.inner.Playing.{lineBy, steppedBy, toldBy}
 use Rattle.lines.proofs.Rooms.{room-whole, fits-room, Roomy, read-is}

@@ -8,7 +8,8 @@ use Prim.Native.Nat.{ℕ, _+_, _*_, _≤_, _<_}
 use native.Mathlib.Omega.{arith}
 use borrow.Author.Tests.{le-leb, lt-leb, eq-eqb, ne-eqb}
 use lib.Dec.{leb}
-use lib.ListN.{length, getD}
+use lib.ListN.{length, getD, take}
+use lib.Seq.{length-take-le}
 use Rattle.whole.specs.laws.Order.{≤-or}
 use Rattle.grid.specs.declared.Answer.{Answer}
 use Rattle.grid.specs.declared.Answer.the-variants.{Done}
@@ -103,3 +104,7 @@ unfolding readAnswer shapeAnswer
 read-is r most a l =
     opens-same r (sidesGood (sidesIn r)) (slicesFit (cellsIn r) (length (a .parts)) (length (a .masses)) (length (a .fills)) (length (a .carry))) (leb (cellsIn r) most) _
     (λ h g. fits-room r h g most (l .parts) (l .masses) (l .fills) (l .carry))
+
+-- the start of a list is as long as was asked
+pub take-low : {A : Type 0} (n : ℕ) (xs : List A) (k : ℕ) → n ≤ length xs → n ≤ k → length (take n xs) ≤ k
+take-low n xs k h l = omega (arith, length-take-le n xs h)

@@ -31,9 +31,10 @@ use Rattle.record.specs.inner.Passes.{Sound}
 use Rattle.record.proofs.Answers.{or-pass}
 use Rattle.record.proofs.FlagPart.{length-flags}
 use Rattle.record.proofs.Rules.{carry-fair}
-use Rattle.lines.specs.Counts.{massSum, lineWith, lineOf}
+use Rattle.counts.specs.Counts.{massSum, lineWith, lineOf}
 use Rattle.lines.specs.Told.{stateBefore, stepOf, stateAfter}
-use Rattle.lines.specs.inner.Playing.{totalBy, lineBy}
+use Rattle.counts.specs.inner.Totals.{totalBy}
+use Rattle.lines.specs.inner.Playing.{lineBy}
 
 -- a move is accepted, or refused with 7 or 8
 by-tests : (t u : Bool) (p q : ℕ) (x y z : Lent) → byAnswer (orRefuse t 7 p (orRefuse u 8 q Done)) x y z ≡ cond (accepted (orRefuse t 7 p (orRefuse u 8 q Done))) x y

@@ -13,9 +13,9 @@ use Rattle.grid.specs.Good.{badFlag}
 use Rattle.grid.specs.Outcome.{accepted, orRefuse, stepAnswer, nextOf}
 use Rattle.record.specs.Places.{counts}
 use Rattle.record.specs.Reading.{sidesIn, settingsIn, totalsIn, carryIn, cellsIn, flagsIn, flagIn, interfacesIn, liquidsIn, setIn, shapesOn, contentAnswer}
-use Rattle.lines.specs.declared.counting.Line.{Line}
+use Rattle.counts.specs.declared.counting.Line.{Line}
 use Rattle.lines.specs.declared.playing.Told.{Told}
-use Rattle.lines.specs.Counts.{lineOf}
+use Rattle.counts.specs.Counts.{lineOf}
 
 -- more than 65,536 bytes are refused first, 10 at 65,536; then the reader's tests, of which 2 asks that N be at most 862
 unfoldable pub recordAnswer : List ℕ → Answer

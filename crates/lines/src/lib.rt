@@ -1,4 +1,3 @@
-// What gridstep tells: a record read and stepped, and the numbers of its lines. Knows the promises of reading, step and console.
-pub mod counting;
+// What gridstep tells: a record read and stepped, and the numbers of its lines. Knows the promises of counts, reading, step and console.
 pub mod playing;
 pub mod records;

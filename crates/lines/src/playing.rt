@@ -1,7 +1,7 @@
 // One record read and stepped, in slices that are lent for it, and what is to be told of it.
-use crate::counting::Line;
-use crate::counting::counts;
 use console::answers::refused;
+use counts::counting::Line;
+use counts::counting::counts;
 use grid::Answer;
 use grid::Sides;
 use lattice::Settings;

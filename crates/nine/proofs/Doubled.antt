@@ -17,10 +17,10 @@ use Rattle.lattice.specs.declared.Flow.{Flow}
 use Rattle.lattice.specs.Lattice.{dot}
 use Rattle.lattice.specs.Cell.{quad}
 use Rattle.lattice.specs.inner.Held.{vec}
-use Rattle.collision.specs.inner.Estimate.{EndIs, weighed, Near}
-use Rattle.collision.proofs.Bracket.{abs-most, deep, third}
-use Rattle.collision.proofs.Ends.{Brackets, share}
-use Rattle.collision.proofs.Rates.{Fair, calm-of, p-in}
+use Rattle.landings.specs.inner.Estimate.{EndIs, weighed, Near}
+use Rattle.landings.proofs.Bracket.{abs-most, deep, third}
+use Rattle.landings.proofs.Ends.{Brackets, share}
+use Rattle.landings.proofs.Rates.{Fair, calm-of, p-in}
 use Rattle.flume.specs.inner.Spread.{spreadLattice}
 
 -- ---- twice an end

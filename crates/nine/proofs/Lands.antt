@@ -11,8 +11,8 @@ use lib.ListN.{getD}
 use Rattle.lattice.specs.declared.Flow.{Flow}
 use Rattle.lattice.specs.inner.Held.{partsOf, vec}
 use Rattle.lattice.specs.Body.{relaxedDir}
-use Rattle.collision.specs.inner.Estimate.{landed}
-use Rattle.collision.proofs.Landed.{landed-part}
+use Rattle.landings.specs.inner.Estimate.{landed}
+use Rattle.landings.proofs.Landed.{landed-part}
 use Rattle.flume.specs.inner.Spread.{idle, Idle, spreadLattice}
 use Rattle.nine.specs.inner.Cells.{Quiet}
 use Rattle.nine.specs.inner.Ends.{EndsNine}

@@ -18,7 +18,7 @@ use Rattle.lattice.specs.Lattice.{V3, dot, d2q9}
 use Rattle.lattice.specs.Cell.{quad, relaxed}
 use Rattle.lattice.specs.inner.Held.{partsOf}
 use Rattle.lattice.specs.Body.{relaxedDir, collidedPart}
-use Rattle.collision.specs.inner.Estimate.{landed}
+use Rattle.landings.specs.inner.Estimate.{landed}
 use Rattle.flume.specs.inner.Spread.{wide, narrow, idle, spread, Idle, spreadLattice}
 use Rattle.flume.proofs.Places.{by-eight, by-nine, by-idle, spread-at, spread-none, is-spread, narrow-back}
 use Rattle.flume.proofs.Flowing.{relaxed-none}

@@ -1,10 +1,10 @@
 // Stage 4: collision at the flume's weights, in the shape of the box's. An idle part is 0 and stays so.
 use crate::estimate::ends9;
 use crate::weights::weight9;
-use collision::collide::common_of;
-use collision::collide::relaxed_pair;
 use collision::landing::highest;
-use collision::landing::settled;
+use landings::landing::settled;
+use landings::pairs::common_of;
+use landings::pairs::relaxed_pair;
 use lattice::Flow;
 use lattice::directions::dots;
 ghost use mathlib.Core.Path.{_≡_};

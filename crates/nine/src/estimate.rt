@@ -1,7 +1,7 @@
 // p times the eight equilibrium parts, estimated from below with one division a cell: an axis has twice the box's weight, and so twice its end.
-use collision::estimate::axis;
-use collision::estimate::crossed;
-use collision::estimate::rates_of;
+use landings::estimate::axis;
+use landings::estimate::crossed;
+use landings::estimate::rates_of;
 use lattice::Flow;
 ghost use mathlib.Core.Path.{_≡_};
 ghost use mathlib.Core.Bool.{true};

@@ -1,7 +1,7 @@
 // The mark of cells into which every part streams straight in, so that stage 1 need not look where it comes from.
 use grid::Sides;
 use grid::neighbours;
-use grid::seeking;
+use walks::seeking;
 ghost use mathlib.Core.Path.{_≡_};
 ghost use mathlib.Core.Bool.{true};
 ghost use Prim.Native.Nat.{ℕ, _+_, _≤_};

@@ -124,7 +124,7 @@ fn opened(
 }
 
 // Every test of a profile, in order.
-pub(crate) fn tested(
+pub fn tested(
     f: Frame,
     flags: &[u8],
     fills: &[u32],

@@ -1,6 +1,5 @@
 pub mod Effects
 pub mod Checked
-pub mod Working
 pub mod Acting
 pub mod Amounts
 pub mod Balance

@@ -6,11 +6,11 @@ ghost use Rattle.pumps.specs.Acts.{amountGood, movedOf, massOf};
 ghost use Rattle.pumps.specs.inner.Working.{EffectIs};
 
 // Whether the act may be, what it moves, and the mass and the total after it.
-pub(crate) struct Change {
-    pub(crate) good: bool,
-    pub(crate) moved: i64,
-    pub(crate) mass: i32,
-    pub(crate) total: i64,
+pub struct Change {
+    pub good: bool,
+    pub moved: i64,
+    pub mass: i32,
+    pub total: i64,
 }
 
 fn good_amount(a: i64) -> bool
@@ -47,7 +47,7 @@ fn mass_after(pour: bool, mass: i64, moved: i64) -> i64
 }
 
 // Test 16, and the numbers where it passes.
-pub(crate) fn effect(pour: bool, amount: i64, mass: i32, total: i64) -> Change
+pub fn effect(pour: bool, amount: i64, mass: i32, total: i64) -> Change
     requires { ⌜ Within mass 2359296 × Within total 1000000000000000 ⌝ }
     ensures { λ r. ⌜ EffectIs pour amount mass total r ⌝ }
 {

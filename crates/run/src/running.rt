@@ -1,11 +1,11 @@
 // The run: step after step between the two lent sets, first to second and back, until one is refused or all are made.
 use grid::Answer;
 use grid::Sides;
-use grid::copying;
 use lattice::Settings;
 use step::entry;
 use step::sets;
 use step::stepping;
+use walks::copying;
 ghost use mathlib.Core.Path.{_≡_};
 ghost use Rattle.grid.specs.Outcome.{runEntry};
 ghost use Rattle.grid.specs.Promise.{RanTo};

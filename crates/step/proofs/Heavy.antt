@@ -16,7 +16,7 @@ use Rattle.lattice.proofs.Reading.{reading, is-least}
 use Rattle.lattice.specs.inner.Held.{vec, Tame}
 use Rattle.lattice.specs.declared.Flow.{Flow}
 use Rattle.grid.proofs.Same.{density-same}
-use Rattle.flow.proofs.Spans.{short}
+use Rattle.arrivals.proofs.Spans.{short}
 use Rattle.grid.specs.inner.Fill.{Weighty}
 
 -- ---- the formulas of stages 4 and 5

@@ -30,7 +30,7 @@ use Rattle.grid.proofs.Same.{density-same}
 use Rattle.flow.proofs.Collisions.{relaxation-of}
 use Rattle.flow.proofs.Modes.{relax-good}
 use Rattle.flow.proofs.Onward.{collided-seen}
-use Rattle.flow.proofs.Spans.{Light, light-low, streamed-in}
+use Rattle.arrivals.proofs.Spans.{Light, light-low, streamed-in}
 use Rattle.conversion.specs.inner.Born.{TestedOn}
 use Rattle.grid.specs.inner.Fill.{Weighty}
 use Rattle.fills.specs.inner.Filled.{Refilled, fillAt, fairMass, fairAt}

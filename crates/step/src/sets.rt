@@ -1,5 +1,5 @@
 // A lent set as a whole.
-use grid::copying;
+use walks::copying;
 ghost use mathlib.Core.Path.{_≡_};
 ghost use Rattle.grid.specs.State.{lent};
 ghost use Rattle.grid.specs.inner.Halfway.{Alike};

@@ -19,8 +19,8 @@ use Rattle.grid.specs.State.{Scene, liquid, partOf}
 use Rattle.grid.specs.Step.{flagAt, streamedDensity, streamedMomentum, liquidNear, bornDensity, bornMomentum, born}
 use Rattle.grid.specs.inner.Pasted.{pasted}
 use Rattle.grid.specs.inner.Sight.{Bodies, Bodied, bodiesOf, Around, sight, boxSight}
-use Rattle.flow.specs.inner.Sources.{Enclosed}
-use Rattle.flow.specs.inner.Trade.{Fills}
+use Rattle.arrivals.specs.inner.Sources.{Enclosed}
+use Rattle.arrivals.specs.inner.Trade.{Fills}
 use Rattle.conversion.specs.declared.birth.Sum.{Sum}
 
 -- stage 3 has passed: every liquid cell's ρ' and j' are in their ranges; whatever is no wall has all its neighbours, and no fluid cell an empty one

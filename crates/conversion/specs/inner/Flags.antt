@@ -7,7 +7,7 @@ use lib.Dec.{eqb}
 use lib.ListN.{length, getD}
 use Rattle.whole.specs.Fold.{anyDir}
 use Rattle.grid.specs.inner.Passes.{Amid}
-use Rattle.flow.specs.inner.Sources.{Mirrored}
+use Rattle.arrivals.specs.inner.Sources.{Mirrored}
 
 -- whatever is no wall has all its neighbours, and is itself a neighbour of each
 pub record Enclosed (flags off : List ℕ) (low : ℕ) : Type 0 where

@@ -17,8 +17,8 @@ use Rattle.grid.specs.Outcome.{settingsGood}
 use Rattle.grid.specs.inner.Sight.{Bodied, Around}
 use Rattle.grid.specs.inner.Pasted.{pasted}
 use Rattle.flow.specs.declared.moving.Put.{Put}
-use Rattle.flow.specs.inner.Sources.{Mirrored, sourceOf, Immersed, Enclosed}
-use Rattle.flow.specs.inner.Trade.{Fills}
+use Rattle.arrivals.specs.inner.Sources.{Mirrored, sourceOf, Immersed, Enclosed}
+use Rattle.arrivals.specs.inner.Trade.{Fills}
 
 -- what is told of cell c of scene S: the test, and if it passed its density and whether its parts keep test 6's rules
 pub record Told (S : Scene) (c : ℕ) (r : Put) : Type 0 where

@@ -13,11 +13,11 @@ use Rattle.lattice.specs.Body.{bodyGood}
 use Rattle.lattice.specs.declared.Settings.{Settings}
 use Rattle.grid.specs.State.{Scene}
 use Rattle.grid.specs.Step.{liquidNear, born}
-use Rattle.flow.specs.inner.Trade.{Fills}
+use Rattle.arrivals.specs.inner.Trade.{Fills}
 use Rattle.conversion.specs.inner.Born.{TestedOn, newlyBorn, laterPart, laterFair}
 use Rattle.flume.specs.inner.Spread.{spreadLattice}
 use Rattle.nine.specs.inner.Cells.{partOf9, pasted9}
-use Rattle.flumeflow.specs.inner.Seen.{sight9}
+use Rattle.flumearrivals.specs.inner.Seen.{sight9}
 
 -- stage 3 has passed: every liquid cell's ρ' and j' are in their ranges; and whatever is no wall has all its neighbours
 pub record Tested9 (flags : List ℕ) (parts : List ℤ) (fills off : List ℕ) (low : ℕ) (g : Settings) : Type 0 where

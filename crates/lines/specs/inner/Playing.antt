@@ -2,23 +2,19 @@
 use mathlib.Core.Bool.{cond}
 use mathlib.Core.List.{List}
 use Prim.Native.Nat.{ℕ}
-use lib.IntN.{ℤ, pos, _+ℤ_}
+use lib.IntN.{pos}
 use lib.ListN.{getD}
-use Rattle.lattice.specs.Cell.{carryGood}
 use Rattle.lattice.specs.declared.Settings.{Settings}
 use Rattle.grid.specs.declared.Sides.{Sides}
 use Rattle.grid.specs.declared.Answer.the-variants.{Done}
 use Rattle.grid.specs.State.{Lent}
 use Rattle.grid.specs.Outcome.{accepted, stepAnswer, stepSecond}
 use Rattle.record.specs.Reading.{sidesIn, settingsIn, readAnswer}
-use Rattle.lines.specs.declared.counting.Line.{Line}
+use Rattle.counts.specs.declared.counting.Line.{Line}
 use Rattle.lines.specs.declared.playing.Told.{Told}
-use Rattle.lines.specs.Counts.{massSum, lineWith}
+use Rattle.counts.specs.Counts.{lineWith}
+use Rattle.counts.specs.inner.Totals.{totalBy}
 use Rattle.lines.specs.Told.{stateBefore, refusal}
-
--- the total where the carry is in its range, as that of an accepted record and of a step is
-unfoldable pub totalBy : List ℤ → ℤ → ℤ
-totalBy masses carry = cond (carryGood carry) (massSum masses +ℤ carry) (pos 0)
 
 abbrev pub lineBy : Lent → Line
 lineBy a = let carry = getD (a .carry) 0 (pos 0) in lineWith (a .flags) (totalBy (a .masses) carry) carry

@@ -6,7 +6,7 @@ use Prim.Native.Nat.{ℕ, suc, _<_, _≤_}
 use lib.IntN.{ℤ}
 use lib.ListN.{getD}
 use Rattle.lattice.specs.declared.Flow.{Flow}
-use Rattle.collision.specs.inner.Estimate.{Near}
+use Rattle.landings.specs.inner.Estimate.{Near}
 use Rattle.flume.specs.inner.Spread.{idle, spreadLattice}
 
 -- an end of place i that lacks less than 2^20

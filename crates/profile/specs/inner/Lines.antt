@@ -12,7 +12,7 @@ use Rattle.grid.specs.Grid.{sidesGood}
 use Rattle.tunnel.specs.Exact.{Exactly}
 use Rattle.tunnel.specs.Depth.{zeroFloat, toldOf}
 use Rattle.profile.specs.declared.Frame.{Frame}
-use Rattle.profile.specs.declared.writing.Best.{Best}
+use Rattle.profile.specs.declared.Best.{Best}
 use Rattle.profile.specs.Kinds.{lineKind, lineFor}
 use Rattle.profile.specs.Profile.{Survey, survey, seen, depthAt, deepest}
 use Rattle.profile.specs.Outcome.{DepthsOf}

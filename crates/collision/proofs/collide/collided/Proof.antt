@@ -21,8 +21,8 @@ use Rattle.lattice.specs.Body.{relaxedDir}
 use Rattle.lattice.proofs.Ranges.{relaxation-in}
 use Rattle.lattice.proofs.Reading.{reading, inside}
 use Rattle.lattice.proofs.Tame.{steady-tame}
-use Rattle.collision.specs.inner.Estimate.{landed, EndsNear, Mixes, tellsAt}
-use Rattle.collision.proofs.Landed.{room, slack, landed-part}
+use Rattle.landings.specs.inner.Estimate.{landed, EndsNear, Mixes, tellsAt}
+use Rattle.landings.proofs.Landed.{room, slack, landed-part}
 use Rattle.collision.proofs.Turns.{Done, eighteen, begun, more, all-done}
 use Rattle.collision.proofs.collide.collided.Statement.{statement}
 use Rattle.collision.proofs.collide.collided.Tie as tie

@@ -15,7 +15,7 @@ use Rattle.whole.specs.laws.Search.{all-none}
 use Rattle.lattice.specs.inner.Held.{partsOf}
 use Rattle.lattice.proofs.Pairs.{all-pair}
 use Rattle.lattice.proofs.Reading.{inside}
-use Rattle.collision.specs.inner.Estimate.{tells, tellsAt}
+use Rattle.landings.specs.inner.Estimate.{tells, tellsAt}
 use Rattle.collision.proofs.landing.telling.Statement.{statement}
 use Rattle.collision.proofs.landing.telling.Tie as tie
 

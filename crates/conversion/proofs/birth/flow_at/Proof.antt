@@ -9,7 +9,7 @@ use Rattle.lattice.specs.inner.Held.{Bounded}
 use Rattle.lattice.proofs.Momentum.{x-in, y-in, z-in, density-in}
 use Rattle.grid.specs.inner.Sight.{bodiesOf, sight}
 use Rattle.grid.specs.Step.{streamedMomentum}
-use Rattle.flow.proofs.Spans.{light19}
+use Rattle.arrivals.proofs.Spans.{light19}
 use Rattle.grid.specs.State.{partOf}
 use Rattle.conversion.proofs.Births.{wet-low, density-now, momentum-now, bounded-now}
 use Rattle.conversion.proofs.birth.flow_at.Statement.{statement}

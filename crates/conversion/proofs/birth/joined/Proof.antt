@@ -2,7 +2,7 @@
 use borrow.Author.Needs.{needs}
 use mathlib.Core.Path.{_∙_, ap, ap₂}
 use lib.IntN.{ℤ, pos, _+ℤ_}
-use Rattle.flow.proofs.Held.{held32, held64}
+use Rattle.arrivals.proofs.Held.{held32, held64}
 use Rattle.conversion.proofs.birth.joined.Statement.{statement}
 use Rattle.conversion.proofs.birth.joined.Tie as tie
 

@@ -2,7 +2,7 @@
 use borrow.Author.Needs.{needs}
 use mathlib.Core.Path.{_∙_, ap₂}
 use lib.Signed.{quotZ}
-use Rattle.flow.proofs.Held.{held32, held64}
+use Rattle.arrivals.proofs.Held.{held32, held64}
 use Rattle.conversion.proofs.birth.mean.Statement.{statement}
 use Rattle.conversion.proofs.birth.mean.Tie as tie
 

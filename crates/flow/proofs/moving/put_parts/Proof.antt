@@ -8,7 +8,7 @@ use Rattle.grid.specs.State.{liquid}
 use Rattle.grid.specs.inner.Sight.{bodiesOf}
 use Rattle.grid.proofs.Lists.{getD-there}
 use Rattle.flow.proofs.Collisions.{put-dry}
-use Rattle.flow.proofs.Spans.{light19, bounded-streamed}
+use Rattle.arrivals.proofs.Spans.{light19, bounded-streamed}
 use borrow.Author.Needs.{needs}
 use Rattle.flow.proofs.moving.put_parts.Statement.{statement}
 use Rattle.flow.proofs.moving.put_parts.Tie as tie

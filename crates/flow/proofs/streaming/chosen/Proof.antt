@@ -8,8 +8,8 @@ use lib.ListN.{length, getD}
 use Rattle.whole.specs.laws.Tab.{getD-tab, tab-cong}
 use Rattle.lattice.specs.Lattice.{d3q19}
 use Rattle.grid.specs.State.{partOf}
-use Rattle.flow.specs.inner.Sources.{sourceOf}
-use Rattle.flow.proofs.Arrivals.{source-low, at-source, streamed-straight}
+use Rattle.arrivals.specs.inner.Sources.{sourceOf}
+use Rattle.arrivals.proofs.Arrivals.{source-low, at-source, streamed-straight}
 use borrow.Author.Needs.{needs}
 use Rattle.flow.proofs.streaming.chosen.Statement.{statement}
 use Rattle.flow.proofs.streaming.chosen.Tie as tie
@@ -37,8 +37,8 @@ returns c g =
     ∙ ap (λ (n : ℕ). getD (s .args .parts .now) n (pos 0)) (at-source (s .args .off .now) (s .args .low) (s .args .c) k)
     ∙ streamed-straight (d3q19 .weight) (s .args .flags .now) (partOf (s .args .parts .now)) _ _ _ g (s .pre .4) _ (s .pre .2 .from) (s .pre .6 (then1 .if1 .taken)) k h)
 
-streamed-requires : tie.Need-streamed-requires
-streamed-requires c κs = search needs
+streamed-beside-requires : tie.Need-streamed-beside-requires
+streamed-beside-requires c κs = search needs
 
 returns-2 : tie.Need-returns-2
 returns-2 c = search needs
@@ -51,5 +51,5 @@ chosen-spec =
     mul-streamed-open
     streamed-open-requires
     returns
-    streamed-requires
+    streamed-beside-requires
     returns-2)

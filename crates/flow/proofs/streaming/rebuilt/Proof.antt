@@ -17,10 +17,10 @@ use Rattle.lattice.specs.declared.Settings.{Settings}
 use Rattle.grid.specs.State.{partOf, Scene}
 use Rattle.grid.specs.Step.{leansTo, streamed}
 use Rattle.grid.specs.inner.Sight.{Body, boxSight}
-use Rattle.flow.specs.inner.Sources.{Flows}
-use Rattle.flow.proofs.Arrivals.{streamed-rest, streamed-odd, streamed-even}
-use Rattle.flow.proofs.Leans.{leans-is}
-use Rattle.flow.proofs.Spans.{bounded-own, density-own, momentum-own, tame-body}
+use Rattle.arrivals.specs.inner.Sources.{Flows}
+use Rattle.arrivals.proofs.Arrivals.{streamed-rest, streamed-odd, streamed-even}
+use Rattle.arrivals.proofs.Leans.{leans-is}
+use Rattle.arrivals.proofs.Spans.{bounded-own, density-own, momentum-own, tame-body}
 use Rattle.flow.proofs.Stores.{upto-pair}
 use Rattle.flow.proofs.streaming.rebuilt.Statement.{statement}
 use Rattle.flow.proofs.streaming.rebuilt.Tie as tie

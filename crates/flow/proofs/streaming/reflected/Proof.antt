@@ -17,8 +17,8 @@ use Rattle.lattice.specs.declared.Settings.{Settings}
 use Rattle.grid.specs.State.{partOf, Scene}
 use Rattle.grid.specs.Step.{arrives, streamed}
 use Rattle.grid.specs.inner.Sight.{boxSight}
-use Rattle.flow.specs.inner.Sources.{arrivalAt}
-use Rattle.flow.proofs.Arrivals.{arrives-enclosed, streamed-rest, streamed-odd, streamed-even}
+use Rattle.arrivals.specs.inner.Sources.{arrivalAt}
+use Rattle.arrivals.proofs.Arrivals.{arrives-enclosed, streamed-rest, streamed-odd, streamed-even}
 use Rattle.flow.proofs.Stores.{upto-pair}
 use Rattle.flow.proofs.streaming.reflected.Statement.{statement}
 use Rattle.flow.proofs.streaming.reflected.Tie as tie

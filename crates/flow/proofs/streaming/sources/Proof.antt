@@ -5,8 +5,8 @@ use native.Mathlib.Omega.{arith}
 use lib.ListN.{length, replicate, length-set}
 use borrow.Author.Needs.{needs}
 use Rattle.whole.specs.laws.Tab.{Upto, upto-zero, upto-more, upto-all}
-use Rattle.flow.specs.inner.Sources.{sourceOf}
-use Rattle.flow.proofs.Arrivals.{source-is}
+use Rattle.arrivals.specs.inner.Sources.{sourceOf}
+use Rattle.arrivals.proofs.Arrivals.{source-is}
 use Rattle.flow.proofs.streaming.sources.Statement.{statement}
 use Rattle.flow.proofs.streaming.sources.Tie as tie
 

@@ -8,8 +8,8 @@ use mir.Facts.{toZ-ofZ}
 use Rattle.whole.specs.laws.Machine.{machine, any, same, within-by}
 use Rattle.lattice.specs.Cell.{over, under}
 use Rattle.flow.specs.inner.Trade.{markFor}
-use Rattle.flow.proofs.Held.{held64}
-use Rattle.flow.proofs.Trades.{by-other}
+use Rattle.arrivals.proofs.Held.{held64}
+use Rattle.arrivals.proofs.Trades.{by-other}
 use Rattle.flow.proofs.trading.new_mark.Statement.{statement}
 use Rattle.flow.proofs.trading.new_mark.Tie as tie
 

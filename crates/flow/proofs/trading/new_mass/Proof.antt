@@ -11,7 +11,7 @@ use Rattle.grid.specs.Step.{tradedMass}
 use Rattle.grid.specs.inner.Sight.{boxSight}
 use Rattle.grid.proofs.Lists.{getD-there}
 use Rattle.flow.specs.inner.Trade.{tradingOf}
-use Rattle.flow.proofs.Trades.{by-other, mass-within}
+use Rattle.arrivals.proofs.Trades.{by-other, mass-within}
 use Rattle.flow.proofs.trading.new_mass.Statement.{statement}
 use Rattle.flow.proofs.trading.new_mass.Tie as tie
 

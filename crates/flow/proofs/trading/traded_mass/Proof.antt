@@ -11,8 +11,8 @@ use Rattle.whole.specs.laws.Machine.{Val, machine, known, same, does-fit, reads
 use Rattle.lattice.specs.Lattice.{d3q19}
 use Rattle.grid.specs.State.{partOf}
 use Rattle.flow.specs.inner.Trade.{tradingOf}
-use Rattle.flow.proofs.Held.{held32, held64}
-use Rattle.flow.proofs.Trades.{gain, gained, gained-none, gained-all, first-is, second-is, gained-pair, gain-within, gained-within}
+use Rattle.arrivals.proofs.Held.{held32, held64}
+use Rattle.arrivals.proofs.Trades.{gain, gained, gained-none, gained-all, first-is, second-is, gained-pair, gain-within, gained-within}
 use Rattle.flow.proofs.trading.traded_mass.Statement.{statement}
 use Rattle.flow.proofs.trading.traded_mass.Tie as tie
 

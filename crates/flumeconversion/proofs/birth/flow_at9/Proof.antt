@@ -11,7 +11,7 @@ use Rattle.grid.specs.inner.Sight.{sight}
 use Rattle.grid.specs.Step.{streamedMomentum}
 use Rattle.flume.specs.inner.Spread.{spreadLattice}
 use Rattle.nine.specs.inner.Cells.{partOf9}
-use Rattle.flumeflow.proofs.Nines.{light9}
+use Rattle.flumearrivals.proofs.Nines.{light9}
 use Rattle.conversion.proofs.Births.{wet-low, density-now, momentum-now, bounded-now}
 use Rattle.flumeconversion.proofs.birth.flow_at9.Statement.{statement}
 use Rattle.flumeconversion.proofs.birth.flow_at9.Tie as tie

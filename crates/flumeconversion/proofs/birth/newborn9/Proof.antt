@@ -11,7 +11,7 @@ use Rattle.conversion.specs.inner.Born.{newlyBorn, laterFair}
 use Rattle.whole.specs.laws.Search.{all-none, all-more}
 use Rattle.conversion.proofs.Newborns.{Reached, reached-zero, reached-more, reached-past, unborn}
 use Rattle.nine.specs.inner.Cells.{partOf9}
-use Rattle.flumeflow.specs.inner.Seen.{sight9}
+use Rattle.flumearrivals.specs.inner.Seen.{sight9}
 use Rattle.flumeconversion.proofs.Newborns.{visited-size, visited-list}
 use Rattle.flumeconversion.proofs.birth.newborn9.Statement.{statement}
 use Rattle.flumeconversion.proofs.birth.newborn9.Tie as tie

@@ -15,7 +15,7 @@ use Rattle.lattice.proofs.Equal.{eqZ-true}
 use Rattle.flume.specs.inner.Spread.{wide}
 use Rattle.nine.specs.inner.Cells.{partOf9, pasted9}
 use Rattle.nine.proofs.Pasted.{pasted-same}
-use Rattle.flumeflow.proofs.Nines.{part-at, place-low}
+use Rattle.flumearrivals.proofs.Nines.{part-at, place-low}
 use borrow.Author.Needs.{needs}
 use Rattle.flumeflow.proofs.moving.dry_out9.Statement.{statement}
 use Rattle.flumeflow.proofs.moving.dry_out9.Tie as tie

@@ -20,7 +20,7 @@ use Rattle.flume.specs.inner.Spread.{spreadLattice}
 use Rattle.nine.specs.inner.Cells.{partOf9, pasted9}
 use Rattle.nine.proofs.Pasted.{length-pasted9}
 use Rattle.nine.proofs.Places.{quiet-collided}
-use Rattle.flumeflow.proofs.Nines.{density-made}
+use Rattle.flumearrivals.proofs.Nines.{density-made}
 use borrow.Author.Needs.{needs}
 use Rattle.flumeflow.proofs.moving.put_moved9.Statement.{statement}
 use Rattle.flumeflow.proofs.moving.put_moved9.Tie as tie

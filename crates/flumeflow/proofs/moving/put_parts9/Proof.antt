@@ -7,11 +7,11 @@ use lib.ListN.{length, getD}
 use Rattle.grid.specs.State.{liquid}
 use Rattle.grid.proofs.Lists.{getD-there}
 use Rattle.flow.proofs.Collisions.{told-dry, none}
-use Rattle.flow.proofs.Spans.{bounded-streamed}
+use Rattle.arrivals.proofs.Spans.{bounded-streamed}
 use Rattle.flume.specs.inner.Spread.{spreadLattice}
 use Rattle.nine.specs.inner.Cells.{partOf9, pasted9}
 use Rattle.nine.proofs.Pasted.{length-pasted9}
-use Rattle.flumeflow.proofs.Nines.{light9, quiet-streamed}
+use Rattle.flumearrivals.proofs.Nines.{light9, quiet-streamed}
 use borrow.Author.Needs.{needs}
 use Rattle.flumeflow.proofs.moving.put_parts9.Statement.{statement}
 use Rattle.flumeflow.proofs.moving.put_parts9.Tie as tie

@@ -7,11 +7,11 @@ use lib.IntN.{pos}
 use lib.ListN.{getD}
 use Rattle.whole.specs.laws.Tab.{getD-tab}
 use Rattle.lattice.specs.Lattice.{pairOpp}
-use Rattle.flow.proofs.Arrivals.{streamed-straight, opposite-low}
+use Rattle.arrivals.proofs.Arrivals.{streamed-straight, opposite-low}
 use Rattle.flume.specs.inner.Spread.{wide, spreadLattice}
 use Rattle.nine.specs.inner.Cells.{partOf9}
-use Rattle.flumeflow.specs.inner.Seen.{sourceOf9}
-use Rattle.flumeflow.proofs.Nines.{part-at, place-low, at-source, streamed-spread}
+use Rattle.flumearrivals.specs.inner.Seen.{sourceOf9}
+use Rattle.flumearrivals.proofs.Nines.{part-at, place-low, at-source, streamed-spread}
 use borrow.Author.Needs.{needs}
 use Rattle.flumeflow.proofs.streaming.chosen9.Statement.{statement}
 use Rattle.flumeflow.proofs.streaming.chosen9.Tie as tie

@@ -4,8 +4,8 @@ use Prim.Native.Nat.{_-_, _≤_, _<_}
 use native.Mathlib.Omega.{arith}
 use lib.ListN.{length, replicate, length-set}
 use Rattle.whole.specs.laws.Tab.{Upto, upto-zero, upto-more, upto-all}
-use Rattle.flumeflow.specs.inner.Seen.{sourceOf9}
-use Rattle.flumeflow.proofs.Nines.{source-is}
+use Rattle.flumearrivals.specs.inner.Seen.{sourceOf9}
+use Rattle.flumearrivals.proofs.Nines.{source-is}
 use borrow.Author.Needs.{needs}
 use Rattle.flumeflow.proofs.streaming.sources9.Statement.{statement}
 use Rattle.flumeflow.proofs.streaming.sources9.Tie as tie

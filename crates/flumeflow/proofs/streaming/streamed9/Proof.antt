@@ -17,15 +17,15 @@ use Rattle.lattice.specs.Cell.{isPositive}
 use Rattle.grid.specs.State.{Scene}
 use Rattle.grid.specs.Step.{leansTo, arrives, streamed}
 use Rattle.grid.specs.inner.Sight.{Body}
-use Rattle.flow.specs.inner.Sources.{Flows}
-use Rattle.flow.proofs.Arrivals.{streamed-rest, streamed-odd, streamed-even}
-use Rattle.flow.proofs.Leans.{leans-is}
-use Rattle.flow.proofs.Spans.{bounded-own, density-own, momentum-own, tame-body}
+use Rattle.arrivals.specs.inner.Sources.{Flows}
+use Rattle.arrivals.proofs.Arrivals.{streamed-rest, streamed-odd, streamed-even}
+use Rattle.arrivals.proofs.Leans.{leans-is}
+use Rattle.arrivals.proofs.Spans.{bounded-own, density-own, momentum-own, tame-body}
 use Rattle.flume.specs.inner.Spread.{wide, spreadLattice}
 use Rattle.nine.specs.inner.Cells.{partOf9}
 use Rattle.nine.proofs.Places.{Filled, filled-zero, filled-more, filled-all}
-use Rattle.flumeflow.specs.inner.Seen.{sight9}
-use Rattle.flumeflow.proofs.Nines.{Paired, paired, part-at, streamed-spread, filled-pair}
+use Rattle.flumearrivals.specs.inner.Seen.{sight9}
+use Rattle.flumearrivals.proofs.Nines.{Paired, paired, part-at, streamed-spread, filled-pair}
 use borrow.Author.Needs.{sfits-of, needs}
 use Rattle.lattice.specs.declared.Settings.{Settings}
 use Rattle.flumeflow.proofs.streaming.streamed9.Statement.{statement}

@@ -6,8 +6,8 @@ use Rattle.whole.specs.laws.Machine.{Val, machine, does-fit, reads-as}
 use Rattle.lattice.proofs.Reading.{inside}
 use Rattle.grid.specs.Step.{tradedMass}
 use Rattle.grid.proofs.Lists.{getD-there}
-use Rattle.flow.proofs.Trades.{by-other}
-use Rattle.flumeflow.specs.inner.Seen.{sight9, trading9}
+use Rattle.arrivals.proofs.Trades.{by-other}
+use Rattle.flumearrivals.specs.inner.Seen.{sight9, trading9}
 use Rattle.flumeflow.proofs.Gains.{mass-within}
 use borrow.Author.Needs.{needs}
 use Rattle.flumeflow.proofs.trading.new_mass9.Statement.{statement}

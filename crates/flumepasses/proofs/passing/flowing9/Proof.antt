@@ -23,7 +23,7 @@ use Rattle.nine.specs.inner.Cells.{partOf9}
 use Rattle.flumegrid.specs.inner.Ready.{FlumePoised}
 use Rattle.flumegrid.proofs.GoodSides.{few}
 use Rattle.flumegrid.proofs.Offsets.{low-few}
-use Rattle.flumeflow.specs.inner.Seen.{Traders9}
+use Rattle.flumearrivals.specs.inner.Seen.{Traders9}
 use Rattle.flumeflow.specs.inner.PutAt.{Putting9}
 use Rattle.flumepasses.specs.inner.Flowed.{alongSettings, stopped, through}
 use Rattle.flumepasses.proofs.Poise.{settings-good, traders, liquid-inner, mirrored, placed, around, immersed}

@@ -1,7 +1,7 @@
 -- `flumerun::running::admitted`: the number of steps first, then tests 1 to 6. Assumes nothing.
 use borrow.Author.Needs.{needs}
 use mathlib.Core.Path.{_∙_}
-use Rattle.flumerun.proofs.Runs.{refuses-steps, then-entered}
+use Rattle.flumerun.proofs.Admitted.{refuses-steps, then-entered}
 use Rattle.flumerun.proofs.running.admitted.Statement.{statement}
 use Rattle.flumerun.proofs.running.admitted.Tie as tie
 

@@ -1,7 +1,7 @@
 -- `flumerun::running::run`: what does not admit it is answered and nothing is written; else the run of a set that is ready. Assumes nothing.
 use borrow.Author.Needs.{needs}
 use mathlib.Core.Path.{refl, sym, _∙_}
-use Rattle.flumerun.proofs.Runs.{run-stepping, not-admitted, admitted-went}
+use Rattle.flumerun.proofs.Admitted.{run-stepping, not-admitted, admitted-went}
 use Rattle.flumerun.proofs.running.run.Statement.{statement}
 use Rattle.flumerun.proofs.running.run.Tie as tie
 

@@ -1,7 +1,7 @@
 -- `flumestep::stepping::advanced`: a step onto a set whose flags are all 1, of which nothing is known. Assumes nothing.
 use borrow.Author.Needs.{needs}
 use mathlib.Core.Path.{_∙_}
-use Rattle.flumestep.proofs.Finishes.{soiled}
+use Rattle.flumestep.proofs.Advances.{soiled}
 use Rattle.flumestep.proofs.stepping.advanced.Statement.{statement}
 use Rattle.flumestep.proofs.stepping.advanced.Tie as tie
 

@@ -1,7 +1,7 @@
 -- `flumestep::stepping::resumed`: the next state, or after a refusal the copy. Assumes nothing.
 use borrow.Author.Needs.{needs}
 use mathlib.Core.Path.{_∙_}
-use Rattle.flumestep.proofs.Finishes.{alike-sized, refused-advanced, done-advanced}
+use Rattle.flumestep.proofs.Advances.{alike-sized, refused-advanced, done-advanced}
 use Rattle.flumestep.proofs.stepping.resumed.Statement.{statement}
 use Rattle.flumestep.proofs.stepping.resumed.Tie as tie
 

@@ -1,7 +1,7 @@
 -- `flumestep::stepping::tried`: pass 0, pass 1, and the rest where pass 1 went through. Assumes nothing.
 use borrow.Author.Needs.{needs}
 use mathlib.Core.Path.{refl, _∙_}
-use Rattle.flumestep.proofs.Finishes.{flowing, stopped-tried, finishing, tried-finished}
+use Rattle.flumestep.proofs.Advances.{flowing, stopped-tried, finishing, tried-finished}
 use Rattle.flumestep.proofs.stepping.tried.Statement.{statement}
 use Rattle.flumestep.proofs.stepping.tried.Tie as tie
 

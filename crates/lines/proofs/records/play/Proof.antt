@@ -4,7 +4,7 @@ use mathlib.Core.Path.{_≡_, refl, sym, ap, _∙_, subst}
 use Prim.Native.Nat.{ℕ, _*_, _≤_}
 use native.Mathlib.Omega.{arith}
 use lib.Seq.{length-take-le}
-use Rattle.lines.proofs.Addends.{take-low}
+use Rattle.lines.proofs.Rooms.{take-low}
 use Rattle.lines.proofs.Lines.{told-long, told-is}
 use Rattle.lines.proofs.records.play.Statement.{statement}
 use Rattle.lines.proofs.records.play.Tie as tie

@@ -18,8 +18,8 @@ use Rattle.lattice.specs.Body.{relaxedDir}
 use Rattle.lattice.proofs.Reading.{reading, inside}
 use Rattle.lattice.proofs.Table.{dot-opposite, dot-in}
 use Rattle.lattice.proofs.Tame.{widest}
-use Rattle.collision.specs.declared.collide.Common.{Common}
-use Rattle.collision.specs.inner.Post.{Ready, grown, Paired}
+use Rattle.landings.specs.declared.pairs.Common.{Common}
+use Rattle.landings.specs.inner.Pairs.{Ready, grown, Paired}
 use Rattle.collision.proofs.Collision.{ready, formed, turned, formed-is}
 use Rattle.collision.proofs.Turns.{Done, Waiting, eighteen, begun, more, waiting-more, all-done}
 use Rattle.flume.specs.inner.Spread.{spreadLattice}

@@ -16,8 +16,8 @@ use Rattle.lattice.specs.Body.{relaxedDir}
 use Rattle.lattice.proofs.Ranges.{relaxation-in}
 use Rattle.lattice.proofs.Reading.{reading, inside}
 use Rattle.lattice.proofs.Tame.{steady-tame}
-use Rattle.collision.specs.inner.Estimate.{landed, Mixes}
-use Rattle.collision.proofs.Landed.{room, slack}
+use Rattle.landings.specs.inner.Estimate.{landed, Mixes}
+use Rattle.landings.proofs.Landed.{room, slack}
 use Rattle.collision.proofs.Turns.{Done, eighteen, begun, more, all-done}
 use Rattle.flume.specs.inner.Spread.{spreadLattice}
 use Rattle.nine.specs.inner.Ends.{EndsNine}

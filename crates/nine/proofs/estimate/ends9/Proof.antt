@@ -15,11 +15,11 @@ use mir.Facts.{toZ-ofZ}
 use Rattle.whole.specs.laws.Bounds.{abs-neg}
 use Rattle.whole.specs.laws.Machine.{v32, v64, same, reads-as}
 use Rattle.lattice.proofs.Reading.{inside}
-use Rattle.collision.specs.inner.Estimate.{RatesAre, speed, odd, even, energy}
-use Rattle.collision.proofs.Dots.{dot1, dot2, dot5, dot6, dot15, dot16, dot17, dot18}
-use Rattle.collision.proofs.Each.{each18}
-use Rattle.collision.proofs.Rates.{Fair, calm-of, axis-x, axis-z, base-in, joined, turned}
-use Rattle.collision.proofs.Ends.{asks-axis, axis-is, asks-crossed, crossed-is, axis-to, axis-fro, diagonal-to, diagonal-fro, near}
+use Rattle.landings.specs.inner.Estimate.{RatesAre, speed, odd, even, energy}
+use Rattle.landings.proofs.Dots.{dot1, dot2, dot5, dot6, dot15, dot16, dot17, dot18}
+use Rattle.landings.proofs.Each.{each18}
+use Rattle.landings.proofs.Rates.{Fair, calm-of, axis-x, axis-z, base-in, joined, turned}
+use Rattle.landings.proofs.Ends.{asks-axis, axis-is, asks-crossed, crossed-is, axis-to, axis-fro, diagonal-to, diagonal-fro, near}
 use Rattle.flume.specs.inner.Spread.{narrow, idle, spreadLattice}
 use Rattle.nine.specs.inner.Ends.{Told}
 use Rattle.nine.proofs.Doubled.{near-twice, twice-most}

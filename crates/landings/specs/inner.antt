@@ -1,0 +1,3 @@
+-- What inner functions ask and leave. Nothing of it need be believed: a call's own promise says what it gives without it.
+pub mod Pairs
+pub mod Estimate
