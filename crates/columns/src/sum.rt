@@ -11,7 +11,7 @@ use tunnel::cell::number;
 use tunnel::exact::share;
 
 // What a column holds: whether every cell is wall, and the fills of the others added up.
-#[derive(Drop)]
+#[derive(Clone, Copy)]
 pub struct Contents {
     pub solid: bool,
     pub sum: u32,

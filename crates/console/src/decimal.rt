@@ -4,7 +4,7 @@ ghost use Rattle.console.specs.Decimal.{spelled_by};
 ghost use Rattle.console.specs.inner.Digit.{one_more};
 
 // What a text spells: a number, or nothing that can be read as one.
-#[derive(Drop)]
+#[derive(Clone, Copy)]
 pub enum Spelled {
     Number(u64),
     Unreadable,

@@ -6,7 +6,7 @@ ghost use Rattle.console.specs.Signed.{negated, kept, signed_by};
 use crate::decimal::{Spelled, count};
 
 // What a text spells: a number of 64 bits with its sign, or nothing that can be read as one.
-#[derive(Drop)]
+#[derive(Clone, Copy)]
 pub enum Signed {
     Amount(i64),
     Unreadable,

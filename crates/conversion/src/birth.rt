@@ -24,7 +24,7 @@ use walks::seeking::next_of;
 use whole::wide;
 
 // How many cells, and the sums of their density and momentum.
-#[derive(Drop)]
+#[derive(Clone, Copy)]
 pub struct Sum {
     pub n: i64,
     pub rho: i64,

@@ -7,7 +7,7 @@ use lattice::limits::fair_carry;
 use whole::wide;
 
 // A line's numbers, as document 01 orders them.
-#[derive(Drop)]
+#[derive(Clone, Copy)]
 pub struct Line {
     pub fluid: usize,
     pub interface: usize,

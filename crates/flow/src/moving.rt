@@ -25,7 +25,7 @@ use lattice::rules::{all_inside, all_zero};
 use lattice::{Flow, Settings};
 
 // Whether a cell passed stage 3's test; if so, whether its new parts keep test 6's rules, and its density.
-#[derive(Drop)]
+#[derive(Clone, Copy)]
 pub struct Put {
     pub ok: bool,
     pub fair: bool,

@@ -1,4 +1,5 @@
 // The reader of a flume's records. Knows the promises of flumegrid, flumerecord and reading.
+#![tactic(auto)]
 mod content;
 mod fair;
 mod load;

@@ -1,4 +1,5 @@
 // The flume's record: what its head gives, and its flags, for reader and writer. Knows the promises of flume and record.
+#![tactic(auto)]
 pub mod flags;
 pub mod given;
 
@@ -6,7 +7,7 @@ use flume::{FlumeSettings, FlumeSides};
 use grid::Answer;
 
 // Where a flume stands: the edge of a cell and the origin, in millimetres.
-#[derive(Drop)]
+#[derive(Clone, Copy)]
 pub struct FlumeSite {
     pub edge: i64,
     pub x: i64,
@@ -14,7 +15,7 @@ pub struct FlumeSite {
 }
 
 // What the reader answers beside the flags; beside a refusal all its numbers are 0.
-#[derive(Drop)]
+#[derive(Clone, Copy)]
 pub struct FlumeHead {
     pub answer: Answer,
     pub sides: FlumeSides,
@@ -23,7 +24,7 @@ pub struct FlumeHead {
 }
 
 // What the reader hands back: its answer, and the flag section, a part of the caller's own bytes.
-#[derive(Drop)]
+#[derive(Clone, Copy)]
 pub struct FlumeLoaded<'a> {
     pub head: FlumeHead,
     pub flags: &'a [u8],

@@ -1,4 +1,5 @@
 // Layer 2, the grid: states, neighbours, the normal. Knows the promises of lattice.
+#![tactic(auto)]
 pub mod cells;
 pub mod extent;
 pub mod fill;
@@ -8,7 +9,7 @@ pub mod neighbours;
 pub mod normal;
 
 // The sides of a grid, in cells.
-#[derive(Drop)]
+#[derive(Clone, Copy)]
 pub struct Sides {
     pub nx: usize,
     pub ny: usize,
@@ -16,7 +17,7 @@ pub struct Sides {
 }
 
 // A cell's coordinates.
-#[derive(Drop)]
+#[derive(Clone, Copy)]
 pub struct Place {
     pub x: usize,
     pub y: usize,
@@ -24,7 +25,7 @@ pub struct Place {
 }
 
 // What a call answers: done, or the refusal's number and place as document 01 has them.
-#[derive(Drop)]
+#[derive(Clone, Copy)]
 pub enum Answer {
     Done,
     Refused(u8, usize),

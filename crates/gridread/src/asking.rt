@@ -9,7 +9,7 @@ use console::{decimal, signed};
 use tunnel::Point;
 
 // What is asked of a grid.
-#[derive(Drop)]
+#[derive(Clone, Copy)]
 pub enum Request {
     Place(Point),
     CellPoint(usize),
@@ -18,7 +18,7 @@ pub enum Request {
 }
 
 // The word that a request begins with.
-#[derive(Drop)]
+#[derive(Clone, Copy)]
 pub enum Word {
     Place,
     Point,

@@ -1,2 +1,3 @@
 // The C interface of the flume's mirror, over numbers and slices alone.
+#![tactic(auto)]
 pub mod reflected;

@@ -19,7 +19,7 @@ use record::{Head, Site};
 use whole::magnitude;
 
 // How long the lent slices are.
-#[derive(Drop)]
+#[derive(Clone, Copy)]
 pub struct Lengths {
     pub flags: usize,
     pub parts: usize,

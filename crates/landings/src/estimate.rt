@@ -10,7 +10,7 @@ use lattice::Flow;
 use whole::wide;
 
 // What the ends share: p·x/ρ in 2^-33 and p·x/12 in 2^-32 of each component, and the even part of all, p·(2ρ² − 3|j|²)/72ρ, in 2^-32.
-#[derive(Drop)]
+#[derive(Clone, Copy)]
 pub struct Rates {
     pub vx: i64,
     pub vy: i64,
@@ -22,14 +22,14 @@ pub struct Rates {
 }
 
 // The ends of a direction and of its opposite.
-#[derive(Drop)]
+#[derive(Clone, Copy)]
 pub struct Two {
     pub a: u64,
     pub b: u64,
 }
 
 // The ends of two directions that cross, and of their opposites.
-#[derive(Drop)]
+#[derive(Clone, Copy)]
 pub struct Four {
     pub a: u64,
     pub b: u64,

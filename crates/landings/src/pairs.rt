@@ -11,7 +11,7 @@ use whole::wide;
 
 // What the eighteen collisions of a cell share: 2ρ² − 3|j|², −6ρ, −72ρ, 73,728ρ and p.
 // The signs keep 32 x 32 → 64 products on Arm, where a factor known to be positive is widened otherwise.
-#[derive(Drop)]
+#[derive(Clone, Copy)]
 pub struct Common {
     pub base: i64,
     pub six: i32,
@@ -20,7 +20,7 @@ pub struct Common {
     pub p: i64,
 }
 
-#[derive(Drop)]
+#[derive(Clone, Copy)]
 pub struct Pair {
     pub a: i32,
     pub b: i32,

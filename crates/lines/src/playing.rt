@@ -13,7 +13,7 @@ use record::flags;
 use step::stepping;
 
 // The record's answer; and where it is accepted the state's line, the step's answer, and the line of the state after it.
-#[derive(Drop)]
+#[derive(Clone, Copy)]
 pub struct Told {
     pub read: Answer,
     pub before: Line,

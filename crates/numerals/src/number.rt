@@ -6,14 +6,14 @@ ghost use Rattle.numerals.specs.Number.{digit_at, value_to, thousandths_at, ends
 use crate::text::{Kind, all_from, past};
 
 // What a word spells without a sign, in thousandths.
-#[derive(Drop)]
+#[derive(Clone, Copy)]
 pub enum Magnitude {
     Amount(u64),
     Unreadable,
 }
 
 // What a word spells, in thousandths.
-#[derive(Drop)]
+#[derive(Clone, Copy)]
 pub enum Number {
     Thousandths(i64),
     Unreadable,

@@ -4,7 +4,7 @@ ghost use Rattle.numerals.specs.Text.{of_kind, blank, lower, run, every, alike};
 ghost use Rattle.numerals.specs.inner.Places.{word_at, Next, LineIs};
 
 // The kinds of bytes that a run is made of: blanks, bytes of a word, of a line, digits, and the digit 0.
-#[derive(Drop)]
+#[derive(Clone, Copy)]
 pub enum Kind {
     Blank,
     Word,
@@ -14,7 +14,7 @@ pub enum Kind {
 }
 
 // Where a word begins and ends; they are equal if the line has no word more.
-#[derive(Drop)]
+#[derive(Clone, Copy)]
 pub struct Span {
     pub from: usize,
     pub to: usize,

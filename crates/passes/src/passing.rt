@@ -11,7 +11,7 @@ use lattice::Settings;
 use walks::seeking;
 
 // The cell that refusal 7 names; or whether every new part keeps test 6's rules, and whether nothing converts.
-#[derive(Drop)]
+#[derive(Clone, Copy)]
 pub enum Passed {
     Stopped(usize),
     Through(bool, bool),

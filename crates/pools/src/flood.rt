@@ -8,7 +8,7 @@ ghost use Rattle.pools.specs.inner.Flood.{Marked, Touching, Touched, Laying, Sou
 use grid::{Sides, kinds, neighbours};
 
 // How far the scan has come: the queue's length, and the pools found.
-#[derive(Drop)]
+#[derive(Clone, Copy)]
 struct Found {
     pub tail: usize,
     pub pools: usize,

@@ -7,7 +7,7 @@ ghost use Rattle.pumps.specs.inner.Working.{EffectIs};
 use whole::wide;
 
 // Whether the act may be, what it moves, and the mass and the total after it.
-#[derive(Drop)]
+#[derive(Clone, Copy)]
 pub struct Change {
     pub good: bool,
     pub moved: i64,

@@ -1,4 +1,5 @@
 // Layer 2, the grid record: its numbers, counts, sections and flags, for reader and writer. Knows the promises of grid.
+#![tactic(auto)]
 pub mod count;
 pub mod flags;
 pub mod given;
@@ -10,7 +11,7 @@ use grid::{Answer, Sides};
 use lattice::Settings;
 
 // How many numbers sections 1 to 3 hold, and how many of section 7 a liquid cell has.
-#[derive(Drop)]
+#[derive(Clone, Copy)]
 pub struct Counts {
     pub sides: usize,
     pub settings: usize,
@@ -19,7 +20,7 @@ pub struct Counts {
 }
 
 // Where a grid stands: the edge of a cell and the origin, in millimetres.
-#[derive(Drop)]
+#[derive(Clone, Copy)]
 pub struct Site {
     pub edge: i64,
     pub x: i64,
@@ -28,7 +29,7 @@ pub struct Site {
 }
 
 // What the reader answers beside the flags; beside a refusal all its numbers are 0.
-#[derive(Drop)]
+#[derive(Clone, Copy)]
 pub struct Head {
     pub answer: Answer,
     pub sides: Sides,
@@ -37,21 +38,21 @@ pub struct Head {
 }
 
 // What the reader hands back: its answer, and the flag section, a part of the caller's own bytes.
-#[derive(Drop)]
+#[derive(Clone, Copy)]
 pub struct Loaded<'a> {
     pub head: Head,
     pub flags: &'a [u8],
 }
 
 // What the writer answers, with the length of the record; 0 beside a refusal.
-#[derive(Drop)]
+#[derive(Clone, Copy)]
 pub struct Written {
     pub answer: Answer,
     pub bytes: usize,
 }
 
 // Where a part of a slice begins and ends.
-#[derive(Drop)]
+#[derive(Clone, Copy)]
 pub struct Span {
     pub from: usize,
     pub to: usize,

@@ -12,7 +12,7 @@ use step::{entry, sets, stepping};
 use walks::copying;
 
 // How far a run came: the number of leading accepted steps, and the refusal that stopped it.
-#[derive(Drop)]
+#[derive(Clone, Copy)]
 pub struct Ran {
     pub count: usize,
     pub answer: Answer,

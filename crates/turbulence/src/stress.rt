@@ -11,7 +11,7 @@ use lattice::Flow;
 use lattice::moments::{speed_squared, times};
 
 // What the pairs share: 2ρ² − 3|j|², 6ρ, and 2^43/6ρ from below.
-#[derive(Drop)]
+#[derive(Clone, Copy)]
 pub struct Shared {
     pub base: i64,
     pub den: u64,
@@ -19,7 +19,7 @@ pub struct Shared {
 }
 
 // The nine pairs: axes x, y, z, then the six diagonals.
-#[derive(Drop)]
+#[derive(Clone, Copy)]
 pub struct Nine {
     pub x: i32,
     pub y: i32,

@@ -1,4 +1,5 @@
 // Layer 2, the writer of grid records. Knows the promises of record.
+#![tactic(auto)]
 pub mod cells;
 pub mod front;
 mod put;
