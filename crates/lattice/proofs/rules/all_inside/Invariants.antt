@@ -1,0 +1,19 @@
+-- `lattice::rules::all_inside`: part 0, then pair by pair. Assumes nothing.
+use mathlib.Core.Path.{◌≡◌, refl, sym, ◌∙◌, ap, ap₂}
+use mathlib.Core.Bool.{Bool, ◌&&◌}
+use Prim.Native.Nat.{ℕ, ◌-◌, ◌%◌, ◌≤◌}
+use native.Mathlib.Omega.{arith}
+use borrow.Author.Rules.{rules}
+use mir.Syntax.{w32}
+use mir.Facts.{to_z-of_z}
+use Rattle.whole.specs.Fold.{all}
+use Rattle.lattice.specs.inner.Held.{parts_of}
+use Rattle.lattice.proofs.Pairs.{all_one, all-pair}
+use Rattle.lattice.specs.Cell.{part_good}
+use Rattle.lattice.proofs.rules.all_inside.Given as goal
+
+abbrev pub invariant-loop-i : goal.invariant-loop-i
+invariant-loop-i l = (l.i ≤ 19) × (l.i % 2 ≡ 1) × (l.w ≡ all l.i (λ k. part_good (parts_of l.f k)))
+
+abbrev pub decreases-loop-i : goal.decreases-loop-i
+decreases-loop-i l = 19 - l.i
