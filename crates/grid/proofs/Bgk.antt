@@ -131,6 +131,7 @@ module _ (S : Scene) (c : ℕ) (b : Balanced S.lat (streamed_momentum S c)) wher
 
 -- as many errors, each below D
 below_all : (q D : ℕ) (f : ℕ → ℤ) → 0 < q → ((a : ℕ) → a < q → nat_abs (f a) < D) → nat_abs (sum q f) < q * D
+below_all zero D f h k = elim h [ ]
 below_all (suc q) zero f h k = absurd (not-suc-le-zero (k 0 (omega arith)))
 below_all (suc q) (suc D) f h k =
     let b = sum-abs (suc q) f D (λ a m. le_of_suc-le-suc (k a m)) in

@@ -1,7 +1,7 @@
 -- A magnitude below 10^15 as the code casts it: by `n as i64`, and by `!((n - 1) as i64)` behind a minus; and a word by its first byte. Assumes nothing.
 use mathlib.Core.Path.{◌≡◌, refl, ap, ◌∙◌}
 use mathlib.Core.List.{List, [], ◌∷◌}
-use Prim.Native.Nat.{ℕ, suc, ◌-◌, ◌≤◌, ◌<◌}
+use Prim.Native.Nat.{ℕ, zero, suc, ◌-◌, ◌≤◌, ◌<◌}
 use native.Mathlib.Omega.{arith}
 use borrow.Author.Tests.{eq-eqb, ne_eqb}
 use lib.IntN.{pos, neg_ℤ}
@@ -20,6 +20,7 @@ pub plainly : {n : ℕ} → n < 1000000000000000 → to_z w64 n ≡ pos n
 plainly {n} h = to_z_pos w64 n (omega arith)
 
 pub minus : (n : ℕ) → 0 < n → n < 1000000000000000 → to_z w64 (18446744073709551615 - (n - 1)) ≡ neg_ℤ (pos n)
+minus zero p h = elim p [ ]
 minus (suc k) p h =
     let e : 18446744073709551615 - (suc k - 1) ≡ 18446744073709551616 - suc k = omega arith in
     ap (to_z w64) e ∙ to_z-neg w64 k (omega arith)

@@ -1,0 +1,17 @@
+-- `grid::cells::own` reads the nineteen parts of cell c, in order: each turn stores one more. Assumes nothing.
+use mathlib.Core.Path.{◌≡◌, refl}
+use Prim.Native.Nat.{◌+◌, ◌*◌, ◌-◌, ◌≤◌, ◌<◌}
+use native.Mathlib.Omega.{arith}
+use lib.IntN.{pos}
+use lib.ListN.{length, get_or, replicate, length-set}
+use borrow.Author.Rules.{sfits_of, rules}
+use mir.Syntax.{w32}
+use mir.Facts.{to_z-of_z}
+use Rattle.whole.specs.laws.Tab.{Upto, upto_zero, upto-more, upto_all}
+use Rattle.grid.proofs.cells.own.Given as goal
+
+abbrev pub invariant-loop-k : goal.invariant-loop-k
+invariant-loop-k l = (l.k ≤ 19) × (length l.v ≡ 19) × Upto (pos 0) (λ j. get_or l.parts (19 * l.c + j) (pos 0)) l.v l.k
+
+abbrev pub decreases-loop-k : goal.decreases-loop-k
+decreases-loop-k l = 19 - l.k

@@ -1,0 +1,31 @@
+-- `surface::excess::remainder`: what the eighteen cut shares leave of the excess. Assumes nothing.
+use mathlib.Core.Path.{◌≡◌, sym, ◌∙◌, ap, ap₂}
+use mathlib.Core.List.{List, [], ◌∷◌}
+use Prim.Native.Nat.{ℕ, ◌+◌, ◌-◌, ◌*◌, ◌<◌, ◌≤◌}
+use native.Mathlib.Omega.{arith}
+use borrow.Author.Rules.{rules}
+use lib.IntN.{ℤ, nat_abs, ◌+ℤ◌, ◌-ℤ◌, ◌*ℤ◌, +ℤ_idr}
+use lib.Signed.{quot_z}
+use mir.Syntax.{w64}
+use mir.Val.{to_z, of_z}
+use mir.Facts.{to_z-of_z}
+use Rattle.whole.specs.Fold.{sum, dirs}
+use Rattle.whole.specs.laws.Bounds.{abs-sub}
+use Rattle.whole.specs.laws.Ring.{ring-by, quotes}
+use Rattle.whole.specs.laws.Machine.{known, within_by, does-fit, reads_as}
+use Rattle.lattice.specs.Cell.{remainder, cut_share}
+use Rattle.lattice.specs.inner.Held.{parts_of}
+use Rattle.lattice.proofs.Pairs.{off_rest, off-one, off_next, off-dirs}
+use Rattle.lattice.proofs.Reading.{reading}
+use Rattle.surface.proofs.excess.remainder.Given as goal
+
+-- the cut share of direction j, as the code works it out
+abbrev pub part : ℤ → ℤ → List ℤ → ℕ → ℤ
+part e t w j = quot_z (e *ℤ parts_of w j) t
+
+abbrev pub invariant-loop-i : goal.invariant-loop-i
+invariant-loop-i l =
+    (0 < l.i) × (l.i ≤ 19) × (l.r ≡ l.e -ℤ sum l.i (off_rest (part l.e l.t l.w))) × (nat_abs l.r ≤ 4294967296 + l.i * 4294967296000000)
+
+abbrev pub decreases-loop-i : goal.decreases-loop-i
+decreases-loop-i l = 19 - l.i

@@ -1,0 +1,13 @@
+-- `turbulence::root::root`: the number is never below the root, and where its square is not above n it is the root. Assumes nothing.
+use borrow.Author.Rules.{rules}
+use Prim.Native.Nat.{ℕ, zero, suc, ◌+◌, ◌*◌, ◌≤◌, ◌<◌}
+use native.Mathlib.Nat.{div-le_self, mul-le-mul}
+use native.Mathlib.Omega.{arith}
+use Rattle.turbulence.proofs.Roots.{root_by, step-above, step_less}
+use Rattle.turbulence.proofs.root.root.Given as goal
+
+abbrev pub invariant-loop-r : goal.invariant-loop-r
+invariant-loop-r l = (l.n < (l.r + 1) * (l.r + 1)) × (l.r ≤ 1073741824)
+
+abbrev pub decreases-loop-r : goal.decreases-loop-r
+decreases-loop-r l = l.r
