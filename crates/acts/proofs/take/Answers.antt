@@ -1,0 +1,9 @@
+-- `acts::take`: one of the two acts. Assumes nothing.
+use borrow.Author.Rules.{rules}
+use mir.Facts.{to_z-of_z}
+use Rattle.acts.proofs.take.Goals as goal
+
+pub returns : goal.returns
+returns c =
+    let s = c.before.before.before.before.before.before.before.before.before.before.before in
+    rw (to_z-of_z s.ranges.amount) at c.act.ensures

@@ -1,0 +1,16 @@
+-- `conversion::convert::turn_around`: the cell is written first, then the neighbours that the directions 1 to i − 1 lead to. Assumes nothing.
+use borrow.Author.Rules.{rules}
+use mathlib.Core.Path.{◌≡◌, sym, ap, ◌∙◌}
+use mathlib.Core.List.{List}
+use mathlib.Core.Logic.{⊎_elim}
+use Prim.Native.Nat.{ℕ, ◌+◌, ◌-◌, ◌≤◌, ◌<◌}
+use native.Mathlib.Omega.{arith}
+use lib.ListN.{length, get_or, set, length-set}
+use Rattle.conversion.proofs.Around.{partly, partly-first, partly-all, partly-write, partly-keep}
+use Rattle.conversion.proofs.convert.turn_around.Given as goal
+
+abbrev pub invariant-loop-i : goal.invariant-loop-i
+invariant-loop-i l = (0 < l.i) × (l.i ≤ 19) × (length l.next ≡ length l.flags) × ((b : ℕ) → get_or l.next b 0 ≡ partly l.flags l.off l.low l.c l.kind (l.i - 1) (get_or l.initial.next b 0) b)
+
+abbrev pub decreases-loop-i : goal.decreases-loop-i
+decreases-loop-i l = 19 - l.i

@@ -1,0 +1,30 @@
+-- `depths::long::row_length`: what is counted, and the rest of the row, are the whole. Assumes nothing.
+use borrow.Author.Rules.{sfits_of}
+use mathlib.Core.Path.{◌≡◌, ap, ◌∙◌}
+use mathlib.Core.List.{List}
+use Prim.Native.Nat.{ℕ, ◌+◌, ◌-◌, ◌≤◌, ◌<◌}
+use native.Mathlib.Omega.{arith}
+use lib.IntN.{ℤ}
+use lib.ListN.{length}
+use mir.Syntax.{w64}
+use mir.Facts.{to_z-of_z}
+use Rattle.grid.specs.declared.Sides.{Sides}
+use Rattle.grid.proofs.GoodSides.{good-sides}
+use Rattle.spelling.specs.Spelling.{whole_of}
+use Rattle.depths.specs.Map.{depth_at, row_text}
+use Rattle.depths.proofs.Texts.{row-begin, row-step-long, row-none, row-most, whole-most}
+use Rattle.depths.proofs.long.row_length.Given as goal
+
+-- the values of a row
+abbrev pub values : Sides → ℕ → List ℕ → List ℕ → ℕ → ℕ → ℤ
+values s edge flags fills y x = depth_at s edge flags fills x y
+
+abbrev pub row : At-Start → ℕ → ℤ
+row w = let a = w.args in values a.s a.edge a.flags.now a.fills.now a.y
+
+abbrev pub invariant-loop-x : goal.invariant-loop-x
+invariant-loop-x l =
+    (l.x ≤ l.nx) × (l.long + length (row_text (values l.s l.edge l.flags l.fills l.y) l.x (l.nx - l.x)) ≡ length (row_text (values l.s l.edge l.flags l.fills l.y) 0 l.nx))
+
+abbrev pub decreases-loop-x : goal.decreases-loop-x
+decreases-loop-x l = l.nx - l.x

@@ -1,0 +1,33 @@
+-- `depths::put::put_row`: what is stored, and the rest of the row, are the whole. Assumes nothing.
+use borrow.Author.Rules.{sfits_of}
+use mathlib.Core.Path.{◌≡◌, sym, ap, ◌∙◌, subst}
+use mathlib.Core.List.{List, [], ◌∷◌, ◌++◌}
+use Prim.Native.Nat.{ℕ, ◌+◌, ◌-◌, ◌≤◌, ◌<◌}
+use native.Mathlib.Omega.{arith}
+use lib.IntN.{ℤ}
+use lib.ListN.{length}
+use mir.Syntax.{w64}
+use mir.Val.{to_z, of_z}
+use mir.Facts.{to_z-of_z}
+use Rattle.grid.specs.declared.Sides.{Sides}
+use Rattle.grid.proofs.GoodSides.{good-sides}
+use Rattle.spelling.specs.Spelling.{whole_of}
+use Rattle.spelling.proofs.Putting.{put_as}
+use Rattle.depths.specs.Map.{depth_at, behind, row_text}
+use Rattle.depths.proofs.Texts.{row-begin, row_step, row-none}
+use Rattle.depths.proofs.Storing.{Under, under-begin, under-as, under_more, under-end, under-long, under-room}
+use Rattle.depths.proofs.put.put_row.Given as goal
+
+-- the values of a row
+abbrev pub values : Sides → ℕ → List ℕ → List ℕ → ℕ → ℕ → ℤ
+values s edge flags fills y x = depth_at s edge flags fills x y
+
+abbrev pub row : At-Start → ℕ → ℤ
+row w = let a = w.args in values a.s a.edge a.flags.now a.fills.now a.y
+
+abbrev pub invariant-loop-x : goal.invariant-loop-x
+invariant-loop-x l =
+    (l.x ≤ l.nx) × Under (row_text (values l.s l.edge l.flags l.fills l.y) 0 l.nx) l.initial.room l.at (row_text (values l.s l.edge l.flags l.fills l.y) l.x (l.nx - l.x)) l.room l.p
+
+abbrev pub decreases-loop-x : goal.decreases-loop-x
+decreases-loop-x l = l.nx - l.x

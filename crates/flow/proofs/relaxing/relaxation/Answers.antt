@@ -1,0 +1,71 @@
+-- `flow::relaxing::relaxation`: p, or the cell's own by its stress. Assumes nothing.
+use mathlib.Core.Path.{◌≡◌, ap, ◌∙◌}
+use mathlib.Core.Bool.{true}
+use mir.Syntax.{w64}
+use mir.Val.{to_z, of_z}
+use mir.Facts.{to_z-of_z}
+use borrow.Author.Tests.{not-true, not-false}
+use Rattle.lattice.specs.Cell.{relaxation_good}
+use Rattle.turbulence.proofs.Laws.{keeps-none}
+use Rattle.flow.proofs.Collisions.{relaxation-of}
+use Rattle.flow.proofs.Paces.{plain-is, own_is}
+use Rattle.flow.proofs.relaxing.relaxation.Lts as lts
+use Rattle.flow.proofs.relaxing.relaxation.Reads as reads
+use Rattle.flow.proofs.relaxing.relaxation.Tie as tie
+use Rattle.flow.proofs.relaxing.relaxation.Goals as goal
+
+abbrev At-Start : Type 0
+At-Start = lts.Start tie.the-claims reads.Pre reads.Post
+
+abbrev At-Then-not-g : Type 0
+At-Then-not-g = lts.Then1 tie.the-claims reads.Pre reads.Post
+
+abbrev At-Else-not-g : Type 0
+At-Else-not-g = lts.Else1 tie.the-claims reads.Pre reads.Post
+
+abbrev At-After-struct_told-then-surface-1 : Type 0
+At-After-struct_told-then-surface-1 = lts.After-struct_told2 tie.the-claims reads.Pre reads.Post
+
+abbrev At-After-struct_told-2-1 : Type 0
+At-After-struct_told-2-1 = lts.After-struct_told3 tie.the-claims reads.Pre reads.Post
+
+good : (s : At-Start) → relaxation_good s.args.g.p ≡ true
+good s = relaxation-of s.args.g s.requires.2
+
+pub returns-then-not-g : goal.returns-then-not-g
+returns-then-not-g c =
+    let then1 : At-Then-not-g = search in let s : At-Start = search in
+    let e : to_z w64 (of_z w64 s.args.g.p) ≡ s.args.g.p = to_z-of_z (record { sfits = c.struct_told-1.given.0.1 }) in
+    (e ∙ plain-is _ _ _ _ _ _ (not-true _ then1.if-not-g.true), ap relaxation_good e ∙ good s)
+
+pub own_relaxation-requires : goal.own_relaxation-requires
+own_relaxation-requires c =
+    let s : At-Start = search in
+    let e : to_z w64 (of_z w64 s.args.g.p) ≡ s.args.g.p = to_z-of_z (record { sfits = c.struct_told-then-surface-1.given.0.1 }) in
+    (s.requires.0, s.requires.1, ap relaxation_good e ∙ good s, rw e (keeps-none s.args.g.p (good s)))
+
+pub returns-then-surface : goal.returns-then-surface
+returns-then-surface c =
+    let else1 : At-Else-not-g = search in let t : At-After-struct_told-then-surface-1 = search in
+    let s : At-Start = search in
+    let e : to_z w64 (of_z w64 s.args.g.p) ≡ s.args.g.p = to_z-of_z (record { sfits = t.struct_told-then-surface-1.given.0.1 }) in
+    let r : to_z w64 (of_z w64 c.own_relaxation.result) ≡ c.own_relaxation.result = to_z-of_z (record { sfits = c.own_relaxation.type_inv }) in (
+      r ∙ rw e at c.own_relaxation.ensures.0 ∙ own_is _ _ _ _ _ _ (not-false _ else1.if-not-g.false),
+      ap relaxation_good r ∙ c.own_relaxation.ensures.1,
+    )
+
+pub own_relaxation-requires-2 : goal.own_relaxation-requires-2
+own_relaxation-requires-2 c =
+    let s : At-Start = search in
+    let e : to_z w64 (of_z w64 s.args.g.p) ≡ s.args.g.p = to_z-of_z (record { sfits = c.struct_told-2-1.given.0.1 }) in
+    (s.requires.0, s.requires.1, ap relaxation_good e ∙ good s, rw e s.requires.3)
+
+pub returns : goal.returns
+returns c =
+    let else1 : At-Else-not-g = search in let t : At-After-struct_told-2-1 = search in
+    let s : At-Start = search in
+    let e : to_z w64 (of_z w64 s.args.g.p) ≡ s.args.g.p = to_z-of_z (record { sfits = t.struct_told-2-1.given.0.1 }) in
+    let r : to_z w64 (of_z w64 c.own_relaxation-2.result) ≡ c.own_relaxation-2.result = to_z-of_z (record { sfits = c.own_relaxation-2.type_inv }) in (
+      r ∙ rw e at c.own_relaxation-2.ensures.0 ∙ own_is _ _ _ _ _ _ (not-false _ else1.if-not-g.false),
+      ap relaxation_good r ∙ c.own_relaxation-2.ensures.1,
+    )

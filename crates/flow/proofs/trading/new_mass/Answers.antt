@@ -1,0 +1,52 @@
+-- `flow::trading::new_mass`: the traded mass of an interface cell fits 32 bits; any other cell's is the density. Assumes nothing.
+use borrow.Author.Rules.{rules}
+use mathlib.Core.Path.{◌≡◌, sym, ◌∙◌}
+use lib.ListN.{get_or}
+use mir.Facts.{to_z-of_z}
+use Rattle.whole.specs.laws.Machine.{Val, machine, does-fit, reads_as}
+use Rattle.lattice.specs.Lattice.{d3q19}
+use Rattle.lattice.proofs.Reading.{inside}
+use Rattle.grid.specs.State.{part_of}
+use Rattle.grid.specs.Step.{traded_mass}
+use Rattle.grid.specs.inner.Sight.{box_sight}
+use Rattle.grid.proofs.Lists.{get_or-there}
+use Rattle.flow.specs.inner.Trade.{trading_of}
+use Rattle.arrivals.proofs.Trades.{by-other, mass-within}
+use Rattle.flow.proofs.trading.new_mass.Lts as lts
+use Rattle.flow.proofs.trading.new_mass.Reads as reads
+use Rattle.flow.proofs.trading.new_mass.Tie as tie
+use Rattle.flow.proofs.trading.new_mass.Goals as goal
+
+abbrev At-Then-flags-c-eq1 : Type 0
+At-Then-flags-c-eq1 = lts.Then1 tie.the-claims reads.Pre reads.Post
+
+abbrev At-Start : Type 0
+At-Start = lts.Start tie.the-claims reads.Pre reads.Post
+
+abbrev At-After-traded_mass : Type 0
+At-After-traded_mass = lts.After-traded_mass tie.the-claims reads.Pre reads.Post
+
+-- an interface cell, as the code reads it
+interface : (c : At-Then-flags-c-eq1) → let s = c.before.before.before.before in get_or s.args.flags.now s.args.c 3 ≡ 1
+interface c = let s : At-Start = search in get_or-there s.args.flags.now s.args.c 3 0 s.requires.1 ∙ c.if-flags-c-eq1.true
+
+abbrev mass-of : (c : At-After-traded_mass) → Val c.traded_mass.result
+mass-of c =
+    let s : At-Start = search in
+    inside (mass-within s.args.flags.now (part_of s.args.parts.now) s.args.masses.now s.args.fills.now s.args.off.now s.args.low s.args.c (trading_of s.requires.0) (s.requires.2 (interface c.before)) (interface c.before) d3q19.weight _ c.traded_mass.ensures)
+
+pub traded_mass-requires : goal.traded_mass-requires
+traded_mass-requires c = let s : At-Start = search in (s.requires.0, s.requires.2 (interface c.before), interface c.before)
+
+pub overflow_cast-result : goal.overflow_cast-result
+overflow_cast-result c = let m = mass-of c.before in does-fit (search machine depth 20) tt
+
+pub returns-then-flags-c-eq1 : goal.returns-then-flags-c-eq1
+returns-then-flags-c-eq1 c g = let m = mass-of c.before in rw (interface (search)) (reads_as (search machine depth 20) tt ∙ c.traded_mass.ensures g)
+
+pub returns : goal.returns
+returns c g =
+    let s : At-Start = search in
+    to_z-of_z s.ranges.rho
+    ∙ sym (by-other (get_or s.args.flags.now s.args.c 3) s.args.rho (traded_mass (box_sight s.args.flags.now s.args.parts.now s.args.masses.now s.args.fills.now s.args.off.now s.args.low g) s.args.c)
+    (λ e. c.if-flags-c-eq1.false (get_or-there s.args.flags.now s.args.c 0 3 s.requires.1 ∙ e)))

@@ -1,0 +1,57 @@
+-- `flumefinish::finishing::judged` is test 8: test 6's search over the second set. Assumes nothing.
+use borrow.Author.Rules.{sfits_of}
+use mathlib.Core.Path.{◌≡◌, refl, sym, ap, ◌∙◌}
+use Prim.Native.Nat.{ℕ, suc}
+use native.Mathlib.Omega.{arith}
+use lib.ListN.{length}
+use mir.Syntax.{w64}
+use mir.Facts.{to_z-of_z}
+use Rattle.lattice.specs.Lattice.{d2q9}
+use Rattle.grid.specs.declared.Answer.TheVariants.{Done, Refused}
+use Rattle.grid.specs.State.{Lent, lent, state_of}
+use Rattle.grid.specs.Good.{bad_rule}
+use Rattle.grid.proofs.Accepted.{skip}
+use Rattle.grid.proofs.Checks.{stop}
+use Rattle.flumegrid.proofs.Checks.{one-carry}
+use Rattle.flumefinish.proofs.finishing.judged.Lts as lts
+use Rattle.flumefinish.proofs.finishing.judged.Reads as reads
+use Rattle.flumefinish.proofs.finishing.judged.Tie as tie
+use Rattle.flumefinish.proofs.finishing.judged.Goals as goal
+
+abbrev At-Start : Type 0
+At-Start = lts.Start tie.the-claims reads.Pre reads.Post
+
+abbrev At-After-first_bad9-d : Type 0
+At-After-first_bad9-d = lts.After-first_bad9 tie.the-claims reads.Pre reads.Post
+
+abbrev At-After-first_bad9-arg-1 : Type 0
+At-After-first_bad9-arg-1 = lts.After-first_bad9-arg tie.the-claims reads.Pre reads.Post
+
+abbrev second : At-Start → Lent
+second w = lent w.args.flags2.now w.args.parts2.now w.args.masses2.now w.args.fills2.now w.args.carry2.now
+
+abbrev broken : At-Start → ℕ
+broken w = bad_rule d2q9 (length w.args.flags2.now) (state_of 8 (second w))
+
+place : (d : At-After-first_bad9-d) → d.first_bad9-d.result ≡ broken d.before.before.before.before
+place d =
+    let after-first-bad9-arg : At-After-first_bad9-arg-1 = search in let w : At-Start = search in
+    d.first_bad9-d.ensures ∙ one-carry _ (second w) _ (to_z-of_z {w = w64} (sfits_of {w = w64} after-first-bad9-arg.first_bad9-arg-1.given))
+
+pub bounds-carry2-0 : goal.bounds-carry2-0
+bounds-carry2-0 c = let start : At-Start = search in omega (arith, start.requires.carry)
+
+pub first_bad9-d-requires : goal.first_bad9-d-requires
+first_bad9-d-requires c = let start : At-Start = search in let p = start.requires in record { flags = p.flags; parts = p.parts; masses = p.masses; fills = p.fills; carry = refl }
+
+pub returns-then-d-flags2 : goal.returns-then-d-flags2
+returns-then-d-flags2 c =
+    let w : At-Start = search in
+    let e = place (search) in
+    sym (stop (suc (length w.args.flags2.now)) 8 (broken w) Done (omega (arith, c.if-d-flags2.true)) ∙ ap (Refused 8) (sym e))
+
+pub returns : goal.returns
+returns c =
+    let w : At-Start = search in
+    let e = place (search) in
+    sym (skip (suc (length w.args.flags2.now)) 8 (broken w) Done (omega (arith, c.if-d-flags2.false)))

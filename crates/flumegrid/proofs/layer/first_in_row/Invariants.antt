@@ -1,0 +1,18 @@
+-- `flumegrid::layer::first_in_row`: no cell of the row that was passed breaks the rule. Assumes nothing.
+use borrow.Author.Rules.{rules}
+use borrow.Author.Count.{below_more}
+use mathlib.Core.Path.{◌≡◌, sym, ◌∙◌}
+use mathlib.Core.Bool.{false}
+use Prim.Native.Nat.{ℕ, ◌+◌, ◌-◌, ◌≤◌, ◌<◌}
+use native.Mathlib.Omega.{arith}
+use native.Mathlib.Nat.{not-suc-le-zero}
+use Rattle.flumegrid.specs.inner.Layer.{bad_at}
+use Rattle.flumegrid.proofs.GoodSides.{few}
+use Rattle.flumegrid.proofs.Rows.{tested, row-cell}
+use Rattle.flumegrid.proofs.layer.first_in_row.Given as goal
+
+abbrev pub invariant-loop-x : goal.invariant-loop-x
+invariant-loop-x l = (l.x ≤ l.s.nx) × ((k : ℕ) → k < l.x → bad_at l.s l.flags (l.c + k) ≡ false)
+
+abbrev pub decreases-loop-x : goal.decreases-loop-x
+decreases-loop-x l = l.s.nx - l.x

@@ -1,0 +1,16 @@
+-- `flumewriting::front::put_carry` writes section 4. Assumes nothing.
+use borrow.Author.Rules.{rules}
+use mathlib.Core.Path.{refl}
+use mir.Syntax.{w64}
+use Rattle.record.specs.Bytes.{bytes_of, join, u32_of}
+use Rattle.record.proofs.Numbers.{then-signed}
+use Rattle.flumewriting.proofs.front.put_carry.Goals as goal
+
+pub returns : goal.returns
+unfolding bytes_of join
+returns c =
+    let first = c.before.before.before in
+    let counted = first.before.before.before.before in
+    let d = counted.before.before.before in
+    let a = d.args in
+    then-signed 8 w64 w64 a.room.now 52 56 (u32_of 1) a.carry counted.put_count.ensures first.put_i64.ensures d.ranges.carry.sfits refl

@@ -1,0 +1,17 @@
+-- `flumewriting::front::put_origin` writes section 3, number after number. Assumes nothing.
+use borrow.Author.Rules.{rules}
+use mathlib.Core.Path.{refl}
+use mathlib.Core.List.{◌++◌}
+use mir.Syntax.{w64}
+use Rattle.record.specs.Bytes.{bytes_of, join, u32_of, i64_of}
+use Rattle.record.proofs.Numbers.{then-signed}
+use Rattle.flumewriting.proofs.front.put_origin.Goals as goal
+
+pub returns : goal.returns
+unfolding bytes_of join
+returns c =
+    let a = c.args in
+    let l = a.room.now in
+    let t = c.struct_told-2-1.given in
+    let one = then-signed 8 w64 w64 l 32 36 (u32_of 2) a.t.x c.put_count.ensures c.put_i64.ensures t.1.0.1 refl in
+    then-signed 8 w64 w64 l 32 44 (u32_of 2 ++ i64_of a.t.x) a.t.z one c.put_i64-2.ensures t.1.1.0.1 refl

@@ -1,0 +1,7 @@
+-- `gridread::telling::tell_depth`: a depth is a whole number of its parts. Assumes nothing.
+use borrow.Author.Rules.{rules}
+use Rattle.gridread.proofs.Few.{depth-parts}
+use Rattle.gridread.proofs.telling.tell_depth.Goals as goal
+
+pub shares-requires : goal.shares-requires
+shares-requires c = depth-parts _ _ _ _ _ _ c.column_depth.ensures c.in-Deep.is

@@ -1,0 +1,14 @@
+-- `heights::rows::tail`: byte by byte, with the line. Assumes nothing.
+use borrow.Author.Rules.{rules}
+use mathlib.Core.Path.{◌≡◌, refl, sym, ◌∙◌}
+use Prim.Native.Nat.{◌-◌, ◌≤◌}
+use native.Mathlib.Omega.{arith}
+use lib.ListN.{length}
+use Rattle.heights.proofs.Rowing.{Tailing, tail_more, tail-stop, tail-end}
+use Rattle.heights.proofs.rows.tail.Given as goal
+
+abbrev pub invariant-loop-p : goal.invariant-loop-p
+invariant-loop-p l = Tailing l.s l.at l.line l.p l.i
+
+abbrev pub decreases-loop-p : goal.decreases-loop-p
+decreases-loop-p l = length l.s - l.p

@@ -1,0 +1,13 @@
+-- `hostflumerecord::read::skw_flume_read`: the reader's own promise, its head told number by number and its flags as a span. Assumes nothing.
+use borrow.Author.Rules.{rules}
+use Rattle.hostflumerecord.proofs.Told.{read_told}
+use Rattle.hostflumerecord.proofs.read.skw_flume_read.Goals as goal
+
+pub returns : goal.returns
+returns c =
+    let site = c.before.before.before in
+    let settings = site.before.before.before.before in
+    let sides = settings.before.before.before.before in
+    let span = sides.before.before.before in
+    read_told span.read-h.ensures span.span-f.ensures c.number_of.ensures c.place_of.ensures
+    sides.put_sides.ensures settings.put_settings.ensures site.put_site.ensures

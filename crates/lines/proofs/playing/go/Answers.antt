@@ -1,0 +1,20 @@
+-- `lines::playing::go` tells a state, its step, and the state after it, whose slices kept their lengths. Assumes nothing.
+use borrow.Author.Rules.{rules}
+use native.Mathlib.Omega.{arith}
+use lib.IntN.{pos}
+use lib.ListN.{get_or}
+use Rattle.lines.proofs.Going.{went}
+use Rattle.lines.proofs.playing.go.Goals as goal
+
+pub slice_copy_out-counts : goal.slice_copy_out-counts
+slice_copy_out-counts c = omega (arith, c.carry2-1.given, c.requires.carry2_len)
+
+pub counts-after-requires : goal.counts-after-requires
+counts-after-requires c = omega (arith, c.masses2-1.given, c.requires.masses2_len_bound)
+
+pub returns : goal.returns
+returns c =
+    let first = c.before.before.before.before.before.before.before.before.before.before.before.before.before.before.before.before.before.before.before.before.before.before in
+    let start = first.before.before.before.before.before.before.before.before in
+    went (get_or start.args.carry.now 0 (pos 0)) (record { sfits = first.counts-arg-1.given }) (record { sfits = c.counts-arg5.given })
+    first.counts-before.ensures c.step-step.ensures c.counts-after.ensures

@@ -1,0 +1,61 @@
+-- `lines::records::play` lends the parts of its room that the record asks for, and a record too long none. Assumes nothing.
+use borrow.Author.Rules.{rules}
+use mathlib.Core.Path.{◌≡◌, refl, sym, ap, ◌∙◌, subst}
+use Prim.Native.Nat.{ℕ, ◌*◌, ◌≤◌}
+use native.Mathlib.Omega.{arith}
+use lib.Seq.{length-take-le}
+use Rattle.lines.proofs.Rooms.{take-low}
+use Rattle.lines.proofs.Lines.{told-long, told_is}
+use Rattle.lines.proofs.records.play.Goals as goal
+
+pub returns-then-rec-gt65536 : goal.returns-then-rec-gt65536
+returns-then-rec-gt65536 c = c.refuse.ensures ∙ told-long _ c.if-rec-gt65536.true
+
+pub slice_bounds-play-end : goal.slice_bounds-play-end
+slice_bounds-play-end c = sym (length-take-le _ _ (omega arith))
+
+pub slice_bounds-play-end-2 : goal.slice_bounds-play-end-2
+slice_bounds-play-end-2 c = sym (length-take-le _ _ (omega arith))
+
+pub slice_bounds-play-end-3 : goal.slice_bounds-play-end-3
+slice_bounds-play-end-3 c = sym (length-take-le _ _ (omega arith))
+
+pub slice_bounds-play-end-5 : goal.slice_bounds-play-end-5
+slice_bounds-play-end-5 c = sym (length-take-le _ _ (omega arith))
+
+pub slice_bounds-play-end-6 : goal.slice_bounds-play-end-6
+slice_bounds-play-end-6 c = sym (length-take-le _ _ (omega arith))
+
+pub slice_bounds-play-end-7 : goal.slice_bounds-play-end-7
+slice_bounds-play-end-7 c = sym (length-take-le _ _ (omega arith))
+
+pub slice_bounds-play-end-8 : goal.slice_bounds-play-end-8
+slice_bounds-play-end-8 c = sym (length-take-le _ _ (omega arith))
+
+pub slice_bounds-play-end-10 : goal.slice_bounds-play-end-10
+slice_bounds-play-end-10 c = sym (length-take-le _ _ (omega arith))
+
+pub play-requires : goal.play-requires
+play-requires c =  record { masses_len_bound = take-low c.room-n.result _ 862 (omega arith) (omega arith); masses2_len_bound = subst (λ (k : ℕ). k ≤ 862) (slice_bounds-play-end-7 c.before.before.before.before) (omega arith); carry_len = refl; carry2_len = refl }
+
+pub returns : goal.returns
+returns c =
+    let m = c.before.before.before.before.before.before.before.before.before.before.before.before in
+    let room = m.room-n.ensures.value in
+    let parts = ap (λ (n : ℕ). 19 * n) room in
+    c.play.ensures
+    ∙ told_is _ _ _ _ (omega (arith, c.if-rec-gt65536.false))
+    (record {
+      parts = sym (slice_bounds-play-end m.before.before.before.before.before.before.before.before.before) ∙ parts;
+      masses = sym (slice_bounds-play-end-2 m.before.before.before.before.before.before.before.before) ∙ room;
+      fills = sym (slice_bounds-play-end-3 m.before.before.before.before.before.before.before) ∙ room;
+      carry = refl;
+    })
+    (record {
+      flags = sym (slice_bounds-play-end-5 m.before.before.before.before.before) ∙ room;
+      parts = sym (slice_bounds-play-end-6 m.before.before.before.before) ∙ parts;
+      masses = sym (slice_bounds-play-end-7 m.before.before.before) ∙ room;
+      fills = sym (slice_bounds-play-end-8 m.before.before) ∙ room;
+      carry = refl;
+      marked = sym (slice_bounds-play-end-10 m) ∙ room;
+    })

@@ -1,0 +1,17 @@
+-- `nine::cells::own9` reads the nine parts of cell c to their places: each turn stores one more. Assumes nothing.
+use mathlib.Core.Path.{◌≡◌}
+use Prim.Native.Nat.{ℕ, ◌+◌, ◌*◌, ◌-◌, ◌≤◌, ◌<◌}
+use native.Mathlib.Omega.{arith}
+use lib.IntN.{pos}
+use lib.ListN.{get_or}
+use borrow.Author.Rules.{sfits_of, rules}
+use mir.Syntax.{w32}
+use mir.Facts.{to_z-of_z}
+use Rattle.nine.proofs.Places.{Filled, filled_zero, filled_more, filled-all}
+use Rattle.nine.proofs.cells.own9.Given as goal
+
+abbrev pub invariant-loop-k : goal.invariant-loop-k
+invariant-loop-k l = Filled (λ (j : ℕ). get_or l.parts (9 * l.c + j) (pos 0)) l.v l.k
+
+abbrev pub decreases-loop-k : goal.decreases-loop-k
+decreases-loop-k l = 9 - l.k

@@ -1,0 +1,15 @@
+-- `pools::flood::flood`: every liquid cell below c has its mark. Assumes nothing.
+use borrow.Author.Rules.{rules}
+use mathlib.Core.Path.{sym, ap, ◌∙◌}
+use Prim.Native.Nat.{ℕ, ◌-◌, ◌≤◌}
+use native.Mathlib.Omega.{arith}
+use lib.ListN.{length, replicate}
+use Rattle.pools.specs.inner.Flood.{Flooded}
+use Rattle.pools.proofs.Scanning.{flooded-first, finished}
+use Rattle.pools.proofs.flood.flood.Given as goal
+
+abbrev pub invariant-loop-c : goal.invariant-loop-c
+invariant-loop-c l = (l.c ≤ length l.flags) × Flooded l.s l.flags l.marks l.work l.c l.found.tail l.found.pools
+
+abbrev pub decreases-loop-c : goal.decreases-loop-c
+decreases-loop-c l = length l.flags - l.c

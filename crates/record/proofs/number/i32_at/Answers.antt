@@ -1,0 +1,10 @@
+-- `record::number::i32_at` is the unsigned number at that place, read as signed. Assumes nothing.
+use mathlib.Core.Path.{ap, ◌∙◌}
+use mir.Syntax.{w32}
+use mir.Val.{to_z}
+use mir.ValLaws.{to_z-of_z}
+use borrow.Author.Rules.{rules}
+use Rattle.record.proofs.number.i32_at.Goals as goal
+
+pub returns : goal.returns
+returns c = to_z-of_z w32 c.signed_word.result (record { sfits = c.signed_word.type_inv }) ∙ c.signed_word.ensures ∙ ap (to_z w32) c.u32_at.ensures

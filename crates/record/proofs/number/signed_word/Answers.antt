@@ -1,0 +1,14 @@
+-- `record::number::signed_word` is two's complement: below half the number itself, above it less the whole. Assumes nothing.
+use mathlib.Core.Path.{◌≡◌, ap}
+use Prim.Native.Nat.{◌-◌}
+use native.Mathlib.Omega.{arith}
+use mir.Syntax.{w32}
+use mir.Val.{to_z}
+use borrow.Author.Rules.{rules}
+use Rattle.record.proofs.number.signed_word.Goals as goal
+
+pub returns : goal.returns
+returns c =
+    let n = c.args.n in
+    let e : 4294967295 - (4294967295 - n) ≡ n = omega (arith, c.ranges.n.fits) in
+    ap (to_z w32) e

@@ -1,0 +1,17 @@
+-- `solids::clearing::clear_waters` leaves zeros. Assumes nothing.
+use borrow.Author.Rules.{rules}
+use Rattle.solids.proofs.Cleared.{clear_none, clear-more}
+use mathlib.Core.Path.{◌≡◌, refl, ◌∙◌}
+use mathlib.Core.List.{◌++◌, append-nil}
+use Prim.Native.Nat.{◌-◌, ◌≤◌, ◌<◌}
+use native.Mathlib.Omega.{arith}
+use lib.IntN.{pos}
+use lib.ListN.{length, replicate, drop, length-set}
+use lib.Seq.{drop-length}
+use Rattle.solids.proofs.clearing.clear_waters.Given as goal
+
+abbrev pub invariant-loop-i : goal.invariant-loop-i
+invariant-loop-i l = (l.i ≤ length l.initial.s) × (length l.s ≡ length l.initial.s) × (l.s ≡ replicate l.i (pos 0) ++ drop l.i l.initial.s)
+
+abbrev pub decreases-loop-i : goal.decreases-loop-i
+decreases-loop-i l = length l.initial.s - l.i

@@ -1,0 +1,12 @@
+-- `solids::walls::layer`: row by row, the highest first. Assumes nothing.
+use mathlib.Core.Path.{◌≡◌, ◌∙◌}
+use Prim.Native.Nat.{◌+◌, ◌-◌, ◌*◌, ◌≤◌}
+use native.Mathlib.Omega.{arith}
+use Rattle.solids.proofs.Heights.{Stacking, stack-begin, stack-long, stack-more, stack-end, base-fits}
+use Rattle.solids.proofs.walls.layer.Given as goal
+
+abbrev pub invariant-loop-i : goal.invariant-loop-i
+invariant-loop-i l = Stacking l.s l.at l.initial.flags l.flags l.n l.m l.edge l.nz l.p l.i
+
+abbrev pub decreases-loop-i : goal.decreases-loop-i
+decreases-loop-i l = l.i

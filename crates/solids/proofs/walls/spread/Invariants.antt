@@ -1,0 +1,14 @@
+-- `solids::walls::spread`: from the last cell down. Assumes nothing.
+use Rattle.solids.proofs.Spread.{cells-few}
+use mathlib.Core.Path.{◌≡◌, ◌∙◌}
+use Prim.Native.Nat.{◌-◌, ◌*◌, ◌%◌, ◌≤◌}
+use native.Mathlib.Nat.{mod-le}
+use native.Mathlib.Omega.{arith}
+use Rattle.solids.proofs.Spread.{plane, Spreading, spread-begin, spread-more, spread_end}
+use Rattle.solids.proofs.walls.spread.Given as goal
+
+abbrev pub invariant-loop-i : goal.invariant-loop-i
+invariant-loop-i l = Spreading l.s l.initial.flags l.flags l.i
+
+abbrev pub decreases-loop-i : goal.decreases-loop-i
+decreases-loop-i l = l.i

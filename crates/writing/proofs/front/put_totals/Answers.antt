@@ -1,0 +1,23 @@
+-- `writing::front::put_totals` writes section 4, number after number. Assumes nothing.
+use borrow.Author.Rules.{rules}
+use mathlib.Core.Path.{refl}
+use mathlib.Core.List.{◌++◌}
+use mir.Syntax.{w64}
+use Rattle.record.specs.Bytes.{bytes_of, join, u32_of, i64_of}
+use Rattle.record.specs.Layout.{totals_bytes}
+use Rattle.record.proofs.Numbers.{then-signed}
+use Rattle.writing.proofs.front.put_totals.Goals as goal
+
+pub returns : goal.returns
+unfolding bytes_of join totals_bytes
+returns c =
+    let third = c.before.before.before in
+    let second = third.before.before.before.before in
+    let first = second.before.before.before.before in
+    let counted = first.before.before.before.before in
+    let d = counted.before.before.before in
+    let a = d.args in
+    let l = a.room.now in
+    let one = then-signed 8 w64 w64 l 68 72 (u32_of 3) a.carry counted.put_count.ensures first.put_i64.ensures d.ranges.carry.sfits refl in
+    let two = then-signed 8 w64 w64 l 68 80 (u32_of 3 ++ i64_of a.carry) a.poured one second.put_i64-2.ensures d.ranges.poured.sfits refl in
+    then-signed 8 w64 w64 l 68 88 (u32_of 3 ++ i64_of a.carry ++ i64_of a.poured) a.taken two third.put_i64-3.ensures d.ranges.taken.sfits refl

@@ -1,0 +1,26 @@
+-- `writing::put::put_parts`: the place advances as the count of liquid cells does. Assumes nothing.
+use borrow.Author.Rules.{rules}
+use mathlib.Core.Path.{◌≡◌, refl, sym, ap, ap₂, ◌∙◌, subst}
+use mathlib.Core.Bool.{cond}
+use mathlib.Core.List.{List, []}
+use Prim.Native.Nat.{ℕ, ◌+◌, ◌*◌, ◌-◌, ◌≤◌}
+use native.Mathlib.Nat.{mul-le-mul}
+use native.Mathlib.Omega.{arith}
+use lib.IntN.{ℤ, pos}
+use lib.ListN.{length, get_or}
+use lib.Seq.{sets, length-sets}
+use Rattle.whole.specs.Fold.{count}
+use Rattle.grid.specs.State.{liquid, flag_of}
+use Rattle.record.specs.Bytes.{gathered}
+use Rattle.record.specs.Layout.{liquids, part_numbers}
+use Rattle.record.proofs.Gathered.{liquids-more, liquids-le, part-turn}
+use Rattle.writing.proofs.put.put_parts.Given as goal
+
+abbrev pub part-at : ℕ → List ℤ → ℕ → ℕ → ℤ
+part-at w parts c k = get_or parts (w * c + k) (pos 0)
+
+abbrev pub invariant-loop-c : goal.invariant-loop-c
+invariant-loop-c l = (l.c ≤ length l.flags) × (l.at ≡ l.from + 4 * l.w * liquids l.c (flag_of l.flags)) × (l.room ≡ sets l.initial.room l.from (part_numbers l.w l.c (flag_of l.flags) (part-at l.w l.parts)))
+
+abbrev pub decreases-loop-c : goal.decreases-loop-c
+decreases-loop-c l = length l.flags - l.c
