@@ -44,37 +44,37 @@ inside c = omega (arith, c.if-flags-c.false, (pass c.before).sized.flags)
 
 pub returns-in-Refused : goal.returns-in-Refused
 returns-in-Refused c =
-    let t = c.before.before.before.before.before.before.before.before.before.before in
-    told-refused t.args.pour t.args.s t.args.c t.args.amount (set t) (sym c.in-Refused.is ∙ c.check-a.ensures)
+    let t = c in
+    told-refused t.args.pour t.args.s t.args.c t.args.amount (set t.before.before.before.before.before) (sym c.in-Refused.is ∙ c.check-a.ensures)
 
 pub returns-then-flags-c : goal.returns-then-flags-c
 returns-then-flags-c c =
-    let d = c.before.before in
-    let t = w d in
-    let out : cells_of t.args.s ≤ t.args.c = omega (arith, c.if-flags-c.true, (pass d).sized.flags) in
-    told-outside t.args.pour t.args.s t.args.c t.args.amount (set t) (ok d) out
+    let d = c in
+    let t = w d.before.before in
+    let out : cells_of t.args.s ≤ t.args.c = omega (arith, c.if-flags-c.true, (pass d.before.before).sized.flags) in
+    told-outside t.args.pour t.args.s t.args.c t.args.amount (set t) (ok d.before.before) out
 
 pub returns-then-flags-c-ne1 : goal.returns-then-flags-c-ne1
 returns-then-flags-c-ne1 c =
-    let e = c.before.before.before in
-    let d = e.before in
-    let t = w d in
-    told-other t.args.pour t.args.s t.args.c t.args.amount (set t) (ok d) (inside e) c.if-flags-c-ne1.true
+    let e = c in
+    let d = e in
+    let t = w d.before.before.before.before in
+    told-other t.args.pour t.args.s t.args.c t.args.amount (set t) (ok d.before.before.before.before) (inside e.before.before.before) c.if-flags-c-ne1.true
 
 pub worked-requires : goal.worked-requires
 worked-requires c =
-    let k = c.before.before.before.before in
-    let e = k.before.before.before in
-    let d = e.before in
-    let t = w d in
-    may-work t.args.pour t.args.s (set t) t.args.c (pass d) (inside e) k.if-flags-c-ne1.false k.counted-k.result k.counted-k.ensures
+    let k = c in
+    let e = k in
+    let d = e in
+    let t = w d.before.before.before.before.before.before.before.before in
+    may-work t.args.pour t.args.s (set t) t.args.c (pass d.before.before.before.before.before.before.before.before) (inside e.before.before.before.before.before.before.before) k.if-flags-c-ne1.false k.counted-k.result k.counted-k.ensures
 
 pub returns : goal.returns
 returns c =
-    let x = c.before.before.before.before.before in
-    let k = x.before.before.before.before in
-    let e = k.before.before.before in
-    let d = e.before in
-    let t = w d in
-    told-worked t.args.pour t.args.s t.args.c t.args.amount (set t) (ok d) (inside e) k.if-flags-c-ne1.false k.counted-k.result k.counted-k.ensures _ _ _ _
+    let x = c in
+    let k = x in
+    let e = k in
+    let d = e in
+    let t = w d.before.before.before.before.before.before.before.before.before.before.before.before.before in
+    told-worked t.args.pour t.args.s t.args.c t.args.amount (set t) (ok d.before.before.before.before.before.before.before.before.before.before.before.before.before) (inside e.before.before.before.before.before.before.before.before.before.before.before.before) k.if-flags-c-ne1.false k.counted-k.result k.counted-k.ensures _ _ _ _
     (rw (to_z-of_z t.ranges.amount) at x.worked.ensures)

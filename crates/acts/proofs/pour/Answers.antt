@@ -5,5 +5,5 @@ use Rattle.acts.proofs.pour.Goals as goal
 
 pub returns : goal.returns
 returns c =
-    let s = c.before.before.before.before.before.before.before.before.before.before.before in
+    let s = c in
     rw (to_z-of_z s.ranges.amount) at c.act.ensures

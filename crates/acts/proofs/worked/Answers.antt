@@ -34,15 +34,15 @@ told c =
 
 pub returns-then-not-e : goal.returns-then-not-e
 returns-then-not-e c =
-    let e = c.before.before.before in
-    let a = (start e).args in
-    work_none a.pour a.c a.amount a.k a.parts.now a.masses.now a.fills.now a.carry.now (sym (told e).good-is ∙ not-true _ c.if-not-e.true)
+    let e = c in
+    let a = (start e.before.before.before).args in
+    work_none a.pour a.c a.amount a.k a.parts.now a.masses.now a.fills.now a.carry.now (sym (told e.before.before.before).good-is ∙ not-true _ c.if-not-e.true)
 
 pub returns : goal.returns
 returns c =
-    let x = c.before.before.before.before.before.before.before in
-    let a = (start x).args in
-    let f = told x in
+    let x = c in
+    let a = (start x.before.before.before.before.before.before.before).args in
+    let f = told x.before.before.before.before.before.before.before in
     let g = not-false _ c.if-not-e.false in
     let own = c.struct_told-3-1.given in
     let m = held w32 x.effect-e.result.mass own.1.1.0.1 in

@@ -90,18 +90,18 @@ gas-same w p q o t = gas_pair w (p t) (q t) (dot (o t) (o t))
 
 -- what is rebuilt, and the own part
 whole-gas : (c : At-After-gas_pair) →
-    let s = c.before.before.before.before.before.before in
-    c.gas_pair.result ≡ gas_pair (d3q19.weight s.args.i) (ρ s) (dot (d3q19.e s.args.i) (j s)) (dot (j s) (j s))
+    let s = c in
+    c.gas_pair.result ≡ gas_pair (d3q19.weight s.args.i) (ρ s.before.before.before.before.before.before) (dot (d3q19.e s.args.i) (j s.before.before.before.before.before.before)) (dot (j s.before.before.before.before.before.before) (j s.before.before.before.before.before.before))
 whole-gas c =
     let after-weight-of : At-After-weight_of = search in let s : At-Start = search in
     c.gas_pair.ensures
     ∙ ap (λ (z : ℤ). gas_pair (nat_abs z) s.args.v.rho (to_z w32 (of_z w32 s.args.d)) (dot (vec s.args.v) (vec s.args.v)))
-    (to_z-of_z (sfits_of {w = w64} after-weight-of.weight_of.ok) ∙ after-weight-of.weight_of.ensures)
+    (to_z-of_z (sfits_of {w = w64} after-weight-of.weight_of.type_inv) ∙ after-weight-of.weight_of.ensures)
     ∙ gas-same (d3q19.weight s.args.i) s.requires.flows.density (to_z-of_z s.ranges.d ∙ along s) s.requires.flows.momentum
 
 own-part : (c : At-After-wide) →
-    let s = c.before.before.before.before.before.before.before.before in
-    c.wide.result ≡ own s s.args.i
+    let s = c in
+    c.wide.result ≡ own s.before.before.before.before.before.before.before.before s.args.i
 own-part c = let after-wide-arg : At-After-wide-arg-1 = search in c.wide.ensures ∙ to_z-of_z (sfits_of {w = w32} after-wide-arg.wide-arg-1.given)
 
 abbrev gas-read : (c : At-After-gas_pair) → Val c.gas_pair.result

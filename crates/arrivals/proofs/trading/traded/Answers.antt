@@ -44,7 +44,7 @@ abbrev At-Else-f-eq2 : Type 0
 At-Else-f-eq2 = lts.Else2 tie.the-claims reads.Pre reads.Post
 
 -- the code's difference
-apart-is : (c : At-After-difference-d) → let s = c.before.before.before.before.before.before.before.before in
+apart-is : (c : At-After-difference-d) → let s = c in
     to_z w64 (of_z w64 c.difference-d.result) ≡ apart (part_of s.args.parts.now) s.args.c s.args.b s.args.i s.args.k
 apart-is c =
     let after-difference-arg2 : At-After-difference-arg-2-1 = search in let after-difference-arg : At-After-difference-arg-1 = search in let s : At-Start = search in
@@ -54,7 +54,7 @@ apart-is c =
     (held32 (get_or s.args.parts.now (19 * s.args.c + s.args.i) (pos 0)) after-difference-arg2.difference-arg-2-1.given)
 
 -- the code's sum of fills
-both_is : (c : At-After-both) → let s = c.before.before.before.before.before.before.before.before.before.before.before.before in
+both_is : (c : At-After-both) → let s = c in
     to_z w64 (of_z w64 c.both.result) ≡ pos (get_or s.args.fills.now s.args.c 0 + get_or s.args.fills.now s.args.b 0)
 both_is c = held64 c.both.result c.both.type_inv ∙ c.both.ensures
 

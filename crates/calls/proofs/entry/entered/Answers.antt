@@ -113,7 +113,7 @@ module _ (d : At-In_default) where
   passed = let after-entered : At-After-entered-a = search in sym after-entered.entered-a.ensures ∙ d.in_default.is
 
 -- the two totals
-totals : (c : At-After-good_totals) → let a = (w c.before.before.before.before.before.before.before).args in c.good_totals.result ≡ totals_good (get_or a.carry.now 1 (pos 0)) (get_or a.carry.now 2 (pos 0))
+totals : (c : At-After-good_totals) → let a = (w c.before.before.before.before.before).args in c.good_totals.result ≡ totals_good (get_or a.carry.now 1 (pos 0)) (get_or a.carry.now 2 (pos 0))
 totals c =
     let after-good-totals-arg2 : At-After-good_totals-arg-2-1 = search in let after-good-totals-arg : At-After-good_totals-arg-1 = search in let l = (w (search)).args.carry.now in
     let poured : to_z w64 (of_z w64 (get_or l 1 (pos 0))) ≡ get_or l 1 (pos 0) = to_z-of_z (sfits_of {w = w64} after-good-totals-arg.good_totals-arg-1.given) in

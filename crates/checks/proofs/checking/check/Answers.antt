@@ -45,5 +45,5 @@ checked-requires c =
 
 pub returns : goal.returns
 returns c =
-    let d = c.before.before in
-    c.checked.ensures ∙ then-checked _ (own d.before.before.before.before.before.before.before) (sides-good d.before.before.before) _ d.cells-n.ensures (sym d.good_lengths.ensures ∙ not-false _ d.if-not-good_lengths.false-raw)
+    let d = c in
+    c.checked.ensures ∙ then-checked _ (own d.before.before.before.before.before.before.before.before.before) (sides-good d.before.before.before.before.before) _ d.cells-n.ensures (sym d.good_lengths.ensures ∙ not-false _ d.if-not-good_lengths.false-raw)

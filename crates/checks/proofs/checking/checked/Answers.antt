@@ -27,30 +27,30 @@ own c = lent c.args.flags.now c.args.parts.now c.args.masses.now c.args.fills.no
 
 place : (c : At-After-first_bad-broken) → c.first_bad-broken.result ≡ bad_rule d3q19 (cells_of c.args.s) (state_of 18 (own c.before.before.before.before.before.before.before.before))
 place c =
-    let w = c.before.before.before.before.before.before.before.before in
+    let w = c in
     c.first_bad-broken.ensures
-    ∙ one-carry _ (own w) _ (to_z-of_z {w = w64} (sfits_of {w = w64} c.first_bad-arg-1.given))
-    ∙ ap (λ (n : ℕ). bad_rule d3q19 n (state_of 18 (own w))) w.requires.1.flags
+    ∙ one-carry _ (own w.before.before.before.before.before.before.before.before) _ (to_z-of_z {w = w64} (sfits_of {w = w64} c.first_bad-arg-1.given))
+    ∙ ap (λ (n : ℕ). bad_rule d3q19 n (state_of 18 (own w.before.before.before.before.before.before.before.before))) w.requires.1.flags
 
 pub returns-then-flagged-n : goal.returns-then-flagged-n
 returns-then-flagged-n c =
-    let w = c.before.before.before.before.before in
-    stops-at-flag w.args.s (own w) _ c.first_bad_flag-flagged.ensures (omega (arith, w.requires.1.flags, c.if-flagged-n.true))
+    let w = c in
+    stops-at-flag w.args.s (own w.before.before.before.before.before) _ c.first_bad_flag-flagged.ensures (omega (arith, w.requires.1.flags, c.if-flagged-n.true))
 
 pub returns-then-opened-n : goal.returns-then-opened-n
 returns-then-opened-n c =
-    let w = c.before.before.before.before.before.before.before in
-    stops-at-fluid w.args.s (own w) _ c.first_bad_flag-flagged.ensures (omega (arith, w.requires.1.flags, c.if-flagged-n.false)) _ c.first_open-opened.ensures
+    let w = c in
+    stops-at-fluid w.args.s (own w.before.before.before.before.before.before.before) _ c.first_bad_flag-flagged.ensures (omega (arith, w.requires.1.flags, c.if-flagged-n.false)) _ c.first_open-opened.ensures
     (omega (arith, w.requires.1.flags, c.if-opened-n.true))
 
 pub returns-then-broken-n : goal.returns-then-broken-n
 returns-then-broken-n c =
-    let w = c.before.before.before.before.before.before.before.before.before.before in
-    stops-at-rule w.args.s (own w) _ c.first_bad_flag-flagged.ensures (omega (arith, w.requires.1.flags, c.if-flagged-n.false)) _ c.first_open-opened.ensures
+    let w = c in
+    stops-at-rule w.args.s (own w.before.before.before.before.before.before.before.before.before.before) _ c.first_bad_flag-flagged.ensures (omega (arith, w.requires.1.flags, c.if-flagged-n.false)) _ c.first_open-opened.ensures
     (omega (arith, w.requires.1.flags, c.if-opened-n.false)) _ (place c.before.before) (omega (arith, w.requires.1.flags, c.if-broken-n.true))
 
 pub returns : goal.returns
 returns c =
-    let w = c.before.before.before.before.before.before.before.before.before.before in
-    goes_through w.args.s (own w) _ c.first_bad_flag-flagged.ensures (omega (arith, w.requires.1.flags, c.if-flagged-n.false)) _ c.first_open-opened.ensures
+    let w = c in
+    goes_through w.args.s (own w.before.before.before.before.before.before.before.before.before.before) _ c.first_bad_flag-flagged.ensures (omega (arith, w.requires.1.flags, c.if-flagged-n.false)) _ c.first_open-opened.ensures
     (omega (arith, w.requires.1.flags, c.if-opened-n.false)) _ (place c.before.before) (omega (arith, w.requires.1.flags, c.if-broken-n.false))

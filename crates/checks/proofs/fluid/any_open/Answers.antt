@@ -23,13 +23,13 @@ overflow_sub-c c = c.loop-c.invariant.0
 
 pub beside-requires : goal.beside-requires
 beside-requires c =
-    let s = c.before.before.before.before.before in
+    let s = c in
     reach-by s.requires.reaching _ (record { from = c.loop-c.invariant.0; to = omega (arith, c.loop-c-test.true) }) _ refl
 
 pub loop-c-preserved : goal.loop-c-preserved
 loop-c-preserved c =
-    let l = c.before.before.before.before in
-    let s = l.before.before in
+    let l = c in
+    let s = l in
     let f = s.args.flags.now in
     let off = s.args.off.now in
     let low = s.args.low in (
@@ -43,6 +43,6 @@ loop-c-preserved c =
 
 pub returns : goal.returns
 returns c e =
-    let s = c.before.before.before.before in
+    let s = c in
     none_inside s.args.flags.now s.args.off.now s.args.low s.requires
     (λ j h l. c.loop-c.invariant.2 e j (omega (arith, c.loop-c-test.false)) l)

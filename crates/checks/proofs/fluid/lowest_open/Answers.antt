@@ -21,11 +21,11 @@ abbrev At-Then-flags-c-eq2 : Type 0
 At-Then-flags-c-eq2 = lts.Then1 reads.Pre reads.Post goal.the-invariant-loop-i goal.the-decreases-loop-i goal.the-invariant-cells goal.the-decreases-cells
 
 -- a fluid cell has all its neighbours
-within : (c : At-Then-flags-c-eq2 invariant-cells decreases-cells) → let s = c.before.before.before.before in Amid (length s.args.flags.now) s.args.low c.cells.c
+within : (c : At-Then-flags-c-eq2) → let s = c in Amid (length s.args.flags.now) s.args.low c.cells.c
 within c = c.requires.fluid _ c.cells-test.true c.if-flags-c-eq2.true
 
-place-low : (c : At-Then-flags-c-eq2 invariant-cells decreases-cells) (i : ℕ) → i < 19
-    → let s = c.before.before.before.before in c.cells.c - s.args.low + get_or s.args.off.now i 0 < length s.args.flags.now
+place-low : (c : At-Then-flags-c-eq2) (i : ℕ) → i < 19
+    → let s = c in c.cells.c - s.args.low + get_or s.args.off.now i 0 < length s.args.flags.now
 place-low c i h = c.requires.reaching.each _ i (within c).from (within c).to h
 
 -- one more direction
@@ -45,23 +45,23 @@ loop-i-init c = (omega arith, omega arith, λ j l. absurd (omega arith))
 
 pub overflow_add-k : goal.overflow_add-k
 overflow_add-k c =
-    let t = c.before.before.before.before in
-    record { fits = omega (arith, place-low t c.loop-i.i (omega arith), t.requires.reaching.few) }
+    let t = c in
+    record { fits = omega (arith, place-low t.before.before.before.before.before c.loop-i.i (omega arith), t.requires.reaching.few) }
 
 pub bounds-flags-k : goal.bounds-flags-k
-bounds-flags-k c = place-low c.before.before.before.before.before c.loop-i.i (omega arith)
+bounds-flags-k c = place-low c.before.before.before.before.before.before c.loop-i.i (omega arith)
 
 pub loop-i-preserved : goal.loop-i-preserved
 loop-i-preserved c =
-    let l = c.before.before.before.before.before in
-    let e = l.before.before.before.before in
-    let s = e.before in
+    let l = c in
+    let e = l in
+    let s = e in
     (omega arith, omega arith, λ j h. more s.args.flags.now s.args.off.now (e.cells.c - s.args.low) l.loop-i.i c.if-flags-k-eq0.false l.loop-i.invariant.2 j h (dec_lt (suc j) l.loop-i.i))
 
 pub cells-preserved : goal.cells-preserved
 cells-preserved c =
-    let l = c.before.before.before.before in
-    let s = l.before in
+    let l = c in
+    let s = l in
     let f = s.args.flags.now in
     let off = s.args.off.now in
     let low = s.args.low in (
@@ -73,14 +73,14 @@ cells-preserved c =
 
 pub returns-after-cells : goal.returns-after-cells
 returns-after-cells c =
-    let l = c.before in
-    let s = l.before in
+    let l = c in
+    let s = l in
     none_found s.args.flags.now s.args.off.now s.args.low l.cells.c l.cells.invariant.0 c.cells-test.false l.cells.invariant.1
 
 pub returns-then-flags-k-eq0 : goal.returns-then-flags-k-eq0
 returns-then-flags-k-eq0 c =
-    let i = c.before.before.before.before.before in
-    let l = i.before.before.before.before in
-    let s = l.before in
+    let i = c in
+    let l = i in
+    let s = l in
     found s.args.flags.now s.args.off.now s.args.low l.cells.c i.cells-test.true l.cells.invariant.1
     (wet s.args.flags.now s.args.off.now s.args.low l.cells.c i.if-flags-c-eq2.true i.loop-i.i i.loop-i.invariant.0 (omega arith) c.if-flags-k-eq0.true)

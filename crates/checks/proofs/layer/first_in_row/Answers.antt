@@ -31,38 +31,38 @@ loop-x-init c = (omega arith, λ k l. absurd (not-suc-le-zero l))
 
 pub overflow_add-c : goal.overflow_add-c
 overflow_add-c c =
-    let a = c.before.before.before.before.before in
+    let a = c in
     record { fits = omega (arith, a.requires.1, row_room a.requires.3 (omega (arith, a.requires.1, a.requires.2)), (good-sides _ a.requires.0).all) }
 
 pub bounds-flags-c : goal.bounds-flags-c
 bounds-flags-c c =
-    let a = c.before.before.before.before.before.before in
+    let a = c in
     omega (arith, a.requires.1, row_room a.requires.3 (omega (arith, a.requires.1, a.requires.2)))
 
 pub bad_flag-requires : goal.bad_flag-requires
 bad_flag-requires c =
-    let a = c.before.before.before.before.before.before in
+    let a = c in
     (a.requires.0, row-place a.requires.3 _ (omega arith) (omega (arith, a.requires.1, a.requires.2)))
 
 pub returns-then-bad_flag : goal.returns-then-bad_flag
 returns-then-bad_flag c =
-    let l = c.before.before.before.before.before.before in
-    let a = l.before.before in
+    let l = c in
+    let a = l in
     record {
       most = l.loop-x.invariant.0;
       before = l.loop-x.invariant.1;
-      here = λ h. sym (tested a l.loop-x.x h) ∙ sym c.bad_flag.ensures ∙ c.if-bad_flag.true;
+      here = λ h. sym (tested a.before.before.before.before.before.before.before.before l.loop-x.x h) ∙ sym c.bad_flag.ensures ∙ c.if-bad_flag.true;
     }
 
 pub loop-x-preserved : goal.loop-x-preserved
 loop-x-preserved c =
-    let l = c.before.before.before.before.before.before in
-    let a = l.before.before in (
+    let l = c in
+    let a = l in (
       omega arith,
-      below_more _ _ l.loop-x.invariant.1 (sym (tested a l.loop-x.x (omega arith)) ∙ sym c.bad_flag.ensures ∙ c.if-bad_flag.false),
+      below_more _ _ l.loop-x.invariant.1 (sym (tested a.before.before.before.before.before.before.before.before l.loop-x.x (omega arith)) ∙ sym c.bad_flag.ensures ∙ c.if-bad_flag.false),
     )
 
 pub returns : goal.returns
 returns c =
-    let l = c.before.before.before in
+    let l = c in
     record { most = l.loop-x.invariant.0; before = l.loop-x.invariant.1; here = λ h. absurd (omega arith) }

@@ -37,7 +37,7 @@ At-After-relaxed_pair-n = lts.After-relaxed_pair tie.the-claims reads.Pre reads.
 -- what the eighteen share is in range
 shared-ready : (c : goal.After-common_of-k) → Ready c.common_of-k.result
 shared-ready c =
-    let s = c.before in
+    let s = c in
     ready s.args.v _ c.common_of-k.result s.requires.2 (rw (to_z-of_z s.ranges.p) s.requires.3) c.common_of-k.ensures
 
 -- the array's entries are the table's e·j, and in range
@@ -77,11 +77,11 @@ module _ (c : At-After-relaxed_pair-n) where
   paired : Paired (parts_of own at) (parts_of own (at + 1)) (pos (d3q19.weight at)) (get_or dot-list at (pos 0)) shared c.relaxed_pair-n.result
   paired =
       let i = c.loop-i.i in
-      let now = turn.loop.f in
+      let now = turn.loop-i.f in
       let ef : to_z w32 (of_z w32 (parts_of now at)) ≡ parts_of own at =
-      reads_as (v32 (inside (waits_in turn i (omega arith) (omega arith) (omega arith)))) tt ∙ turn.loop.inv.1 i (omega arith) in
+      reads_as (v32 (inside (waits_in turn i (omega arith) (omega arith) (omega arith)))) tt ∙ turn.loop-i.invariant.1 i (omega arith) in
       let eg : to_z w32 (of_z w32 (parts_of now (at + 1))) ≡ parts_of own (at + 1) =
-      reads_as (v32 (inside (waits_in turn (i + 1) (omega arith) (omega arith) (omega arith)))) tt ∙ turn.loop.inv.1 (i + 1) (omega arith) in
+      reads_as (v32 (inside (waits_in turn (i + 1) (omega arith) (omega arith) (omega arith)))) tt ∙ turn.loop-i.invariant.1 (i + 1) (omega arith) in
       let w = c.weight_of.ensures in
       let ew : to_z w64 (of_z w64 c.weight_of.result) ≡ pos (d3q19.weight at) = reads_as (v64 (same w (inside (weight-in i (omega arith) (omega arith))))) tt in
       let ed : to_z w32 (of_z w32 (get_or dot-list at (pos 0))) ≡ get_or dot-list at (pos 0) = reads_as (v32 (inside (dot-bound c.before.before.before.before.before.before.before.before i (omega arith)))) tt in
@@ -93,13 +93,13 @@ module _ (c : At-After-relaxed_pair-n) where
   second : c.relaxed_pair-n.result.b ≡ formed d3q19 own dot-list shared (at + 1)
   second =
       let i = c.loop-i.i in
-      let d = c.before.before.before.before.before.before.before.before in
+      let d = c in
       let k = shared in
       paired.b
       ∙ turned (parts_of own (at + 1)) (pos (d3q19.weight at)) k.base k.six (get_or dot-list at (pos 0)) k
       ∙ ap₂ (λ (n : ℕ) (y : ℤ). grown (parts_of own (at + 1)) (pos n) (k.base +ℤ pos 9 *ℤ y *ℤ y -ℤ k.six *ℤ y) k)
       (sym (weight-opposite i (omega arith) (omega arith)))
-      (sym (dot-is d (i + 1) (omega arith) ∙ dot-opposite i (omega arith) (omega arith) _ ∙ ap neg_ℤ (sym (dot-is d i (omega arith)))))
+      (sym (dot-is d.before.before.before.before.before.before.before.before (i + 1) (omega arith) ∙ dot-opposite i (omega arith) (omega arith) _ ∙ ap neg_ℤ (sym (dot-is d.before.before.before.before.before.before.before.before i (omega arith)))))
 
 -- after the loop: what each part is, by the definition
 module _ (c : goal.After-loop-i) where
@@ -127,12 +127,12 @@ dots-d-requires c = let t = c.requires.2 in (widest t.x, widest t.y, widest t.z)
 
 pub loop-i-init : goal.loop-i-init
 loop-i-init c =
-    let s = c.before.before.before in
+    let s = c in
     (begun _ _ _ s.requires.0 (within_by (v32 (inside s.requires.2.rho)) tt), λ j h. refl)
 
 pub relaxed_pair-n-requires : goal.relaxed_pair-n-requires
 relaxed_pair-n-requires c =
-    let s = c.before.before.before.before.before.before.before.before.before in
+    let s = c in
     let i = c.loop-i.i in
     let hf = waits_in c.before.before.before.before.before i (omega arith) (omega arith) (omega arith) in
     let hg = waits_in c.before.before.before.before.before (i + 1) (omega arith) (omega arith) (omega arith) in
@@ -162,7 +162,7 @@ overflow_sub-r c =
 
 pub loop-i-preserved : goal.loop-i-preserved
 loop-i-preserved c =
-    let q = c.before.before in
+    let q = c in
     let n = q.relaxed_pair-n.result in
     let l = c.loop-i in
     let hx = q.relaxed_pair-n.ensures.a_in in
@@ -172,7 +172,7 @@ loop-i-preserved c =
     let ey : to_z w32 (of_z w32 n.b) ≡ n.b = reads_as (v32 (inside hy)) tt in
     let er : to_z w32 (of_z w32 (to_z w32 l.r-bits -ℤ to_z w32 (of_z w32 (to_z w32 (of_z w32 n.a) +ℤ to_z w32 (of_z w32 n.b))))) ≡ to_z w32 l.r-bits -ℤ (n.a +ℤ n.b) =
     reads_as (search reading depth 20) tt in
-    rw (er, ex, ey) (more (formed d3q19 (own q) (dot-list q) (shared q)) _ n.a n.b l.invariant.0 (omega arith) (first q) (second q) hx hy, waiting-more (own q) l.f l.i n.a n.b l.invariant.1)
+    rw (er, ex, ey) (more (formed d3q19 (own q.before.before) (dot-list q.before.before) (shared q.before.before)) _ n.a n.b l.invariant.0 (omega arith) (first q.before.before) (second q.before.before) hx hy, waiting-more (own q.before.before) l.f l.i n.a n.b l.invariant.1)
 
 pub returns : goal.returns
 returns c =

@@ -55,7 +55,7 @@ module _ (c : At-After-settled-n) where
   at = c.loop-i.i
 
   abbrev want : ℕ → ℤ
-  want = aimed c.ends-e.result start.args.f (of_z w32 (to_z w64 (of_z w64 (pos 1024 -ℤ to_z w64 (of_z w64 start.args.p)))))
+  want = aimed c.ends-e.result start.args.f (to_z w32 (of_z w32 (to_z w64 (of_z w64 (pos 1024 -ℤ to_z w64 (of_z w64 start.args.p))))))
 
   first : c.settled-m.result ≡ want at
   first =
@@ -80,7 +80,7 @@ module _ (c : goal.Else-not-telling) where
   first_of = c.before.before.before.before.before.before
 
   abbrev forms : ℕ → ℤ
-  forms = aimed c.ends-e.result first_of.args.f (of_z w32 (to_z w64 (of_z w64 (pos 1024 -ℤ to_z w64 (of_z w64 first_of.args.p)))))
+  forms = aimed c.ends-e.result first_of.args.f (to_z w32 (of_z w32 (to_z w64 (of_z w64 (pos 1024 -ℤ to_z w64 (of_z w64 first_of.args.p))))))
 
   abbrev wanted : ℕ → ℤ
   wanted = relaxed_dir d3q19 first_of.args.v.rho (vec first_of.args.v) first_of.args.p (parts_of first_of.args.f)
@@ -96,10 +96,10 @@ module _ (c : goal.Else-not-telling) where
   form-is : (k : ℕ) → k < 18 → forms (suc k) ≡ wanted (suc k)
   form-is k h =
       let s = first_of in
-      let t = c.before.before.before.before.before in
+      let t = c in
       let z : suc k - 1 ≡ k = omega arith in
       ap₂ (λ (n : ℕ) (y : ℤ). landed (get_or t.ends-e.result n 0) (parts_of s.args.f (suc k)) y) z share-is
-      ∙ landed-part d3q19 s.args.v s.args.p (parts_of s.args.f) (suc k) (get_or t.ends-e.result k 0) 524288 (steady-tame s.args.v s.requires.1).low ((ends-are t).at k h) (inl (omega arith, told k h))
+      ∙ landed-part d3q19 s.args.v s.args.p (parts_of s.args.f) (suc k) (get_or t.ends-e.result k 0) 524288 (steady-tame s.args.v s.requires.1).low ((ends-are t.before.before.before.before.before).at k h) (inl (omega arith, told k h))
 
 pub ends-e-requires : goal.ends-e-requires
 ends-e-requires c = (c.requires.1, rw (to_z-of_z c.ranges.p) c.requires.2)
@@ -112,20 +112,20 @@ overflow_cast-c c = let p = relaxation-in c.args.p c.requires.2 in does-fit (sea
 
 pub loop-i-init : goal.loop-i-init
 loop-i-init c =
-    let s = c.before.before.before in
+    let s = c in
     begun _ _ _ refl (within_by (v32 (inside (steady-tame s.args.v s.requires.1).rho)) tt)
 
 pub settled-m-requires : goal.settled-m-requires
 settled-m-requires c =
-    let t = c.before.before.before.before.before in
+    let t = c in
     let i = c.loop-i.i in
-    mixes t (i - 1) (omega arith) (within_by (v32 (inside (t.requires.0.at i (omega arith) (omega arith)))) tt)
+    mixes t.before.before.before.before.before (i - 1) (omega arith) (within_by (v32 (inside (t.requires.0.at i (omega arith) (omega arith)))) tt)
 
 pub settled-n-requires : goal.settled-n-requires
 settled-n-requires c =
-    let t = c.before.before.before.before.before.before.before in
+    let t = c in
     let i = c.loop-i.i in
-    mixes t i (omega arith) (within_by (v32 (inside (t.requires.0.at (i + 1) (omega arith) (omega arith)))) tt)
+    mixes t.before.before.before.before.before.before.before i (omega arith) (within_by (v32 (inside (t.requires.0.at (i + 1) (omega arith) (omega arith)))) tt)
 
 pub overflow_add-r : goal.overflow_add-r
 overflow_add-r c =
@@ -155,20 +155,20 @@ loop-i-preserved c =
     rw (er, ex, ey) (more (want c.before) _ m n l.invariant (omega arith) (first c.before) (second c.before) hx hy)
 
 pub telling-requires : goal.telling-requires
-telling-requires c.before κs k h = mixes c.before.before.before.before k h (c.requires.0.at (suc k) (omega arith) (omega arith))
+telling-requires c k h = mixes c.before.before.before.before k h (c.requires.0.at (suc k) (omega arith) (omega arith))
 
 pub by_divider-requires : goal.by_divider-requires
 by_divider-requires c =
-    let s = c.before.before.before.before.before.before.before.before in
+    let s = c in
     (s.well_formed.0.1.0.1, s.requires.0, steady-tame s.args.v s.requires.1, rw (to_z-of_z s.ranges.p) s.requires.2)
 
 pub returns-then-not-telling : goal.returns-then-not-telling
 returns-then-not-telling c =
-    let s = c.before.before.before.before.before.before.before.before in
+    let s = c in
     rw (to_z-of_z s.ranges.p) at c.by_divider.ensures
 
 pub returns : goal.returns
 returns c =
-    let s = c.before.before.before.before.before.before in
+    let s = c in
     let e : to_z w32 (of_z w32 s.args.v.rho) ≡ s.args.v.rho = reads_as (v32 (inside (steady-tame s.args.v s.requires.1).rho)) tt in
     all_done (forms c) s.args.v.rho d3q19 eighteen (vec s.args.v) s.args.p (parts_of s.args.f) (form-is c) (rw e at c.loop-i.invariant) (omega arith)

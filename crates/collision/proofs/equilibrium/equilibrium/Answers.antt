@@ -23,5 +23,5 @@ by_divider-requires c = (refl, record { rest = small 0; at = λ k h m. small k }
 
 pub returns : goal.returns
 returns c =
-    let s = c.before.before in
+    let s = c in
     (c.by_divider.ensures.0 ∙ stilled d3q19 19 294912 s.args.v.rho (vec s.args.v) (parts_of (replicate 19 (pos 0))) s.requires.low (none 19), c.by_divider.ensures.1)

@@ -41,19 +41,19 @@ abbrev gain : {ρ g r : ℤ} → r ≡ pull (to_z w32 (of_z w32 ρ)) (to_z w64 (
 gain e h k = same (e ∙ ap₂ pull (reads_as (v32 (inside h)) tt) (reads_as (v64 (inside k)) tt)) (inside (pull-in h k))
 
 abbrev x-gain : (c : At-After-pull) → Val c.pull.result
-x-gain c = let s = c.before.before.before in gain c.pull.ensures s.requires.0 (x-in s)
+x-gain c = let s = c in gain c.pull.ensures s.requires.0 (x-in s.before.before.before)
 
 abbrev y-gain : (c : At-After-pull-2) → Val c.pull-2.result
-y-gain c = let s = c.before.before.before.before.before.before.before.before in gain c.pull-2.ensures s.requires.0 (y-in s)
+y-gain c = let s = c in gain c.pull-2.ensures s.requires.0 (y-in s.before.before.before.before.before.before.before.before)
 
 abbrev z-gain : (c : At-After-pull-3) → Val c.pull-3.result
-z-gain c = let s = c.before.before.before.before.before.before.before.before.before.before.before.before.before in gain c.pull-3.ensures s.requires.0 (z-in s)
+z-gain c = let s = c in gain c.pull-3.ensures s.requires.0 (z-in s.before.before.before.before.before.before.before.before.before.before.before.before.before)
 
 pub pull-requires : goal.pull-requires
 pull-requires c =
-    let s = c.before.before.before in
+    let s = c in
     let r = s.requires.0 in
-    let g = x-in s in
+    let g = x-in s.before.before.before in
     (within_by (search reading depth 20) tt, within_by (search reading depth 20) tt)
 
 pub overflow_add-result : goal.overflow_add-result
@@ -64,9 +64,9 @@ overflow_add-result c =
 
 pub pull-requires-2 : goal.pull-requires-2
 pull-requires-2 c =
-    let s = c.before.before.before.before.before.before.before.before in
+    let s = c in
     let r = s.requires.0 in
-    let g = y-in s in
+    let g = y-in s.before.before.before.before.before.before.before.before in
     (within_by (search reading depth 20) tt, within_by (search reading depth 20) tt)
 
 pub overflow_add-result-2 : goal.overflow_add-result-2
@@ -77,9 +77,9 @@ overflow_add-result-2 c =
 
 pub pull-requires-3 : goal.pull-requires-3
 pull-requires-3 c =
-    let s = c.before.before.before.before.before.before.before.before.before.before.before.before.before in
+    let s = c in
     let r = s.requires.0 in
-    let g = z-in s in
+    let g = z-in s.before.before.before.before.before.before.before.before.before.before.before.before.before in
     (within_by (search reading depth 20) tt, within_by (search reading depth 20) tt)
 
 pub overflow_add-result-3 : goal.overflow_add-result-3
@@ -90,7 +90,7 @@ overflow_add-result-3 c =
 
 pub returns : goal.returns
 returns c =
-    let s = c.before.before.before.before.before.before.before.before.before.before.before.before.before.before.before.before in
+    let s = c in
     let r = s.requires.0 in
     let x = s.requires.1 in
     let y = s.requires.2 in

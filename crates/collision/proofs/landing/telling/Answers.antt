@@ -26,23 +26,23 @@ loop-i-init c = (omega arith, refl, all_none (tells_at c.args.e c.args.f (to_z w
 
 pub tells-requires : goal.tells-requires
 tells-requires c =
-    let s = c.before.before.before in
+    let s = c in
     let i = c.loop-i.i in
-    rw (part-is s (i - 1) i (omega arith) (omega arith), to_z-of_z s.ranges.c) (s.requires (i - 1) (omega arith))
+    rw (part-is s.before.before.before (i - 1) i (omega arith) (omega arith), to_z-of_z s.ranges.c) (s.requires (i - 1) (omega arith))
 
 pub tells-requires-in-loop-i : goal.tells-requires-in-loop-i
 tells-requires-in-loop-i c =
-    let s = c.before.before.before.before.before in
+    let s = c in
     let i = c.loop-i.i in
-    rw (part-is s i (i + 1) (omega arith) (omega arith), to_z-of_z s.ranges.c) (s.requires i (omega arith))
+    rw (part-is s.before.before.before.before.before i (i + 1) (omega arith) (omega arith), to_z-of_z s.ranges.c) (s.requires i (omega arith))
 
 pub loop-i-preserved : goal.loop-i-preserved
 loop-i-preserved c =
     let l = c.loop-i in
-    let s = c.before.before.before.before.before.before in
+    let s = c in
     let g : ℕ → Bool = tells_at s.args.e s.args.f (to_z w32 (of_z w32 s.args.c)) in
     let told : (k i : ℕ) → k < 18 → suc k ≡ i → tells (get_or s.args.e k 0) (to_z w32 (of_z w32 (parts_of s.args.f i))) (to_z w32 (of_z w32 s.args.c)) ≡ g k =
-    λ k i h e. ap (λ (z : ℤ). tells (get_or s.args.e k 0) z (to_z w32 (of_z w32 s.args.c))) (part-is s k i h e) in
+    λ k i h e. ap (λ (z : ℤ). tells (get_or s.args.e k 0) z (to_z w32 (of_z w32 s.args.c))) (part-is s.before.before.before.before.before.before k i h e) in
     let next : l.i ≡ l.i - 1 + 1 = omega arith in (
       omega arith,
       omega arith,
@@ -55,5 +55,5 @@ loop-i-preserved c =
 
 pub returns : goal.returns
 returns c =
-    let s = c.before.before in
+    let s = c in
     c.loop-i.invariant.2 ∙ ap₂ (λ (n : ℕ) (z : ℤ). all n (tells_at s.args.e s.args.f z)) (omega arith) (to_z-of_z s.ranges.c)

@@ -24,7 +24,7 @@ At-After-shared_slice_known-in-loop-z-1 = lts.After-shared_slice_known2 tie.the-
 -- the cell's number is below the length
 within : (c : At-After-number-at) → c.number-at.result < length c.args.flags.now
 within c =
-    let s = c.before.before.before.before in
+    let s = c in
     subst (λ (i : ℕ). i < length s.args.flags.now) (sym c.number-at.ensures) (below_length c.loop-z.z s.requires c.loop-z-test.true)
 
 -- what the test says of height z
@@ -47,7 +47,7 @@ bounds-flags-at c = within c.before.before
 
 pub returns-then-flags-at-gt3 : goal.returns-then-flags-at-gt3
 returns-then-flags-at-gt3 c =
-    let l = c.before.before.before.before.before in
+    let l = c in
     let a = l.args in
     let bad = flag_bad a.s a.flags.now a.x a.y in
     sym (first-is a.s.nz bad l.loop-z.z c.loop-z-test.true l.loop-z.invariant.1 (tested c.before.before true (lt-ltb _ _ c.if-flags-at-gt3.true)))
@@ -60,11 +60,11 @@ loop-z-smaller c = omega (arith, c.loop-z-test.true)
 
 pub loop-z-preserved : goal.loop-z-preserved
 loop-z-preserved c =
-    let l = c.before.before.before.before.before in
+    let l = c in
     (omega (arith, c.loop-z-test.true), below_more _ _ l.loop-z.invariant.1 (tested c.before.before false (le-ltb _ _ c.if-flags-at-gt3.false)))
 
 pub returns : goal.returns
 returns c =
-    let l = c.before.before in
+    let l = c in
     let a = l.args in
     sym (first-all a.s.nz (flag_bad a.s a.flags.now a.x a.y) (λ j h. l.loop-z.invariant.1 j (omega (arith, c.loop-z-test.false))))

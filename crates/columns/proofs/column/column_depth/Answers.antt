@@ -45,8 +45,8 @@ start c = c.before.before.before.before.before.before.before.before.before.befor
 
 column : (c : At-Else-s-y) (n : ℕ) → n ≡ cells_of (start c).args.s → (let a = (start c).args in InColumn a.s n a.x a.y)
 column c n h =
-    let e = c.before.before in
-    record { good = good e.before.before.before.before.before; all = h; in-x = e.if-s-x.false; in-y = c.if-s-y.false }
+    let e = c in
+    record { good = good e.before.before.before.before.before.before.before; all = h; in-x = e.if-s-x.false; in-y = c.if-s-y.false }
 
 pub returns-then-not-good_sides : goal.returns-then-not-good_sides
 unfolding depth_of
@@ -62,32 +62,32 @@ returns-then-flags-n c = simp (good c.before.before.before, ne_eqb _ _ (λ e. c.
 pub returns-then-fills-n : goal.returns-then-fills-n
 unfolding depth_of
 returns-then-fills-n c =
-    let d = c.before.before in
-    simp (good d.before.before, eq-eqb _ _ (flags-whole d), ne_eqb _ _ (λ e. c.if-fills-n.true (e ∙ sym d.cells-n.ensures))) is-refused
+    let d = c in
+    simp (good d.before.before.before.before, eq-eqb _ _ (flags-whole d.before.before), ne_eqb _ _ (λ e. c.if-fills-n.true (e ∙ sym d.cells-n.ensures))) is-refused
 
 pub returns-then-s-x : goal.returns-then-s-x
 unfolding depth_of
 returns-then-s-x c =
-    let d = c.before.before.before in
-    simp (good d.before.before.before, eq-eqb _ _ (flags-whole d.before), eq-eqb _ _ (fills-whole d), le-ltb _ _ c.if-s-x.true) is-refused
+    let d = c in
+    simp (good d.before.before.before.before.before.before, eq-eqb _ _ (flags-whole d.before.before.before.before), eq-eqb _ _ (fills-whole d.before.before.before), le-ltb _ _ c.if-s-x.true) is-refused
 
 pub returns-then-s-y : goal.returns-then-s-y
 unfolding depth_of
 returns-then-s-y c =
-    let e = c.before.before.before in
-    let d = e.before.before in
-    simp (good d.before.before.before, eq-eqb _ _ (flags-whole d.before), eq-eqb _ _ (fills-whole d), lt-ltb _ _ e.if-s-x.false, le-ltb _ _ c.if-s-y.true)
+    let e = c in
+    let d = e in
+    simp (good d.before.before.before.before.before.before.before.before, eq-eqb _ _ (flags-whole d.before.before.before.before.before.before), eq-eqb _ _ (fills-whole d.before.before.before.before.before), lt-ltb _ _ e.if-s-x.false, le-ltb _ _ c.if-s-y.true)
     is-refused
 
 pub measured-requires : goal.measured-requires
 measured-requires c =
-    let d = c.before.before.before.before.before in 
-    record { in_column = column c.before _ (flags-whole d.before); in_column_2 = column c.before _ (fills-whole d) }
+    let d = c in 
+    record { in_column = column c.before _ (flags-whole d.before.before.before.before.before.before); in_column_2 = column c.before _ (fills-whole d.before.before.before.before.before) }
 
 pub returns : goal.returns
 unfolding depth_of
 returns c =
-    let e = c.before.before.before.before in
-    let d = e.before.before in
-    simp (good d.before.before.before, eq-eqb _ _ (flags-whole d.before), eq-eqb _ _ (fills-whole d), lt-ltb _ _ e.if-s-x.false, lt-ltb _ _ c.if-s-y.false)
+    let e = c in
+    let d = e in
+    simp (good d.before.before.before.before.before.before.before.before.before, eq-eqb _ _ (flags-whole d.before.before.before.before.before.before.before), eq-eqb _ _ (fills-whole d.before.before.before.before.before.before), lt-ltb _ _ e.if-s-x.false, lt-ltb _ _ c.if-s-y.false)
     c.measured.ensures

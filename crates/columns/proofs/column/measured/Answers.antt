@@ -14,20 +14,20 @@ returns-then-f-nz c = simp (← c.bad_flag-f.ensures, lt-leb _ _ c.if-f-nz.true,
 pub returns-then-g-nz : goal.returns-then-g-nz
 unfolding measured_of
 returns-then-g-nz c =
-    let f = c.before.before.before.before in
+    let f = c in
     simp (← f.bad_flag-f.ensures, le-leb _ _ f.if-f-nz.false, ← c.bad_fill-g.ensures, lt-leb _ _ c.if-g-nz.true, c.number-then-g-nz.ensures)
     is-refused
 
 pub summed-c-requires : goal.summed-c-requires
 summed-c-requires c =
-    let s = c.before.before.before.before.before.before.before in 
+    let s = c in 
     record { in_column = s.requires.in_column; in_column_2 = s.requires.in_column_2; nz_bound = subst (λ (n : ℕ). s.args.s.nz ≤ n) c.bad_fill-g.ensures c.if-g-nz.false }
 
 pub returns : goal.returns
 unfolding measured_of
 returns c =
-    let d = c.before.before.before in
-    let f = d.before.before in
+    let d = c in
+    let f = d in
     let h = c.summed-c.ensures in
     simp (← f.bad_flag-f.ensures, le-leb _ _ f.if-f-nz.false, ← d.bad_fill-g.ensures, le-leb _ _ d.if-g-nz.false, ← h.walls, ← h.adds)
     c.reading.ensures

@@ -13,21 +13,21 @@ use Rattle.columns.proofs.sum.summed.Tie as tie
 use Rattle.columns.proofs.sum.summed.Goals as goal
 
 abbrev At-After-number-at : Type 0
-At-After-number-at = lts.After-number tie.the-claims reads.Pre reads.Post goal.the-invariant-loop-z goal.the-decreases-loop-z
+At-After-number-at = lts.After-number tie.the-claims reads.Pre reads.Post goal.the-invariant-loop-z goal.the-decreases-loop-z tie.handed_clauses
 
 abbrev At-After-open_fill-sum : Type 0
-At-After-open_fill-sum = lts.After-open_fill tie.the-claims reads.Pre reads.Post goal.the-invariant-loop-z goal.the-decreases-loop-z
+At-After-open_fill-sum = lts.After-open_fill tie.the-claims reads.Pre reads.Post goal.the-invariant-loop-z goal.the-decreases-loop-z tie.handed_clauses
 
 -- the cell's number is below both lengths
 in-flags : (c : At-After-number-at) → c.number-at.result < length c.args.flags.now
 in-flags c =
-    let s = c.before.before.before.before.before in
+    let s = c in
     subst (λ (i : ℕ). i < length s.args.flags.now) (sym c.number-at.ensures)
     (below_length c.loop-z.z s.requires.in_column c.loop-z-test.true)
 
 in-fills : (c : At-After-number-at) → c.number-at.result < length c.args.fills.now
 in-fills c =
-    let s = c.before.before.before.before.before in
+    let s = c in
     subst (λ (i : ℕ). i < length s.args.fills.now) (sym c.number-at.ensures)
     (below_length c.loop-z.z s.requires.in_column_2 c.loop-z-test.true)
 
@@ -48,7 +48,7 @@ part-is c =
 
 part-le : (c : At-After-open_fill-sum) → c.open_fill-sum.result ≤ 65536
 part-le c =
-    let s = c.before.before.before.before.before.before.before.before in
+    let s = c in
     let a = s.args in
     subst (λ (n : ℕ). n ≤ 65536) (sym (part-is c))
     (open-le a.s a.flags.now a.fills.now a.x a.y
@@ -72,12 +72,12 @@ bounds-fills-at c = in-fills c.before.before.before
 
 pub overflow_add-sum : goal.overflow_add-sum
 overflow_add-sum c =
-    let l = c.before.before.before.before.before.before in
+    let l = c in
     record { fits = omega (arith, part-le c.before, l.loop-z.invariant.0, l.loop-z.invariant.3, high l.requires.in_column) }
 
 pub overflow_add-z : goal.overflow_add-z
 overflow_add-z c =
-    let l = c.before.before.before.before.before.before in
+    let l = c in
     record { fits = omega (arith, l.loop-z.invariant.0, high l.requires.in_column) }
 
 pub loop-z-smaller : goal.loop-z-smaller
@@ -85,7 +85,7 @@ loop-z-smaller c = omega (arith, c.loop-z-test.true)
 
 pub loop-z-preserved : goal.loop-z-preserved
 loop-z-preserved c =
-    let l = c.before.before.before.before.before.before in (
+    let l = c in (
       omega (arith, c.loop-z-test.true),
       ap₂ (λ (m n : Bool). m && n) l.loop-z.invariant.1 (wall-is c.before.before.before.before) ∙ sym (all_more l.loop-z.z _),
       ap₂ (λ (m n : ℕ). m + n) l.loop-z.invariant.2 (part-is c.before) ∙ sym (total-more l.loop-z.z _),
@@ -94,8 +94,8 @@ loop-z-preserved c =
 
 pub returns : goal.returns
 returns c =
-    let l = c.before.before in
-    let s = l.before.before.before in
+    let l = c in
+    let s = l in
     let a = s.args in
     let e : l.loop-z.z ≡ a.s.nz = omega (arith, c.loop-z-test.false, l.loop-z.invariant.0) in
     record {

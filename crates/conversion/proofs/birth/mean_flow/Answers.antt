@@ -21,7 +21,7 @@ abbrev At-Start : Type 0
 At-Start = lts.Start tie.the-claims reads.Pre reads.Post goal.the-invariant-loop-i goal.the-decreases-loop-i
 
 -- all directions
-all-summed : (c : At-After-loop-i) → let s = c.before.before.before.before in Summed d3q19.weight s.args.flags.now (part_of s.args.parts.now) s.args.fills.now s.args.off.now s.args.low s.args.g s.args.c 18 c.loop-i.t
+all-summed : (c : At-After-loop-i) → let s = c in Summed d3q19.weight s.args.flags.now (part_of s.args.parts.now) s.args.fills.now s.args.off.now s.args.low s.args.g s.args.c 18 c.loop-i.t
 all-summed c =
     let at-loop : At-At-loop-i = search in let s : At-Start = search in
     let e : at-loop.loop-i.i - 1 ≡ 18 = omega arith in

@@ -24,7 +24,7 @@ abbrev At-Then-is_liquid : Type 0
 At-Then-is_liquid = lts.Then1 tie.the-claims reads.Pre reads.Post
 
 -- the flag as the code reads it
-reads-liquid : (c : At-After-is_liquid) → let s = c.before.before.before.before in c.is_liquid.result ≡ liquid (get_or s.args.flags.now s.args.b 3)
+reads-liquid : (c : At-After-is_liquid) → let s = c in c.is_liquid.result ≡ liquid (get_or s.args.flags.now s.args.b 3)
 reads-liquid c = let s : At-Start = search in c.is_liquid.ensures ∙ ap liquid (get_or-there s.args.flags.now s.args.b 0 3 s.requires.1)
 
 pub flow_at-requires : goal.flow_at-requires

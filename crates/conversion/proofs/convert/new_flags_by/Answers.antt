@@ -35,12 +35,12 @@ abbrev At-Then-m-eq2 : Type 0
 At-Then-m-eq2 = lts.Then2 tie.the-claims reads.Pre reads.Post goal.the-invariant-loop-c goal.the-decreases-loop-c
 
 -- the place of a turn is a cell's
-is-cell : (c : At-In-loop-c) → let l = c.before in l.loop-c.c < length l.args.flags.now
+is-cell : (c : At-In-loop-c) → let l = c in l.loop-c.c < length l.args.flags.now
 is-cell c = let start : At-Start = search in omega (arith, start.requires.0.count, c.loop-c-test.true)
 
 -- a filled cell is done; any other stands before its turn
 filled-done : (b : At-Joined-m-eq1)
-    → let l = b.before.before.before in
+    → let l = b in
     let a = l.args in
     ((get_or a.marks.now l.loop-c.c 0 ≡ 1) × Underway a.flags.now a.marks.now a.off.now a.low b.if-m-eq1.next (l.loop-c.c + 1))
     ⊎ ((get_or a.marks.now l.loop-c.c 0 ≡ 1 → ⊥) × Underway a.flags.now a.marks.now a.off.now a.low b.if-m-eq1.next l.loop-c.c)
@@ -54,7 +54,7 @@ filled-done b =
 
 -- so is an emptied one, and one that does not turn
 done : (b : At-Joined-m-eq2)
-    → let l = b.before.before.before.before in
+    → let l = b in
     let a = l.args in
     Underway a.flags.now a.marks.now a.off.now a.low b.if-m-eq2.next (l.loop-c.c + 1)
 done b =

@@ -25,14 +25,14 @@ abbrev At-At-loop-c : Type 0
 At-At-loop-c = lts.At-loop tie.the-claims reads.Pre reads.Post goal.the-invariant-loop-c goal.the-decreases-loop-c
 
 -- a cell to be emptied has all its neighbours
-within : (c : goal.Then-marks-c-eq2) → let l = c.before.before.before in Amid (length l.args.marks.now) l.args.low l.loop-c.c
+within : (c : goal.Then-marks-c-eq2) → let l = c in Amid (length l.args.marks.now) l.args.low l.loop-c.c
 within c =
     let in-loop : At-In-loop-c = search in let start : At-Start = search in let l : At-At-loop-c = search in
     start.requires.inner _ (omega (arith, l.loop-c.invariant.size, in-loop.loop-c-test.true)) (sym (l.loop-c.invariant.rest _ (omega arith)) ∙ c.if-marks-c-eq2.true)
 
 -- cell c is settled, whether it was to be emptied or not
 turned : (b : goal.Joined-marks-c-eq2)
-    → let l = b.before.before.before in
+    → let l = b in
     let a = l.args.marks.now in
     Ranged 0 (kept_by a l.args.off.now l.args.low) a 0 (length a) b.if-marks-c-eq2.marks (l.loop-c.c + 1)
 turned b =

@@ -10,20 +10,20 @@ use Rattle.conversion.proofs.Settles.{Upon, upon-as, upon-first, upon-keep, upon
 use Rattle.conversion.proofs.settling.settle.Goals as goal
 
 -- the list has room for the cell of a turn
-room : (b : goal.Joined-m-ne0) → let l = b.before.before.before in 19 * l.loop-c.c + 19 ≤ length l.loop-c.parts
+room : (b : goal.Joined-m-ne0) → let l = b in 19 * l.loop-c.c + 19 ≤ length l.loop-c.parts
 room b =
-    let l = b.before.before.before in
+    let l = b in
     omega (arith, l.loop-c.invariant.0, l.requires.parts-there, l.loop-c.invariant.1.marks-size, b.loop-c-test.true)
 
 -- cell c is settled, whether it had a mark or not
 turned : (b : goal.Joined-m-ne0)
-    → let l = b.before.before.before in
-    let s = l.before.before in
+    → let l = b in
+    let s = l in
     (length b.if-m-ne0.parts ≡ length s.args.parts.now)
     × Upon (part_of s.args.parts.now) s.args.masses.now s.args.marks.now (part_of b.if-m-ne0.parts) b.if-m-ne0.masses b.if-m-ne0.marks (l.loop-c.c + 1)
 turned b =
-    let l = b.before.before.before in
-    let s = l.before.before in
+    let l = b in
+    let s = l in
     let h : l.loop-c.c < length s.args.marks.now = omega (arith, l.loop-c.invariant.1.marks-size, b.loop-c-test.true) in
     ⊎_elim
     (λ w. (
@@ -43,33 +43,33 @@ loop-c-init c = (refl, upon-first _ _ _)
 
 pub settle_cell-requires : goal.settle_cell-requires
 settle_cell-requires c =
-    let l = c.before.before.before.before.before.before in
-    let s = l.before.before in
+    let l = c in
+    let s = l in
     let h : l.loop-c.c < length s.args.marks.now = omega (arith, l.loop-c.invariant.1.marks-size, c.loop-c-test.true) in (
       parts-still _ _ _ _ _ _ _ l.loop-c.invariant.1 h (omega (arith, l.loop-c.invariant.0, s.requires.parts-there)) (s.requires.each l.loop-c.c h (λ e. c.if-m-ne0.true (l.loop-c.invariant.1.marks-rest l.loop-c.c (omega arith) ∙ e))),
       omega (arith, l.loop-c.invariant.1.masses-size, s.requires.masses-there),
     )
 
 pub next_marked-c-requires : goal.next_marked-c-requires
-next_marked-c-requires c = omega (arith, (turned c.before).1.to, (turned c.before).1.marks-size)
+next_marked-c-requires c = omega (arith, (turned c).1.to, (turned c).1.marks-size)
 
 pub loop-c-smaller : goal.loop-c-smaller
 loop-c-smaller c =
-    let b = c.before.before in
+    let b = c in
     let n = c.next_marked-c.ensures.past in
-    omega (arith, n.least, n.most, (turned b).1.marks-size, (turned b).1.to)
+    omega (arith, n.least, n.most, (turned b.before).1.marks-size, (turned b.before).1.to)
 
 pub loop-c-preserved : goal.loop-c-preserved
 loop-c-preserved c =
-    let b = c.before.before in
-    let l = b.before.before.before in
-    let s = l.before.before in
+    let b = c in
+    let l = b in
+    let s = l in
     let n = c.next_marked-c.ensures.past in
     -- up to the next mark all is as it is to be
     (
-      (turned b).0,
+      (turned b.before).0,
       over-gap (λ j. Upon (part_of s.args.parts.now) s.args.masses.now s.args.marks.now (part_of b.if-m-ne0.parts) b.if-m-ne0.masses b.if-m-ne0.marks j) (l.loop-c.c + 1) c.next_marked-c.result n.least
-          (λ j k i q. upon-keep _ _ _ (part_of b.if-m-ne0.parts) b.if-m-ne0.masses b.if-m-ne0.marks j q (omega (arith, n.most, (turned b).1.marks-size)) (n.before j k i)) (turned b).1,
+          (λ j k i q. upon-keep _ _ _ (part_of b.if-m-ne0.parts) b.if-m-ne0.masses b.if-m-ne0.marks j q (omega (arith, n.most, (turned b.before).1.marks-size)) (n.before j k i)) (turned b.before).1,
     )
 
 pub shape_of-parts : goal.shape_of-parts
@@ -83,6 +83,6 @@ shape_of-marks c = c.loop-c.invariant.1.marks-size
 
 pub returns : goal.returns
 returns c =
-    let l = c.before in
-    let s = l.before.before in
+    let l = c in
+    let s = l in
     upon-all _ _ _ _ _ _ _ l.loop-c.invariant.1 (omega (arith, l.loop-c.invariant.1.marks-size, c.loop-c-test.false)) (l.loop-c.invariant.0 ∙ s.requires.parts-there) s.requires.masses-there

@@ -185,7 +185,7 @@ returns c =
     let w = midway t.args.s t.args.g a r m.steady _ ef _ _ _ ep m.masses-are ek in
     let em = after-gather.gather.ensures ∙ gathered-box w in
     let done = settled_is w em after-settle.settle.ensures in
-    let carry = to_z-of_z {w = w64} (record { sfits = after-new-carry.new_carry-k.ok }) in
+    let carry = to_z-of_z {w = w64} (record { sfits = after-new-carry.new_carry-k.type_inv }) in
     let sum_is_lem = carry-told t.args.s t.args.g a r m.steady _ ef _ _ _ ep m.masses-are ek _ _ (kept _ (carry-within t.args.s t.args.g a r m.steady)) after-new-carry.new_carry-k.ensures in
     record {
       flags-are = ef;

@@ -51,7 +51,7 @@ loop-c-preserved c = (omega arith, one_more c.before)
 pub returns : goal.returns
 unfolding cells_with
 returns c =
-    let l = c.before.before in
+    let l = c in
     let a = l.args in
     let e : l.loop-c.c ≡ length a.flags.now = omega arith in
     l.loop-c.invariant.1 ∙ ap (kind_in a.flags.now a.wanted) e

@@ -10,7 +10,7 @@ use Rattle.counts.proofs.counting.counts.Goals as goal
 
 pub returns : goal.returns
 returns c =
-    let s = c.before.before.before.before.before.before.before in
+    let s = c in
     let carry : to_z w64 (of_z w64 s.args.carry) ≡ s.args.carry = to_z-of_z s.ranges.carry in
     λ i. record {
       fluid = c.cells_with.ensures i;

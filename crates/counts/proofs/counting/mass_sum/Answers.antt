@@ -18,7 +18,7 @@ use Rattle.counts.proofs.counting.mass_sum.Tie as tie
 use Rattle.counts.proofs.counting.mass_sum.Goals as goal
 
 abbrev At-At-loop-c : Type 0
-At-At-loop-c = lts.At-loop tie.the-claims reads.Pre reads.Post tie.handed_clauses goal.the-invariant-loop-c goal.the-decreases-loop-c
+At-At-loop-c = lts.At-loop tie.the-claims reads.Pre reads.Post goal.the-invariant-loop-c goal.the-decreases-loop-c tie.handed_clauses
 
 abbrev at-loop : goal.After-wide-sum → At-At-loop-c
 at-loop c = c.before.before.before
@@ -36,9 +36,9 @@ mass-low c = abs_mag (mass c) 2147483648 c.wide-arg-1.given
 abbrev both : (c : goal.After-wide-sum) → Val (to_z w64 (at-loop c).loop-c.sum-bits +ℤ to_z w64 (of_z w64 c.wide-sum.result))
 both c =
     let l = at-loop c in
-    let s = mass_in l.args.masses.now l.loop.c in
-    let h : nat_abs s ≤ 862 * 2147483648 = omega (arith, l.loop.inv.2, c.loop-c-test.true, l.requires) in
-    v+ (same l.loop.inv.1 (known s (862 * 2147483648) h)) (same (mass-told c) (known (mass c) 2147483648 (mass-low c)))
+    let s = mass_in l.args.masses.now l.loop-c.c in
+    let h : nat_abs s ≤ 862 * 2147483648 = omega (arith, l.loop-c.invariant.2, c.loop-c-test.true, l.requires) in
+    v+ (same l.loop-c.invariant.1 (known s (862 * 2147483648) h)) (same (mass-told c) (known (mass c) 2147483648 (mass-low c)))
 
 pub loop-c-init : goal.loop-c-init
 unfolding sum
@@ -51,15 +51,15 @@ pub loop-c-preserved : goal.loop-c-preserved
 loop-c-preserved c =
     let l = at-loop c in
     let m = l.args.masses.now in
-    let e = mass-more m l.loop.c in (
+    let e = mass-more m l.loop-c.c in (
       omega (arith, c.loop-c-test.true),
       reads_as (v64 (both c)) tt ∙ e,
-      rw (sym e) (omega (arith, abs-add (mass_in m l.loop.c) (mass c), l.loop.inv.2, mass-low c)),
+      rw (sym e) (omega (arith, abs-add (mass_in m l.loop-c.c) (mass c), l.loop-c.invariant.2, mass-low c)),
     )
 
 pub returns : goal.returns
 unfolding mass_sum
 returns c =
-    let l = c.before in
+    let l = c in
     let m = l.args.masses.now in
     let e : l.loop-c.c ≡ length m = omega (arith, l.loop-c.invariant.0, c.loop-c-test.false) in  record { value = l.loop-c.invariant.1 ∙ ap (mass_in m) e; result_bound = rw l.loop-c.invariant.1 (omega (arith, l.loop-c.invariant.2, l.loop-c.invariant.0, l.requires)) }

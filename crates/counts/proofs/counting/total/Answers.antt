@@ -17,7 +17,7 @@ use Rattle.counts.proofs.counting.total.Tie as tie
 use Rattle.counts.proofs.counting.total.Goals as goal
 
 abbrev At-Then-fair_carry : Type 0
-At-Then-fair_carry = lts.Then1 tie.the-claims reads.Pre reads.Post
+At-Then-fair_carry = lts.Then1 tie.the-claims reads.Pre reads.Post tie.handed_clauses
 
 fair : (c : At-Then-fair_carry) → carry_good c.args.carry ≡ true
 fair c = ap carry_good (sym (to_z-of_z c.ranges.carry)) ∙ sym c.fair_carry.ensures ∙ c.if-fair_carry.true
@@ -28,7 +28,7 @@ carry-low k e = leb-true (nat_abs k) 1000000000000 e
 abbrev both : (c : goal.After-mass_sum)
     → Val (to_z w64 (of_z w64 c.mass_sum.result) +ℤ to_z w64 (of_z w64 c.args.carry))
 both c =
-    let s = c.before.before.before in
+    let s = c in
     v+ (same (to_z-of_z (sfits_of {w = w64} c.mass_sum.type_inv)) (known c.mass_sum.result 1851131068416 c.mass_sum.ensures.result_bound))
     (same (to_z-of_z s.ranges.carry) (known s.args.carry 1000000000000 (carry-low s.args.carry (fair c.before))))
 

@@ -42,29 +42,29 @@ overflow_add-corner c =
 
 pub overflow_add-result : goal.overflow_add-result
 overflow_add-result c =
-    let w = c.before.before.before.before.before in
+    let w = c in
     let s = w.args.s in
     record { fits = omega (arith, w.width.ensures, w.width-2.ensures, width-most 19 s.nx, width-most 19 s.ny) }
 
 pub overflow_add-result-2 : goal.overflow_add-result-2
 overflow_add-result-2 c =
-    let w = c.before.before.before.before.before in
+    let w = c in
     let s = w.args.s in
     let t = w.args.t in
     record { fits = omega (arith, w.width.ensures, w.width-2.ensures, width-most 19 s.nx, width-most 19 s.ny, west c.before.before.before, south c.before, metres-most t.x, metres-most t.y) }
 
 pub overflow_add-result-3 : goal.overflow_add-result-3
 overflow_add-result-3 c =
-    let y = c.before.before in
-    let w = y.before.before.before.before in
+    let y = c in
+    let w = y in
     let s = w.args.s in
     let t = w.args.t in
-    record { fits = omega (arith, w.width.ensures, w.width-2.ensures, width-most 19 s.nx, width-most 19 s.ny, west y.before.before, south y, edge c, metres-most t.x, metres-most t.y, metres-most t.edge) }
+    record { fits = omega (arith, w.width.ensures, w.width-2.ensures, width-most 19 s.nx, width-most 19 s.ny, west y.before.before.before.before, south y.before.before, edge c, metres-most t.x, metres-most t.y, metres-most t.edge) }
 
 pub returns : goal.returns
 returns c =
-    let y = c.before.before in
-    let w = y.before.before.before.before in
+    let y = c in
+    let w = y in
     let s = w.args.s in
     let t = w.args.t in
-    omega (arith, header-long s t, w.width.ensures, w.width-2.ensures, spell-long s.nx, spell-long s.ny, west y.before.before, south y, edge c)
+    omega (arith, header-long s t, w.width.ensures, w.width-2.ensures, spell-long s.nx, spell-long s.ny, west y.before.before.before.before, south y.before.before, edge c)

@@ -38,13 +38,13 @@ rows_are c =
 
 pub rows_length-rows-requires : goal.rows_length-rows-requires
 rows_length-rows-requires c =
-    let w = c.before.before.before.before.before in
+    let w = c in
     let a = w.args in
     subst (λ (e : ℕ). Measured a.s e a.flags.now a.fills.now) (sym (edge-is c.before)) w.requires
 
 pub overflow_add-result : goal.overflow_add-result
 overflow_add-result c =
-    let w = c.before.before.before.before.before.before.before in
+    let w = c in
     let a = w.args in
     let g = good-sides a.s w.requires.good in
     record { fits = omega (arith, c.header_length.ensures, header-most a.s a.t, rows_are c.before.before, rows-most (depth_at a.s (nat_abs a.t.edge) a.flags.now a.fills.now) a.s.nx a.s.ny g.x.high, g.y.high) }

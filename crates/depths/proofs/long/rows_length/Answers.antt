@@ -21,12 +21,12 @@ abbrev map : At-Start → ℕ → ℕ → ℤ
 map w = let a = w.args in depth_at a.s a.edge a.flags.now a.fills.now
 
 -- what is left has this row in front
-left_is : (c : At-After-row_length-long) → (let l = c.before.before in let w = l.before.before.before in
-    length (rows_text (map w) w.args.s.nx l.loop-y.y) ≡ c.row_length-long.result + length (rows_text (map w) w.args.s.nx (l.loop-y.y - 1)))
+left_is : (c : At-After-row_length-long) → (let l = c in let w = l in
+    length (rows_text (map w.before.before.before.before.before) w.args.s.nx l.loop-y.y) ≡ c.row_length-long.result + length (rows_text (map w.before.before.before.before.before) w.args.s.nx (l.loop-y.y - 1)))
 left_is c =
-    let l = c.before.before in
-    let w = l.before.before.before in
-    omega (arith, rows-step-long (map w) w.args.s.nx l.loop-y.y c.loop-y-test.true, c.row_length-long.ensures)
+    let l = c in
+    let w = l in
+    omega (arith, rows-step-long (map w.before.before.before.before.before) w.args.s.nx l.loop-y.y c.loop-y-test.true, c.row_length-long.ensures)
 
 pub loop-y-init : goal.loop-y-init
 loop-y-init c = (omega arith, omega arith)
@@ -39,19 +39,19 @@ row_length-long-requires c =  record { measured = c.requires; y_lt_ny = omega (a
 
 pub overflow_add-long : goal.overflow_add-long
 overflow_add-long c =
-    let l = c.before.before.before in
-    let w = l.before.before.before in
+    let l = c in
+    let w = l in
     let g = good-sides w.args.s w.requires.good in
-    record { fits = omega (arith, left_is c.before, l.loop-y.invariant.1, rows-most (map w) w.args.s.nx w.args.s.ny g.x.high, g.y.high) }
+    record { fits = omega (arith, left_is c.before, l.loop-y.invariant.1, rows-most (map w.before.before.before.before.before.before) w.args.s.nx w.args.s.ny g.x.high, g.y.high) }
 
 pub loop-y-smaller : goal.loop-y-smaller
 loop-y-smaller c = omega (arith, c.loop-y-test.true)
 
 pub loop-y-preserved : goal.loop-y-preserved
-loop-y-preserved c = let l = c.before.before.before in (omega (arith, l.loop-y.invariant.0), omega (arith, left_is c.before, l.loop-y.invariant.1))
+loop-y-preserved c = let l = c in (omega (arith, l.loop-y.invariant.0), omega (arith, left_is c.before, l.loop-y.invariant.1))
 
 pub returns : goal.returns
 returns c =
-    let l = c.before.before in
-    let w = l.before.before.before in
-    omega (arith, l.loop-y.invariant.1, ap length (rows_none (map w) w.args.s.nx l.loop-y.y c.loop-y-test.false))
+    let l = c in
+    let w = l in
+    omega (arith, l.loop-y.invariant.1, ap length (rows_none (map w.before.before.before.before.before) w.args.s.nx l.loop-y.y c.loop-y-test.false))

@@ -14,22 +14,22 @@ put_bytes-p-requires c =
 
 pub put_number-q-requires : goal.put_number-q-requires
 put_number-q-requires c =
-    let b = c.before.before.before.before in
-    let s = b.before.before.before.before in
+    let b = c in
+    let s = b in
     let a = s.args in
     omega (arith, s.requires, length-append a.key.now (spell_of a.n ++ 10 ∷ []), length-append (spell_of a.n) (10 ∷ []), b.put_bytes-p.ensures.end, put-long b.put_bytes-p.ensures)
 
 pub put_byte-requires : goal.put_byte-requires
 put_byte-requires c =
-    let n = c.before.before.before.before in
-    let b = n.before.before.before.before in
-    let s = b.before.before.before.before in
+    let n = c in
+    let b = n in
+    let s = b in
     let a = s.args in
     omega (arith, s.requires, length-append a.key.now (spell_of a.n ++ 10 ∷ []), length-append (spell_of a.n) (10 ∷ []), b.put_bytes-p.ensures.end, put-long b.put_bytes-p.ensures, n.put_number-q.ensures.end, put-long n.put_number-q.ensures)
 
 pub returns : goal.returns
 returns c =
-    let p = c.before.before.before in
-    let n = p.before.before.before.before in
-    let b = n.before.before.before.before in
+    let p = c in
+    let n = p in
+    let b = n in
     put_then b.put_bytes-p.ensures (put_then n.put_number-q.ensures p.put_byte.ensures)

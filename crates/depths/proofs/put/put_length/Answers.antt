@@ -17,23 +17,23 @@ put_bytes-p-requires c =
 
 pub put_metres-q-requires : goal.put_metres-q-requires
 put_metres-q-requires c =
-    let b = c.before.before.before.before in
-    let s = b.before.before.before.before in
+    let b = c in
+    let s = b in
     let a = s.args in
     omega (arith, s.requires, length-append a.key.now (metres_of a.z ++ 10 ∷ []), length-append (metres_of a.z) (10 ∷ []), b.put_bytes-p.ensures.end, put-long b.put_bytes-p.ensures, ap (λ (z : ℤ). length (metres_of z)) (to_z-of_z s.ranges.z))
 
 pub put_byte-requires : goal.put_byte-requires
 put_byte-requires c =
-    let n = c.before.before.before.before in
-    let b = n.before.before.before.before in
-    let s = b.before.before.before.before in
+    let n = c in
+    let b = n in
+    let s = b in
     let a = s.args in
     omega (arith, s.requires, length-append a.key.now (metres_of a.z ++ 10 ∷ []), length-append (metres_of a.z) (10 ∷ []), b.put_bytes-p.ensures.end, put-long b.put_bytes-p.ensures, n.put_metres-q.ensures.end, put-long n.put_metres-q.ensures, ap (λ (z : ℤ). length (metres_of z)) (to_z-of_z s.ranges.z))
 
 pub returns : goal.returns
 returns c =
-    let p = c.before.before.before in
-    let n = p.before.before.before.before in
-    let b = n.before.before.before.before in
-    let s = b.before.before.before.before in
+    let p = c in
+    let n = p in
+    let b = n in
+    let s = b in
     put_then b.put_bytes-p.ensures (put_then (put_as n.put_metres-q.ensures (ap metres_of (to_z-of_z s.ranges.z))) p.put_byte.ensures)

@@ -36,22 +36,22 @@ edge-is c =
 
 pub put_header-p-requires : goal.put_header-p-requires
 put_header-p-requires c =
-    let w = c.before.before.before.before.before in
+    let w = c in
     let a = w.args in
     omega (arith, w.requires.fills_in_bounds, map-long a.s a.t a.flags.now a.fills.now)
 
 pub put_rows-requires : goal.put_rows-requires
 put_rows-requires c =
-    let m = c.before.before in
-    let h = m.before.before.before.before in
-    let w = h.before.before.before.before.before in
-    let a = w.args in  record { measured = subst (λ (e : ℕ). Measured a.s e a.flags.now a.fills.now) (sym (edge-is m)) w.requires.measured; ny_in_bounds = omega (arith, w.requires.fills_in_bounds, map-long a.s a.t a.flags.now a.fills.now, h.put_header-p.ensures.end, put-long h.put_header-p.ensures, ap (λ (e : ℕ). length (rows w e)) (edge-is m)) }
+    let m = c in
+    let h = m in
+    let w = h in
+    let a = w.args in  record { measured = subst (λ (e : ℕ). Measured a.s e a.flags.now a.fills.now) (sym (edge-is m.before.before)) w.requires.measured; ny_in_bounds = omega (arith, w.requires.fills_in_bounds, map-long a.s a.t a.flags.now a.fills.now, h.put_header-p.ensures.end, put-long h.put_header-p.ensures, ap (λ (e : ℕ). length (rows w.before.before.before.before.before.before.before.before.before.before.before e)) (edge-is m.before.before)) }
 
 pub returns : goal.returns
 returns c =
-    let r = c.before.before.before in
-    let m = r.before.before in
-    let h = m.before.before.before.before in
-    let w = h.before.before.before.before.before in
+    let r = c in
+    let m = r in
+    let h = m in
+    let w = h in
     let a = w.args in
-    (put_as (put_then h.put_header-p.ensures (put_as r.put_rows.ensures (ap (rows w) (edge-is m)))) (map_is a.s a.t a.flags.now a.fills.now)).room-is
+    (put_as (put_then h.put_header-p.ensures (put_as r.put_rows.ensures (ap (rows w.before.before.before.before.before.before.before.before.before.before.before.before.before.before) (edge-is m.before.before.before.before.before)))) (map_is a.s a.t a.flags.now a.fills.now)).room-is

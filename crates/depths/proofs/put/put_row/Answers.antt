@@ -28,18 +28,18 @@ At-After-depth-v = lts.After-depth tie.the-claims reads.Pre reads.Post tie.hande
 abbrev piece : ℤ → ℕ → List ℕ
 piece z n = whole_of z ++ behind n ∷ []
 
-value-is : (c : At-After-depth-v) → (let l = c.before.before in to_z w64 (of_z w64 c.depth-v.result) ≡ row l.before.before.before.before l.loop-x.x)
+value-is : (c : At-After-depth-v) → (let l = c in to_z w64 (of_z w64 c.depth-v.result) ≡ row l.before.before.before.before.before.before l.loop-x.x)
 value-is c = to_z-of_z (sfits_of {w = w64} c.depth-v.type_inv) ∙ c.depth-v.ensures
 
 pub loop-x-init : goal.loop-x-init
-loop-x-init c = let w = c.before.before.before.before in (omega arith, under-as under-begin (sym (row-begin (row w) w.args.s.nx)))
+loop-x-init c = let w = c in (omega arith, under-as under-begin (sym (row-begin (row w.before.before.before.before) w.args.s.nx)))
 
 pub depth-v-requires : goal.depth-v-requires
-depth-v-requires c = let w = c.before.before.before.before.before.before in  record { measured = w.requires.measured; x_lt_nx = c.loop-x-test.true; y_lt_ny = w.requires.y_lt_ny }
+depth-v-requires c = let w = c in  record { measured = w.requires.measured; x_lt_nx = c.loop-x-test.true; y_lt_ny = w.requires.y_lt_ny }
 
 pub overflow_add-x : goal.overflow_add-x
 overflow_add-x c =
-    let w = c.before.before.before.before.before.before.before in
+    let w = c in
     record { fits = omega (arith, c.loop-x-test.true, (good-sides w.args.s w.requires.measured.good).x.high) }
 
 pub overflow_sub-nx : goal.overflow_sub-nx
@@ -47,25 +47,25 @@ overflow_sub-nx c = omega (arith, c.loop-x-test.true)
 
 pub put_value-p-requires : goal.put_value-p-requires
 put_value-p-requires c =
-    let d = c.before.before in
-    let l = d.before.before in
-    let w = l.before.before.before.before in
+    let d = c in
+    let l = d in
+    let w = l in
     let n = w.args.s.nx - (l.loop-x.x + 1) in
-    subst (λ (z : ℤ). l.loop-x.p + length (piece z n) ≤ length l.loop-x.room) (sym (value-is d))
-    (under-room (piece (row w l.loop-x.x) n) (row_text (row w) (l.loop-x.x + 1) n) l.loop-x.invariant.1 (row_step (row w) l.loop-x.x w.args.s.nx d.loop-x-test.true) w.requires.nx_in_bounds)
+    subst (λ (z : ℤ). l.loop-x.p + length (piece z n) ≤ length l.loop-x.room) (sym (value-is d.before.before))
+    (under-room (piece (row w.before.before.before.before.before.before.before.before l.loop-x.x) n) (row_text (row w.before.before.before.before.before.before.before.before) (l.loop-x.x + 1) n) l.loop-x.invariant.1 (row_step (row w.before.before.before.before.before.before.before.before) l.loop-x.x w.args.s.nx d.loop-x-test.true) w.requires.nx_in_bounds)
 
 pub loop-x-smaller : goal.loop-x-smaller
 loop-x-smaller c = omega (arith, c.loop-x-test.true)
 
 pub loop-x-preserved : goal.loop-x-preserved
 loop-x-preserved c =
-    let v = c.before.before.before in
-    let d = v.before.before in
-    let l = d.before.before in
-    let w = l.before.before.before.before in
+    let v = c in
+    let d = v in
+    let l = d in
+    let w = l in
     let n = w.args.s.nx - (l.loop-x.x + 1) in (
       omega (arith, d.loop-x-test.true),
-      under_more l.loop-x.invariant.1 (row_step (row w) l.loop-x.x w.args.s.nx d.loop-x-test.true) (put_as v.put_value-p.ensures (ap (λ (z : ℤ). piece z n) (value-is d))),
+      under_more l.loop-x.invariant.1 (row_step (row w.before.before.before.before.before.before.before.before.before.before.before) l.loop-x.x w.args.s.nx d.loop-x-test.true) (put_as v.put_value-p.ensures (ap (λ (z : ℤ). piece z n) (value-is d.before.before.before.before.before))),
     )
 
 pub shape_of-room : goal.shape_of-room
@@ -73,6 +73,6 @@ shape_of-room c = under-long c.loop-x.invariant.1
 
 pub returns : goal.returns
 returns c =
-    let l = c.before.before in
-    let w = l.before.before.before.before in
-    under-end l.loop-x.invariant.1 (row-none (row w) l.loop-x.x w.args.s.nx c.loop-x-test.false)
+    let l = c in
+    let w = l in
+    under-end l.loop-x.invariant.1 (row-none (row w.before.before.before.before.before.before) l.loop-x.x w.args.s.nx c.loop-x-test.false)

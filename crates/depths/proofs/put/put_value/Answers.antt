@@ -14,19 +14,19 @@ use Rattle.depths.proofs.put.put_value.Goals as goal
 
 pub put_whole-p-requires : goal.put_whole-p-requires
 put_whole-p-requires c =
-    let s = c.before.before in
+    let s = c in
     omega (arith, s.requires, value-long s.args.v s.args.n, ap (λ (z : ℤ). length (whole_of z)) (to_z-of_z s.ranges.v))
 
 pub put_byte-requires : goal.put_byte-requires
 put_byte-requires c =
-    let w = c.before.before.before.before in
-    let s = w.before.before.before in
+    let w = c in
+    let s = w in
     omega (arith, s.requires, value-long s.args.v s.args.n, ap (λ (z : ℤ). length (whole_of z)) (to_z-of_z s.ranges.v), w.put_whole-p.ensures.end, put-long w.put_whole-p.ensures)
 
 pub returns : goal.returns
 returns c =
-    let p = c.before.before.before in
-    let g = p.before in
-    let w = g.before.before.before.before in
-    let s = w.before.before.before in
+    let p = c in
+    let g = p in
+    let w = g in
+    let s = w in
     put_then (put_as w.put_whole-p.ensures (ap whole_of (to_z-of_z s.ranges.v))) (put_as p.put_byte.ensures (ap (λ (b : ℕ). b ∷ []) g.parting.ensures))

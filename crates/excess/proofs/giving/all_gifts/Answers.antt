@@ -29,27 +29,27 @@ turn c = record { some = omega arith; most = omega (arith, c.loop-i-test.true) }
 
 -- what the neighbour there is asked
 ask : (c : At-In-loop-i)
-    → let s = c.before.before.before.before.before in
+    → let s = c in
     Asked s.args.flags.now s.args.fills.now (RoomOf s.args.parts.now) (part_of s.args.parts.now) s.args.masses.now s.args.marks.now s.args.off.now s.args.low
     (s.args.c - s.args.low + get_or s.args.off.now c.loop-i.i 0) (d3q19.opp c.loop-i.i)
 ask c =
-    let s = c.before.before.before.before.before in
+    let s = c in
     asked s.requires.0 s.args.c s.requires.1 s.requires.2 c.loop-i.i (turn c)
 
 -- what the neighbour gave
 gave : (c : At-After-gift_from-t)
-    → let l = c.before.before.before.before in
+    → let l = c in
     let a = l.args in
     to_z w64 (of_z w64 c.gift_from-t.result) ≡ sent a.flags.now a.fills.now (part_of a.parts.now) a.masses.now a.marks.now a.off.now a.low (a.c - a.low) (l.loop-i.i - 1)
 gave c =
-    let l = c.before.before.before.before in
+    let l = c in
     let a = l.args in
     told64 c.gift_from-t.type_inv (c.gift_from-t.ensures
     ∙ sent-at a.flags.now a.fills.now (part_of a.parts.now) a.masses.now a.marks.now a.off.now a.low (a.c - a.low) l.loop-i.i _ (omega arith) c.opposite.ensures)
 
 pub overflow_sub-k : goal.overflow_sub-k
 overflow_sub-k c =
-    let s = c.before.before.before.before in
+    let s = c in
     (s.requires.0.taker s.args.c s.requires.1 s.requires.2).from
 
 pub loop-i-init : goal.loop-i-init
@@ -57,29 +57,29 @@ unfolding sum
 loop-i-init c = (omega arith, omega arith, refl)
 
 pub overflow_add-k : goal.overflow_add-k
-overflow_add-k c = record { fits = omega (arith, (ask c.before.before).0) }
+overflow_add-k c = record { fits = omega (arith, (ask c.before.before.before).0) }
 
 pub opposite-requires : goal.opposite-requires
-opposite-requires c = turn c.before.before
+opposite-requires c = turn c.before.before.before
 
 pub gift_from-t-requires : goal.gift_from-t-requires
 gift_from-t-requires c =
-    let l = c.before.before.before.before in
+    let l = c in
     let a = l.args in
     subst (Asked a.flags.now a.fills.now (RoomOf a.parts.now) (part_of a.parts.now) a.masses.now a.marks.now a.off.now a.low (a.c - a.low + get_or a.off.now l.loop-i.i 0))
-    (sym c.opposite.ensures) (ask c.before.before.before)
+    (sym c.opposite.ensures) (ask c.before.before.before.before)
 
 pub overflow_add-t : goal.overflow_add-t
 overflow_add-t c =
-    let l = c.before.before.before.before.before in
-    let s = l.before.before.before.before in
+    let l = c in
+    let s = l in
     does-fit (v+ (held_in l.loop-i.invariant.2 (sum-in s.requires.0 s.args.c s.requires.1 s.requires.2 (l.loop-i.i - 1) (omega arith)))
     (held_in (gave c.before) (sent-in s.requires.0 s.args.c s.requires.1 s.requires.2 (l.loop-i.i - 1) (omega (arith, c.loop-i-test.true))))) tt
 
 pub loop-i-preserved : goal.loop-i-preserved
 loop-i-preserved c =
-    let l = c.before.before.before.before.before in
-    let s = l.before.before.before.before in (
+    let l = c in
+    let s = l in (
       omega arith,
       omega (arith, c.loop-i-test.true),
       reads_as (v64 (v+ (held_in l.loop-i.invariant.2 (sum-in s.requires.0 s.args.c s.requires.1 s.requires.2 (l.loop-i.i - 1) (omega arith)))
@@ -90,7 +90,7 @@ loop-i-preserved c =
 pub returns : goal.returns
 unfolding received_at
 returns c =
-    let l = c.before.before in
+    let l = c in
     let a = l.args in
     let e : l.loop-i.i - 1 ≡ 18 = omega arith in
     l.loop-i.invariant.2 ∙ ap (λ (n : ℕ). sum n (sent a.flags.now a.fills.now (part_of a.parts.now) a.masses.now a.marks.now a.off.now a.low (a.c - a.low))) e

@@ -54,22 +54,22 @@ mass-told : (c : At-After-wide)
 mass-told c = told64 c.wide.type_inv (c.wide.ensures ∙ told c.wide-arg-1.given refl) ∙ c.loop-c.invariant.rest _ (omega arith)
 
 gifts-told : (c : At-After-wide)
-    → let l = c.before.before.before.before.before.before.before.before in
+    → let l = c in
     let a = l.args in
     to_z w64 (of_z w64 c.gifts-t.result)
     ≡ received_at a.flags.now a.fills.now (part_of a.parts.now) a.masses.now a.marks.now l.offsets-off.result l.low_of-low.result l.loop-c.c
 gifts-told c =
-    let l = c.before.before.before.before.before.before.before.before in
+    let l = c in
     told64 c.gifts-t.type_inv (c.gifts-t.ensures
-    ∙ received-still (giving l.before) l.loop-c.masses l.loop-c.invariant.size (still l) l.loop-c.c c.loop-c-test.true c.if-flags-c-eq1.true)
+    ∙ received-still (giving l.before.before.before.before.before.before.before.before) l.loop-c.masses l.loop-c.invariant.size (still l.before.before.before.before.before.before.before) l.loop-c.c c.loop-c-test.true c.if-flags-c-eq1.true)
 
 -- their sum, in range
 abbrev both : (c : At-After-wide) → Val (to_z w64 (of_z w64 c.wide.result) +ℤ to_z w64 (of_z w64 c.gifts-t.result))
 both c =
-    let l = c.before.before.before.before.before.before.before.before in
-    let s = l.before.before.before.before.before.before in
+    let l = c in
+    let s = l in
     v+ (held_in (mass-told c) (s.requires.taken l.loop-c.c c.loop-c-test.true c.if-flags-c-eq1.true))
-    (held_in (gifts-told c) (received-in (giving l.before) l.loop-c.c c.loop-c-test.true c.if-flags-c-eq1.true))
+    (held_in (gifts-told c) (received-in (giving l.before.before.before.before.before.before.before.before) l.loop-c.c c.loop-c-test.true c.if-flags-c-eq1.true))
 
 pub offsets-off-requires : goal.offsets-off-requires
 offsets-off-requires c = c.requires.sides
@@ -82,16 +82,16 @@ loop-c-init c = ranged-first (pos 0) _ _ 0 _ (omega arith)
 
 pub gifts-t-requires : goal.gifts-t-requires
 gifts-t-requires c =
-    let l = c.before.before.before.before.before.before in
-    (giving-still (giving l.before) l.loop-c.masses l.loop-c.invariant.size (still l), c.loop-c-test.true, c.if-flags-c-eq1.true)
+    let l = c in
+    (giving-still (giving l.before.before.before.before.before.before) l.loop-c.masses l.loop-c.invariant.size (still l.before.before.before.before.before), c.loop-c-test.true, c.if-flags-c-eq1.true)
 
 pub offset_bounds-masses-c : goal.offset_bounds-masses-c
 offset_bounds-masses-c c =
-    let h = there c.before.before.before.before.before.before in
+    let h = there c.before.before.before.before.before in
     search rules
 
 pub slice_copy_out-wide : goal.slice_copy_out-wide
-slice_copy_out-wide c = there c.before.before.before.before.before.before
+slice_copy_out-wide c = there c.before.before.before.before.before
 
 pub overflow_add-masses : goal.overflow_add-masses
 overflow_add-masses c = does-fit (both c.before) tt
@@ -101,33 +101,33 @@ overflow_cast-masses c = does-fit (v64 (both c.before)) tt
 
 pub offset_bounds-masses-c-then-flags-c-eq1 : goal.offset_bounds-masses-c-then-flags-c-eq1
 offset_bounds-masses-c-then-flags-c-eq1 c =
-    let h = there c.before.before.before.before.before.before.before.before in
+    let h = there c.before.before.before.before.before.before.before in
     search rules
 
 pub bounds-masses-c : goal.bounds-masses-c
-bounds-masses-c c = there c.before.before.before.before.before.before.before.before
+bounds-masses-c c = there c.before.before.before.before.before.before.before
 
 pub loop-c-smaller : goal.loop-c-smaller
 loop-c-smaller c = omega (arith, c.next_of-c.ensures.least, c.next_of-c.ensures.most, c.loop-c-test.true)
 
 pub loop-c-preserved : goal.loop-c-preserved
 loop-c-preserved c =
-    let b = c.before.before in
-    let l = b.before.before.before in
+    let b = c in
+    let l = b in
     let a = l.args in
     let h = b.loop-c-test.true in
     let n : length a.flags.now ≤ length a.masses.now = omega (arith, l.requires.giving.masses-there) in
     -- the cells up to the next interface cell keep their masses
-    over-gap (λ j. Ranged (pos 0) (taking (giving l.before)) a.masses.now 0 (length a.flags.now) b.if-flags-c-eq1.masses j) (l.loop-c.c + 1) c.next_of-c.result c.next_of-c.ensures.least
-    (λ j k m r. ranged-keep (pos 0) (taking (giving l.before)) a.masses.now 0 (length a.flags.now) b.if-flags-c-eq1.masses j r (omega (arith, c.next_of-c.ensures.most)) (kept (giving l.before) j (c.next_of-c.ensures.before j k m)))
+    over-gap (λ j. Ranged (pos 0) (taking (giving l.before.before.before.before.before.before)) a.masses.now 0 (length a.flags.now) b.if-flags-c-eq1.masses j) (l.loop-c.c + 1) c.next_of-c.result c.next_of-c.ensures.least
+    (λ j k m r. ranged-keep (pos 0) (taking (giving l.before.before.before.before.before.before)) a.masses.now 0 (length a.flags.now) b.if-flags-c-eq1.masses j r (omega (arith, c.next_of-c.ensures.most)) (kept (giving l.before.before.before.before.before.before) j (c.next_of-c.ensures.before j k m)))
     (⊎_elim
     (λ w.
-    let d : At-After-wide = record { before = record { before = record { before = record { before = record { before = record { before = b.before; if1 = w.0 }; gifts-arg = w.1 }; off = w.2 }; gifts = w.3 }; wide-arg = w.4 }; wide = w.5 } in
-    subst (λ (m : List ℤ). Ranged (pos 0) (taking (giving l.before)) a.masses.now 0 (length a.flags.now) m (l.loop-c.c + 1)) (sym w.6)
-    (ranged-more (pos 0) (taking (giving l.before)) a.masses.now 0 (length a.flags.now) l.loop-c.masses l.loop-c.c _ l.loop-c.invariant h n
-    (reads_as (v32 (v64 (both d))) tt ∙ took (giving l.before) l.loop-c.c w.0.taken)))
-    (λ w. subst (λ (m : List ℤ). Ranged (pos 0) (taking (giving l.before)) a.masses.now 0 (length a.flags.now) m (l.loop-c.c + 1)) (sym w.1)
-    (ranged-keep (pos 0) (taking (giving l.before)) a.masses.now 0 (length a.flags.now) l.loop-c.masses l.loop-c.c l.loop-c.invariant h (kept (giving l.before) l.loop-c.c w.0.left)))
+    let d : At-After-wide = record { before = record { before = record { before = record { before = record { before = record { before = b.before.before; if1 = w.0 }; gifts-arg = w.1 }; off = w.2 }; gifts = w.3 }; wide-arg = w.4 }; wide = w.5 } in
+    subst (λ (m : List ℤ). Ranged (pos 0) (taking (giving l.before.before.before.before.before.before)) a.masses.now 0 (length a.flags.now) m (l.loop-c.c + 1)) (sym w.6)
+    (ranged-more (pos 0) (taking (giving l.before.before.before.before.before.before)) a.masses.now 0 (length a.flags.now) l.loop-c.masses l.loop-c.c _ l.loop-c.invariant h n
+    (reads_as (v32 (v64 (both d))) tt ∙ took (giving l.before.before.before.before.before.before) l.loop-c.c w.0.taken)))
+    (λ w. subst (λ (m : List ℤ). Ranged (pos 0) (taking (giving l.before.before.before.before.before.before)) a.masses.now 0 (length a.flags.now) m (l.loop-c.c + 1)) (sym w.1)
+    (ranged-keep (pos 0) (taking (giving l.before.before.before.before.before.before)) a.masses.now 0 (length a.flags.now) l.loop-c.masses l.loop-c.c l.loop-c.invariant h (kept (giving l.before.before.before.before.before.before) l.loop-c.c w.0.left)))
     b.if-flags-c-eq1.branch)
 
 pub shape_of-masses : goal.shape_of-masses
@@ -135,11 +135,11 @@ shape_of-masses c = c.loop-c.invariant.size
 
 pub returns : goal.returns
 returns c =
-    let l = c.before.before in
-    let s = l.before.before.before.before.before.before in
+    let l = c in
+    let s = l in
     let a = s.args in
     let o = l.offsets-off.ensures in
     let e = l.low_of-low.ensures in
-    ranged-all (pos 0) (taking (giving l.before)) a.masses.now 0 (length a.flags.now) l.loop-c.masses l.loop-c.c _ _ l.loop-c.invariant c.loop-c-test.false (s.requires.giving.masses-there ∙ s.requires.count)
-    (λ j k. in-range (taking (giving l.before)) a.masses.now (length a.flags.now) j (omega (arith, s.requires.count))
+    ranged-all (pos 0) (taking (giving l.before.before.before)) a.masses.now 0 (length a.flags.now) l.loop-c.masses l.loop-c.c _ _ l.loop-c.invariant c.loop-c-test.false (s.requires.giving.masses-there ∙ s.requires.count)
+    (λ j k. in-range (taking (giving l.before.before.before)) a.masses.now (length a.flags.now) j (omega (arith, s.requires.count))
     ∙ ap₂ (λ (x : List ℕ) (y : ℕ). gathered_at a.flags.now a.fills.now (part_of a.parts.now) a.masses.now a.marks.now x y j) o e)

@@ -8,16 +8,16 @@ use Rattle.excess.proofs.giving.gift_from.Goals as goal
 
 pub returns-then-m-eq0 : goal.returns-then-m-eq0
 returns-then-m-eq0 c =
-    let s = c.before.before.before.before.before.before in
+    let s = c in
     from-none s.args.flags.now s.args.fills.now (part_of s.args.parts.now) s.args.masses.now s.args.off.now s.args.low s.args.marks.now s.args.b s.args.i c.if-m-eq0.true
 
 pub gift-requires : goal.gift-requires
 gift-requires c =
-    let s = c.before.before.before.before.before.before in
+    let s = c in
     ((s.requires.2 c.if-m-eq0.false).0, s.requires.1, (s.requires.2 c.if-m-eq0.false).1)
 
 pub returns : goal.returns
 returns c =
-    let s = c.before.before.before.before.before.before.before in
+    let s = c in
     told64 c.gift.type_inv c.gift.ensures
     ∙ from_some s.args.flags.now s.args.fills.now (part_of s.args.parts.now) s.args.masses.now s.args.off.now s.args.low s.args.marks.now s.args.b s.args.i c.if-m-eq0.false

@@ -40,13 +40,13 @@ bounds-marks-k-in-loop-i c = c.requires (c.loop-i.i + 1) (omega arith)
 
 pub loop-i-preserved : goal.loop-i-preserved
 loop-i-preserved c =
-    let l = c.before.before.before.before.before.before in
+    let l = c in
     let a = l.args in
     (omega arith, omega arith, pair a.marks.now a.off.now a.k l.loop-i.i l.loop-i.found (omega arith) l.loop-i.invariant.2)
 
 pub returns : goal.returns
 returns c =
-    let l = c.before in
+    let l = c in
     let a = l.args in
     let e : l.loop-i.i - 1 ≡ 18 = omega arith in
     l.loop-i.invariant.2 ∙ ap (λ (n : ℕ). any n (at a.marks.now a.off.now a.k)) e

@@ -21,8 +21,8 @@ bounds-flags-k c = c.requires c.loop-i.i c.loop-i-test.true
 
 pub loop-i-preserved : goal.loop-i-preserved
 loop-i-preserved c =
-    let l = c.before.before.before.before.before in
-    let s = l.before.before in
+    let l = c in
+    let s = l in
     let f = by_flags s.args.flags.now s.args.off.now s.args.k in (
       omega arith,
       omega arith,
@@ -33,8 +33,8 @@ loop-i-preserved c =
 
 pub returns : goal.returns
 returns c =
-    let l = c.before.before in
-    let s = l.before.before in
+    let l = c in
+    let s = l in
     let e : l.loop-i.i ≡ 19 = omega arith in
     upto_all (pos 0) (of_dir (by_flags s.args.flags.now s.args.off.now s.args.k)) l.loop-i.w 19 l.loop-i.invariant.2 (rw e at l.loop-i.invariant.3)
     ∙ by_flags_lem s.args.flags.now s.args.off.now s.args.k

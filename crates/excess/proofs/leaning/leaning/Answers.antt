@@ -16,7 +16,7 @@ At-After-normal-n = lts.After-normal tie.the-claims reads.Pre reads.Post
 -- its components are in range
 slight : (c : At-After-normal-n) → Leaning (vec c.normal-n.result)
 slight c =
-    let s = c.before.before.before in
+    let s = c in
     subst Leaning (sym c.normal-n.ensures) (normal-in s.args.flags.now s.args.fills.now s.args.off.now s.args.k s.requires.2)
 
 pub normal-n-requires : goal.normal-n-requires
@@ -24,7 +24,7 @@ normal-n-requires c = record { reach = c.requires.0; count = c.requires.1; low =
 
 pub returns-then-m-eq1 : goal.returns-then-m-eq1
 returns-then-m-eq1 c =
-    let s = c.before.before.before.before.before in
+    let s = c in
     c.normal-n.ensures ∙ leaning-filled s.args.flags.now s.args.fills.now s.args.off.now s.args.k s.args.m c.if-m-eq1.true
 
 pub overflow_sub-result : goal.overflow_sub-result
@@ -38,8 +38,8 @@ overflow_sub-result-3 c = turned-fits (slight c.before.before.before.before.befo
 
 pub returns : goal.returns
 returns c =
-    let n = c.before.before.before.before.before.before.before.before in
-    let s = n.before.before.before in
-    vector (turned (slight n).x) (turned (slight n).y) (turned (slight n).z)
+    let n = c in
+    let s = n in
+    vector (turned (slight n.before.before.before.before.before.before.before.before).x) (turned (slight n.before.before.before.before.before.before.before.before).y) (turned (slight n.before.before.before.before.before.before.before.before).z)
     ∙ ap back n.normal-n.ensures
     ∙ leaning-emptied s.args.flags.now s.args.fills.now s.args.off.now s.args.k s.args.m c.if-m-eq1.false

@@ -34,8 +34,8 @@ bounds-flags-k c = c.requires.0 c.loop-i.i c.loop-i-test.true
 
 pub loop-i-preserved : goal.loop-i-preserved
 loop-i-preserved c =
-    let l = c.before.before.before.before.before.before in
-    let s = l.before.before.before in
+    let l = c in
+    let s = l in
     let d = l.dots-d.result in
     let f = by_dots s.args.flags.now s.args.off.now s.args.k d in (
       omega arith,
@@ -47,8 +47,8 @@ loop-i-preserved c =
 
 pub returns : goal.returns
 returns c =
-    let l = c.before.before in
-    let s = l.before.before.before in
+    let l = c in
+    let s = l in
     let e : l.loop-i.i ≡ 19 = omega arith in
     upto_all (pos 0) (of_dir (by_dots s.args.flags.now s.args.off.now s.args.k l.dots-d.result)) l.loop-i.w 19 l.loop-i.invariant.2 (rw e at l.loop-i.invariant.3)
     ∙ by-dots s.args.flags.now s.args.off.now s.args.k (vec s.args.n) l.dots-d.ensures

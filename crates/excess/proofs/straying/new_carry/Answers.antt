@@ -35,24 +35,24 @@ inside c = omega (arith, c.loop-c-test.true, c.requires.0.marks-there)
 
 -- what was lost at a marked cell
 lost-told : (c : At-After-lost-t)
-    → let l = c.before.before.before.before.before in
+    → let l = c in
     let a = l.args in
     to_z w64 (of_z w64 c.lost-t.result) ≡ stray_at a.flags.now (part_of a.parts.now) a.masses.now a.marks.now l.offsets-off.result l.low_of-low.result l.loop-c.c
 lost-told c =
-    let l = c.before.before.before.before.before in
+    let l = c in
     let a = l.args in
     told64 c.lost-t.type_inv (c.lost-t.ensures
     ∙ stray-some a.flags.now (part_of a.parts.now) a.masses.now a.marks.now l.offsets-off.result l.low_of-low.result l.loop-c.c c.if-m-ne0.true)
 
 -- the carry so far, in range
 so_far : (c : At-In-loop-c)
-    → let l = c.before in
+    → let l = c in
     let a = l.args in
     Within (to_z w64 (of_z w64 a.carry) +ℤ sum l.loop-c.c (stray_at a.flags.now (part_of a.parts.now) a.masses.now a.marks.now l.offsets-off.result l.low_of-low.result)) 13060268167168
 unfolding cells_of
 so_far c =
-    let l = c.before in
-    let s = l.before.before.before.before.before in
+    let l = c in
+    let s = l in
     let a = s.args in
     let n : l.loop-c.c ≤ 262144 = omega (arith, inside c, s.requires.0.count, (good-sides a.s s.requires.0.sides).all) in
     let w = strays-in a.flags.now (part_of a.parts.now) a.masses.now a.marks.now l.offsets-off.result l.low_of-low.result l.loop-c.c n (λ j k. s.requires.0.weighed j (omega (arith, inside c))) in
@@ -60,12 +60,12 @@ so_far c =
 
 abbrev both : (c : At-After-lost-t) → Val (to_z w64 c.loop-c.t-bits +ℤ to_z w64 (of_z w64 c.lost-t.result))
 both c =
-    let i = c.before.before.before.before in
-    let l = i.before in
-    let s = l.before.before.before.before.before in
+    let i = c in
+    let l = i in
+    let s = l in
     let a = s.args in
-    v+ (held_in l.loop-c.invariant.1 (so_far i))
-    (held_in (lost-told c) (stray-in a.flags.now (part_of a.parts.now) a.masses.now a.marks.now l.offsets-off.result l.low_of-low.result l.loop-c.c (s.requires.0.weighed l.loop-c.c (inside i))))
+    v+ (held_in l.loop-c.invariant.1 (so_far i.before.before.before.before))
+    (held_in (lost-told c) (stray-in a.flags.now (part_of a.parts.now) a.masses.now a.marks.now l.offsets-off.result l.low_of-low.result l.loop-c.c (s.requires.0.weighed l.loop-c.c (inside i.before.before.before.before))))
 
 pub offsets-off-requires : goal.offsets-off-requires
 offsets-off-requires c = c.requires.0.sides
@@ -79,11 +79,11 @@ loop-c-init c = (omega arith, sym (+ℤ_idr _))
 
 pub lost-t-requires : goal.lost-t-requires
 lost-t-requires c =
-    let i = c.before.before.before.before in
-    let l = i.before in
-    let s = l.before.before.before.before.before in (
-      around-as l.loop-c.c l.offsets-off.ensures l.low_of-low.ensures (s.requires.0.around l.loop-c.c (inside i) c.if-m-ne0.true),
-      s.requires.0.weighed l.loop-c.c (inside i) c.if-m-ne0.true,
+    let i = c in
+    let l = i in
+    let s = l in (
+      around-as l.loop-c.c l.offsets-off.ensures l.low_of-low.ensures (s.requires.0.around l.loop-c.c (inside i.before.before.before.before) c.if-m-ne0.true),
+      s.requires.0.weighed l.loop-c.c (inside i.before.before.before.before) c.if-m-ne0.true,
     )
 
 pub overflow_add-t : goal.overflow_add-t
@@ -96,8 +96,8 @@ loop-c-smaller c =
 
 pub loop-c-preserved : goal.loop-c-preserved
 loop-c-preserved c =
-    let b = c.before.before in
-    let l = b.before.before.before in
+    let b = c in
+    let l = b in
     let a = l.args in
     let off = l.offsets-off.result in
     let low = l.low_of-low.result in
@@ -109,7 +109,7 @@ loop-c-preserved c =
           (λ j h i e. e ∙ strays-keep a.flags.now (part_of a.parts.now) a.masses.now a.marks.now off low k j (n.before j h i))
           (⊎_elim
           (λ w.
-          let d : At-After-lost-t = record { before = record { before = record { before = b.before; if1 = w.0 }; off = w.1 }; lost = w.2 } in
+          let d : At-After-lost-t = record { before = record { before = record { before = b.before.before; if1 = w.0 }; off = w.1 }; lost = w.2 } in
           ap (to_z w64) w.3 ∙ reads_as (v64 (both d)) tt
           ∙ strays-more a.flags.now (part_of a.parts.now) a.masses.now a.marks.now off low k l.loop-c.c)
           (λ w. ap (to_z w64) w.1 ∙ l.loop-c.invariant.1
@@ -119,8 +119,8 @@ loop-c-preserved c =
 
 pub returns : goal.returns
 returns c =
-    let l = c.before.before in
-    let s = l.before.before.before.before.before in
+    let l = c in
+    let s = l in
     let a = s.args in
     let e : l.loop-c.c ≡ cells_of a.s = omega (arith, l.loop-c.invariant.0, c.loop-c-test.false, s.requires.0.marks-there, s.requires.0.count) in
     l.loop-c.invariant.1

@@ -39,7 +39,7 @@ wide-bound s = loosened _ _ _ _ _ s.requires.0 (omega arith) (omega arith)
 
 -- the relaxation as it is handed on
 handed : (c : goal.After-relaxation) → to_z w64 (of_z w64 c.relaxation.result) ≡ c.relaxation.result
-handed c = to_z-of_z (record { sfits = c.relaxation.type_inv })
+handed c = to_z-of_z {w = w64} (record { sfits = c.relaxation.type_inv })
 
 pub flow_of-requires : goal.flow_of-requires
 flow_of-requires c = wide-bound c
@@ -110,5 +110,5 @@ returns c flags parts fills off low l e =
     (subst (λ (p : ℤ). k.collided-r.result ≡ tab 19 (collided_part d3q19 after-pulled.pulled-v.result.rho (vec after-pulled.pulled-v.result) p (parts_of s.args.f))) (handed (search) ∙ after-relaxation.relaxation.ensures.0) k.collided-r.ensures.0)
     _ _ _ s.requires.2 after-paste.paste.ensures refl
     (sym a.steady.ensures ∙ not-false _ else1.if-not-steady.false-raw)
-    (to_z-of_z (record { sfits = c.struct_told-1.given.0.1 }))
+    (to_z-of_z {w = w64} (record { sfits = c.struct_told-1.given.0.1 }))
     after-fair.fair.ensures

@@ -23,7 +23,7 @@ At-Start = lts.Start tie.the-claims reads.Pre reads.Post
 
 -- p as it is handed on
 handed : (c : goal.After-struct_told-1) → to_z w64 (of_z w64 c.args.g.p) ≡ c.args.g.p
-handed c = to_z-of_z (record { sfits = c.struct_told-1.given.0.1 })
+handed c = to_z-of_z {w = w64} (record { sfits = c.struct_told-1.given.0.1 })
 
 good : (s : At-Start) → relaxation_good s.args.g.p ≡ true
 good s = relaxation-of s.args.g s.requires

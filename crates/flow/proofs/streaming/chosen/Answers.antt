@@ -26,7 +26,7 @@ source : (s : At-Start) (k : ℕ) → k < 19 → get_or s.args.from.now k 0 ≡ 
 source s k h = ap (λ (l : List ℕ). get_or l k 0) s.requires.5 ∙ get_or-tab 19 (source_of s.args.off.now) 0 k h
 
 pub streamed_open-requires : goal.streamed_open-requires
-streamed_open-requires c.before κs i h =
+streamed_open-requires c i h =
     let s : At-Start = search in
     omega (arith, source s i h, source-low (length s.args.flags.now) s.args.off.now s.args.low s.args.c i s.requires.2 h, s.requires.0.count)
 

@@ -176,7 +176,7 @@ loop-i-preserved c =
           (to_z-of_z (sfits_of {w = w32} c.arriving-in-loop-i.type_inv)
           ∙ c.arriving-in-loop-i.ensures s.args.fills.now s.args.off.now s.args.low g refl (leans d (l.loop-i.i + 1) t (to_z-of_z (sfits_of {w = w32} after-arriving-arg6.arriving-arg-in-loop-i-5-1.given)) g)
           ∙ sym (streamed-odd _ _ _ _ _ _ _ _ l.loop-i.i odd))
-          (to_z-of_z (sfits_of {w = w32} a.arriving.ok)
+          (to_z-of_z (sfits_of {w = w32} a.arriving.type_inv)
           ∙ a.arriving.ensures s.args.fills.now s.args.off.now s.args.low g refl (leans d l.loop-i.i in-loop.loop-i-test.true (to_z-of_z (sfits_of {w = w32} after-arriving-arg3.arriving-arg-in-loop-i-2-1.given)) g)
           ∙ sym (streamed-even _ _ _ _ _ _ _ _ l.loop-i.i odd)),
     )

@@ -38,8 +38,8 @@ returns-then-f-eq1 c =
     rw then1.if-f-eq1.true
     (c.mark_of.ensures
     ∙ ap₂ (λ (x y : ℤ). cond (over x y) 1 (cond (under x y) 2 0))
-    (held64 after-wide.wide.result after-wide.wide.ok ∙ after-wide.wide.ensures ∙ to_z-of_z s.ranges.m)
-    (held64 after-wide2.wide-then-f-eq1.result after-wide2.wide-then-f-eq1.ok ∙ after-wide2.wide-then-f-eq1.ensures ∙ to_z-of_z s.ranges.rho))
+    (held64 after-wide.wide.result after-wide.wide.type_inv ∙ after-wide.wide.ensures ∙ to_z-of_z s.ranges.m)
+    (held64 after-wide2.wide-then-f-eq1.result after-wide2.wide-then-f-eq1.type_inv ∙ after-wide2.wide-then-f-eq1.ensures ∙ to_z-of_z s.ranges.rho))
 
 pub returns : goal.returns
 unfolding mark_for

@@ -98,17 +98,17 @@ gas-same w p q o t = gas_pair w (p t) (q t) (dot (o t) (o t))
 
 -- what is rebuilt, and the own part
 whole-gas : (c : At-After-gas_pair) →
-    let s = c.before.before.before.before.before.before in
+    let s = c in
     c.gas_pair.result ≡ gas_pair (spread_lattice.weight s.args.i) (ρ s) (dot (d3q19.e s.args.i) (j s)) (dot (j s) (j s))
 whole-gas c =
     let after-weight9 : At-After-weight9 = search in let s : At-Start = search in
     c.gas_pair.ensures
     ∙ ap (λ (z : ℤ). gas_pair (nat_abs z) s.args.v.rho (to_z w32 (of_z w32 s.args.d)) (dot (vec s.args.v) (vec s.args.v)))
-    (to_z-of_z (sfits_of {w = w64} after-weight9.weight9.ok) ∙ after-weight9.weight9.ensures)
+    (to_z-of_z (sfits_of {w = w64} after-weight9.weight9.type_inv) ∙ after-weight9.weight9.ensures)
     ∙ gas-same (spread_lattice.weight s.args.i) s.requires.flows.density (to_z-of_z s.ranges.d ∙ along s) s.requires.flows.momentum
 
 own-part : (c : At-After-wide) →
-    let s = c.before.before.before.before.before.before.before.before in
+    let s = c in
     c.wide.result ≡ own s s.args.i
 own-part c =
     let after-wide-arg : At-After-wide-arg-1 = search in let s : At-Start = search in

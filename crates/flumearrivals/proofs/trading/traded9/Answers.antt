@@ -46,7 +46,7 @@ abbrev At-Else-f-eq2 : Type 0
 At-Else-f-eq2 = lts.Else2 tie.the-claims reads.Pre reads.Post
 
 -- the code's difference
-difference-is : (c : At-After-difference-d) → let s = c.before.before.before.before.before.before.before.before in
+difference-is : (c : At-After-difference-d) → let s = c in
     to_z w64 (of_z w64 c.difference-d.result) ≡ get_or s.args.parts.now (9 * s.args.b + s.args.m) (pos 0) -ℤ get_or s.args.parts.now (9 * s.args.c + s.args.k) (pos 0)
 difference-is c =
     let after-difference-arg2 : At-After-difference-arg-2-1 = search in let after-difference-arg : At-After-difference-arg-1 = search in let s : At-Start = search in
@@ -55,7 +55,7 @@ difference-is c =
     (held32 (get_or s.args.parts.now (9 * s.args.b + s.args.m) (pos 0)) after-difference-arg.difference-arg-1.given)
     (held32 (get_or s.args.parts.now (9 * s.args.c + s.args.k) (pos 0)) after-difference-arg2.difference-arg-2-1.given)
 
-apart-is : (c : At-After-difference-d) → let s = c.before.before.before.before.before.before.before.before in
+apart-is : (c : At-After-difference-d) → let s = c in
     to_z w64 (of_z w64 c.difference-d.result) ≡ apart (part_of9 s.args.parts.now) s.args.c s.args.b (wide s.args.k) (wide s.args.m)
 apart-is c =
     let s : At-Start = search in
@@ -63,7 +63,7 @@ apart-is c =
     ∙ ap₂ (λ (x y : ℤ). x -ℤ y) (sym (part-at s.args.parts.now s.args.b s.args.m s.requires.5)) (sym (part-at s.args.parts.now s.args.c s.args.k s.requires.4))
 
 -- the code's sum of fills
-both_is : (c : At-After-both) → let s = c.before.before.before.before.before.before.before.before.before.before.before.before in
+both_is : (c : At-After-both) → let s = c in
     to_z w64 (of_z w64 c.both.result) ≡ pos (get_or s.args.fills.now s.args.c 0 + get_or s.args.fills.now s.args.b 0)
 both_is c = held64 c.both.result c.both.type_inv ∙ c.both.ensures
 

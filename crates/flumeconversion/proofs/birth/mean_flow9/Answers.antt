@@ -20,7 +20,7 @@ abbrev At-At-loop-i : Type 0
 At-At-loop-i = lts.At-loop tie.the-claims reads.Pre reads.Post goal.the-invariant-loop-i goal.the-decreases-loop-i
 
 -- all directions
-all-summed : (c : At-After-loop-i) → let s = c.before.before.before.before in Summed spread_lattice.weight s.args.flags.now (part_of9 s.args.parts.now) s.args.fills.now s.args.off.now s.args.low s.args.g s.args.c 18 c.loop-i.t
+all-summed : (c : At-After-loop-i) → let s = c in Summed spread_lattice.weight s.args.flags.now (part_of9 s.args.parts.now) s.args.fills.now s.args.off.now s.args.low s.args.g s.args.c 18 c.loop-i.t
 all-summed c =
     let s : At-Start = search in
     let e : c.loop-i.i - 1 ≡ 18 = omega arith in

@@ -23,7 +23,7 @@ abbrev At-After-put_born9 : Type 0
 At-After-put_born9 = lts.After-put_born9 tie.the-claims reads.Pre reads.Post
 
 -- the test of the code
-reads-newborn : (c : At-After-is_newborn) → let s = c.before.before.before.before.before.before in
+reads-newborn : (c : At-After-is_newborn) → let s = c in
     c.is_newborn.result ≡ newly_born s.args.flags.now s.args.flags2.now s.args.c
 reads-newborn c =
     let s : At-Start = search in

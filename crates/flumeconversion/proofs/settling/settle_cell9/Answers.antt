@@ -14,13 +14,13 @@ use Rattle.flumeconversion.proofs.settling.settle_cell9.Goals as goal
 pub density-requires : goal.density-requires
 unfolding part_of9
 density-requires c =
-    let s = c.before.before.before in
+    let s = c in
     own-bounded (part_of9 s.args.parts.now) s.args.c c.own9.ensures s.requires.0
 
 pub returns-then-m-eq1 : goal.returns-then-m-eq1
 unfolding part_of9
 returns-then-m-eq1 c =
-    let s = c.before.before.before.before in
+    let s = c in
     let e : eqb s.args.m 1 ≡ true = eq-eqb s.args.m 1 c.if-m-eq1.true in
     record {
       parts_are = sym (cond_yes _ _ e);
@@ -29,7 +29,7 @@ returns-then-m-eq1 c =
 
 pub returns-else-m-eq1 : goal.returns-else-m-eq1
 returns-else-m-eq1 c =
-    let s = c.before.before.before.before in
+    let s = c in
     let e : eqb s.args.m 1 ≡ false = ne_eqb s.args.m 1 c.if-m-eq1.false in
     record {
       parts_are = c.paste9.ensures ∙ sym (cond_no _ _ e);

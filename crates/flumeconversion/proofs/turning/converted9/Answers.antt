@@ -105,7 +105,7 @@ new_carry9-k-requires c =
 
 pub bounds-carry2-0 : goal.bounds-carry2-0
 bounds-carry2-0 c =
-    let k = c.before in
+    let k = c in
     let b : At-After-newborn9-a = search in
     let f : At-After-new_flags9 = search in
     let m : At-After-settle_marks_by = search in
@@ -125,13 +125,13 @@ gather9-requires c =
 
 pub settle9-requires : goal.settle9-requires
 settle9-requires c =
-    let q = c.before.before.before.before.before in
-    let k = q.before.before.before.before.before.before in
-    let b = k.before.before.before.before.before.before.before.before in
-    let f = b.before.before.before.before.before.before in
-    let m = f.before.before.before.before.before.before in
-    let l = m.before.before.before in
-    let t = l.before.before.before.before.before.before in
+    let q = c in
+    let k = q in
+    let b = k in
+    let f = b in
+    let m = f in
+    let l = m in
+    let t = l in
     asks-settling t.requires.0 l.offsets-off.ensures l.low_of-low.ensures m.settle_marks_by.ensures f.new_flags9.ensures b.newborn9-a.ensures q.gather9.ensures
 
 pub shape_of-flags2 : goal.shape_of-flags2
@@ -147,16 +147,16 @@ pub shape_of-carry2 : goal.shape_of-carry2
 shape_of-carry2 c = simp length-set
 
 pub shape_of-marks : goal.shape_of-marks
-shape_of-marks c = let after-marks2 : At-After-marks-2-1 = search in let after-marks = after-marks2.before.before.before.before.before.before.before.before.before.before.before.before.before.before.before.before.before.before.before.before.before.before.before.before.before.before.before.before.before.before.before.before.before in after-marks2.marks-2-1.given ∙ after-marks.marks-1.given
+shape_of-marks c = let after-marks2 : At-After-marks-2-1 = search in let after-marks = after-marks2 in after-marks2.marks-2-1.given ∙ after-marks.marks-1.given
 
 pub returns : goal.returns
 returns c =
-    let z = c.before.before.before.before.before.before in
-    let q = z.before.before.before.before.before in
-    let k = q.before.before.before.before.before.before in
-    let b = k.before.before.before.before.before.before.before.before in
-    let f = b.before.before.before.before.before.before in
-    let m = f.before.before.before.before.before.before in
-    let l = m.before.before.before in
-    let t = l.before.before.before.before.before.before in
+    let z = c in
+    let q = z in
+    let k = q in
+    let b = k in
+    let f = b in
+    let m = f in
+    let l = m in
+    let t = l in
     converted t.requires.0 l.offsets-off.ensures l.low_of-low.ensures m.settle_marks_by.ensures f.new_flags9.ensures b.newborn9-a.ensures q.gather9.ensures z.settle9.ensures (to_z-of_z {w = w64} (record { sfits = k.new_carry9-k.type_inv }) ∙ carry-told t.requires.0 l.offsets-off.ensures l.low_of-low.ensures m.settle_marks_by.ensures f.new_flags9.ensures b.newborn9-a.ensures (kept _ (carry-within t.requires.0 l.offsets-off.ensures l.low_of-low.ensures)) k.new_carry9-k.ensures) c.fair_carry.ensures

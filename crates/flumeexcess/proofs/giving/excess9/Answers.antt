@@ -27,7 +27,7 @@ mass-told c = told64 c.wide.type_inv (c.wide.ensures ∙ told c.wide-arg-1.given
 density-told : (c : goal.After-wide-then-m-eq1) → to_z w64 (of_z w64 c.wide-then-m-eq1.result) ≡ density_at (part_of9 c.args.parts.now) c.args.c
 unfolding part_of9
 density-told c =
-    let s = c.before.before.before.before.before.before in
+    let s = c in
     told64 c.wide-then-m-eq1.type_inv (c.wide-then-m-eq1.ensures ∙ told c.density.type_inv (c.density.ensures ∙ own-density (part_of9 s.args.parts.now) s.args.c c.own9.ensures))
 
 pub density-requires : goal.density-requires
@@ -36,18 +36,18 @@ density-requires c = own-bounded (part_of9 c.args.parts.now) c.args.c c.own9.ens
 
 pub overflow_sub-result : goal.overflow_sub-result
 overflow_sub-result c =
-    let s = c.before.before.before.before.before.before in
+    let s = c in
     does-fit (v+ (held_in (mass-told c.before.before.before) s.requires.mass-in) (vneg (held_in (density-told c) s.requires.density-in))) tt
 
 pub returns-then-m-eq1 : goal.returns-then-m-eq1
 unfolding excess_at
 returns-then-m-eq1 c =
-    let s = c.before.before.before.before.before.before in
+    let s = c in
     reads_as (v64 (v+ (held_in (mass-told c.before.before.before) s.requires.mass-in) (vneg (held_in (density-told c) s.requires.density-in)))) tt
     ∙ sym (cond_yes _ _ (eq-eqb s.args.m 1 c.if-m-eq1.true))
 
 pub returns : goal.returns
 unfolding excess_at
 returns c =
-    let s = c.before.before.before in
+    let s = c in
     told64 c.wide-2.type_inv (c.wide-2.ensures ∙ told c.wide-arg-2-1.given refl) ∙ sym (cond_no _ _ (ne_eqb s.args.m 1 c.if-m-eq1.false))

@@ -40,25 +40,25 @@ there c = omega (arith, c.loop-c-test.true, c.loop-c.invariant.size, c.requires.
 
 -- the mass of the cell and what it receives, as they were read and called
 mass-told : (c : At-After-wide)
-    → let l = c.before.before.before.before.before.before.before in
+    → let l = c in
     to_z w64 (of_z w64 c.wide.result) ≡ get_or l.args.masses.now l.loop-c.c (pos 0)
 mass-told c = told64 c.wide.type_inv (c.wide.ensures ∙ told c.wide-arg-1.given refl) ∙ c.loop-c.invariant.rest _ (omega arith)
 
 gifts-told : (c : At-After-wide)
-    → let l = c.before.before.before.before.before.before.before in
+    → let l = c in
     let a = l.args in
     to_z w64 (of_z w64 c.gifts9-t.result) ≡ received_at a.flags.now a.fills.now (part_of9 a.parts.now) a.masses.now a.marks.now a.off.now a.low l.loop-c.c
 gifts-told c =
-    let l = c.before.before.before.before.before.before.before in
+    let l = c in
     told64 c.gifts9-t.type_inv (c.gifts9-t.ensures
-    ∙ received-still l.requires.giving l.loop-c.masses l.loop-c.invariant.size (still l) l.loop-c.c c.loop-c-test.true c.if-flags-c-eq1.true)
+    ∙ received-still l.requires.giving l.loop-c.masses l.loop-c.invariant.size (still l.before.before.before.before.before.before) l.loop-c.c c.loop-c-test.true c.if-flags-c-eq1.true)
 
 -- their sum, in range
 abbrev both : (c : At-After-wide) → Val (to_z w64 (of_z w64 c.wide.result) +ℤ to_z w64 (of_z w64 c.gifts9-t.result))
 both c =
-    let i = c.before.before.before.before.before.before in
-    let l = i.before in
-    let s = l.before.before.before.before in
+    let i = c in
+    let l = i in
+    let s = l in
     v+ (held_in (mass-told c) (s.requires.taken l.loop-c.c i.loop-c-test.true c.if-flags-c-eq1.true))
     (held_in (gifts-told c) (received-in s.requires.giving l.loop-c.c i.loop-c-test.true c.if-flags-c-eq1.true))
 
@@ -67,16 +67,16 @@ loop-c-init c = ranged-first (pos 0) _ _ 0 _ (omega arith)
 
 pub gifts9-t-requires : goal.gifts9-t-requires
 gifts9-t-requires c =
-    let l = c.before.before.before.before.before in
-    (giving-still l.requires.giving l.loop-c.masses l.loop-c.invariant.size (still l), c.loop-c-test.true, c.if-flags-c-eq1.true)
+    let l = c in
+    (giving-still l.requires.giving l.loop-c.masses l.loop-c.invariant.size (still l.before.before.before.before), c.loop-c-test.true, c.if-flags-c-eq1.true)
 
 pub offset_bounds-masses-c : goal.offset_bounds-masses-c
 offset_bounds-masses-c c =
-    let h = there c.before.before.before.before.before in
+    let h = there c.before.before.before.before in
     search rules
 
 pub slice_copy_out-wide : goal.slice_copy_out-wide
-slice_copy_out-wide c = there c.before.before.before.before.before
+slice_copy_out-wide c = there c.before.before.before.before
 
 pub overflow_add-masses : goal.overflow_add-masses
 overflow_add-masses c = does-fit (both c.before) tt
@@ -86,20 +86,20 @@ overflow_cast-masses c = does-fit (v64 (both c.before)) tt
 
 pub offset_bounds-masses-c-then-flags-c-eq1 : goal.offset_bounds-masses-c-then-flags-c-eq1
 offset_bounds-masses-c-then-flags-c-eq1 c =
-    let h = there c.before.before.before.before.before.before.before in
+    let h = there c.before.before.before.before.before.before in
     search rules
 
 pub bounds-masses-c : goal.bounds-masses-c
-bounds-masses-c c = there c.before.before.before.before.before.before.before
+bounds-masses-c c = there c.before.before.before.before.before.before
 
 pub loop-c-smaller : goal.loop-c-smaller
 loop-c-smaller c = omega (arith, c.next_of-c.ensures.least, c.next_of-c.ensures.most, c.loop-c-test.true)
 
 pub loop-c-preserved : goal.loop-c-preserved
 loop-c-preserved c =
-    let b = c.before.before in
-    let l = b.before.before.before in
-    let s = l.before.before.before.before in
+    let b = c in
+    let l = b in
+    let s = l in
     let a = s.args in
     let g = s.requires.giving in
     let h = b.loop-c-test.true in
@@ -109,7 +109,7 @@ loop-c-preserved c =
     (λ j k m r. ranged-keep (pos 0) (taking g) a.masses.now 0 (length a.flags.now) b.if-flags-c-eq1.masses j r (omega (arith, c.next_of-c.ensures.most)) (kept g j (c.next_of-c.ensures.before j k m)))
     (⊎_elim
     (λ w.
-    let d : At-After-wide = record { before = record { before = record { before = record { before = record { before = b.before; if1 = w.0 }; gifts9-arg = w.1 }; gifts9 = w.2 }; wide-arg = w.3 }; wide = w.4 } in
+    let d : At-After-wide = record { before = record { before = record { before = record { before = record { before = b.before.before; if1 = w.0 }; gifts9-arg = w.1 }; gifts9 = w.2 }; wide-arg = w.3 }; wide = w.4 } in
     subst (λ (m : List ℤ). Ranged (pos 0) (taking g) a.masses.now 0 (length a.flags.now) m (l.loop-c.c + 1)) (sym w.5)
     (ranged-more (pos 0) (taking g) a.masses.now 0 (length a.flags.now) l.loop-c.masses l.loop-c.c _ l.loop-c.invariant h n
     (reads_as (v32 (v64 (both d))) tt ∙ took g l.loop-c.c w.0.taken)))
@@ -122,8 +122,8 @@ shape_of-masses c = c.loop-c.invariant.size
 
 pub returns : goal.returns
 returns c =
-    let l = c.before.before in
-    let s = l.before.before.before.before in
+    let l = c in
+    let s = l in
     let a = s.args in
     ranged-all (pos 0) (taking s.requires.giving) a.masses.now 0 (length a.flags.now) l.loop-c.masses l.loop-c.c _ _ l.loop-c.invariant c.loop-c-test.false s.requires.giving.masses-there
     (λ j k. in-range (taking s.requires.giving) a.masses.now (length a.flags.now) j (omega arith))

@@ -15,7 +15,7 @@ use Rattle.flumeexcess.proofs.giving.gift9.Goals as goal
 
 pub given-requires : goal.given-requires
 given-requires c =
-    let s = c.before.before.before.before.before in
+    let s = c in
     let a = s.args in
     let f = weight_at a.flags.now a.fills.now a.off.now (a.c - a.low) a.m in
     let e = excess-in (part_of9 a.parts.now) a.masses.now a.m a.c s.requires.0.weighed in (
@@ -29,7 +29,7 @@ given-requires c =
 
 pub returns : goal.returns
 returns c =
-    let s = c.before.before.before.before.before.before in
+    let s = c in
     let a = s.args in
     told64 c.given.type_inv (c.given.ensures
     ∙ share-told a.flags.now a.fills.now (part_of9 a.parts.now) a.masses.now a.off.now a.low a.c a.m a.i (told64 c.excess9.type_inv c.excess9.ensures) c.used_weights-w.ensures s.requires.1)

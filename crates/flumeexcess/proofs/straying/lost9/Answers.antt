@@ -12,15 +12,15 @@ use Rattle.flumeexcess.proofs.straying.lost9.Goals as goal
 
 pub total-requires : goal.total-requires
 total-requires c =
-    let s = c.before.before.before in
+    let s = c in
     let k = s.args.c - s.args.low in
     weights-fit (even_at s.args.flags.now s.args.off.now k) c.evens.ensures (λ i d. record { abs = omega (arith, (even-in s.args.flags.now s.args.off.now k i).abs) })
 
 pub returns-then-total-eq0 : goal.returns-then-total-eq0
 unfolding lost_at
 returns-then-total-eq0 c =
-    let t = c.before.before.before in
-    let s = t.before.before.before in
+    let t = c in
+    let s = t in
     let k = s.args.c - s.args.low in
     told64 c.excess9.type_inv c.excess9.ensures
     ∙ sym (cond_no _ _ (no_target s.args.flags.now s.args.off.now k
@@ -29,8 +29,8 @@ returns-then-total-eq0 c =
 pub returns : goal.returns
 unfolding lost_at
 returns c =
-    let t = c.before.before in
-    let s = t.before.before.before in
+    let t = c in
+    let s = t in
     let k = s.args.c - s.args.low in
     sym (cond_yes _ _ (some-target s.args.flags.now s.args.off.now k
     (λ z. c.if-total-eq0.false (zero_bits (t.total.ensures ∙ dirs-at (even_at s.args.flags.now s.args.off.now k) t.evens.ensures ∙ z)))))

@@ -32,23 +32,23 @@ inside c = omega (arith, c.loop-c-test.true, c.requires.0.marks-there)
 
 -- what was lost at a marked cell
 lost-told : (c : At-After-lost9-t)
-    → let l = c.before.before.before.before in
+    → let l = c in
     let a = l.args in
     to_z w64 (of_z w64 c.lost9-t.result) ≡ stray_at a.flags.now (part_of9 a.parts.now) a.masses.now a.marks.now a.off.now a.low l.loop-c.c
 lost-told c =
-    let l = c.before.before.before.before in
+    let l = c in
     let a = l.args in
     told64 c.lost9-t.type_inv (c.lost9-t.ensures
     ∙ stray-some a.flags.now (part_of9 a.parts.now) a.masses.now a.marks.now a.off.now a.low l.loop-c.c c.if-m-ne0.true)
 
 -- the carry so far, in range
 so_far : (c : At-In-loop-c)
-    → let l = c.before in
+    → let l = c in
     let a = l.args in
     Within (to_z w64 (of_z w64 a.carry) +ℤ sum l.loop-c.c (stray_at a.flags.now (part_of9 a.parts.now) a.masses.now a.marks.now a.off.now a.low)) 13060268167168
 so_far c =
-    let l = c.before in
-    let s = l.before.before.before in
+    let l = c in
+    let s = l in
     let a = s.args in
     let n : l.loop-c.c ≤ 262144 = omega (arith, inside c, s.requires.0.few) in
     let w = strays-in a.flags.now (part_of9 a.parts.now) a.masses.now a.marks.now a.off.now a.low l.loop-c.c n (λ j k. s.requires.0.weighed j (omega (arith, inside c))) in
@@ -56,12 +56,12 @@ so_far c =
 
 abbrev both : (c : At-After-lost9-t) → Val (to_z w64 c.loop-c.t-bits +ℤ to_z w64 (of_z w64 c.lost9-t.result))
 both c =
-    let i = c.before.before.before in
-    let l = i.before in
-    let s = l.before.before.before in
+    let i = c in
+    let l = i in
+    let s = l in
     let a = s.args in
-    v+ (held_in l.loop-c.invariant.1 (so_far i))
-    (held_in (lost-told c) (stray-in a.flags.now (part_of9 a.parts.now) a.masses.now a.marks.now a.off.now a.low l.loop-c.c (s.requires.0.weighed l.loop-c.c (inside i))))
+    v+ (held_in l.loop-c.invariant.1 (so_far i.before.before.before))
+    (held_in (lost-told c) (stray-in a.flags.now (part_of9 a.parts.now) a.masses.now a.marks.now a.off.now a.low l.loop-c.c (s.requires.0.weighed l.loop-c.c (inside i.before.before.before))))
 
 pub loop-c-init : goal.loop-c-init
 unfolding sum
@@ -69,10 +69,10 @@ loop-c-init c = (omega arith, sym (+ℤ_idr _))
 
 pub lost9-t-requires : goal.lost9-t-requires
 lost9-t-requires c =
-    let i = c.before.before.before in
-    let l = i.before in
-    let s = l.before.before.before in
-    (s.requires.0.around l.loop-c.c (inside i) c.if-m-ne0.true, s.requires.0.weighed l.loop-c.c (inside i) c.if-m-ne0.true)
+    let i = c in
+    let l = i in
+    let s = l in
+    (s.requires.0.around l.loop-c.c (inside i.before.before.before) c.if-m-ne0.true, s.requires.0.weighed l.loop-c.c (inside i.before.before.before) c.if-m-ne0.true)
 
 pub overflow_add-t : goal.overflow_add-t
 overflow_add-t c = does-fit (both c.before) tt
@@ -84,8 +84,8 @@ loop-c-smaller c =
 
 pub loop-c-preserved : goal.loop-c-preserved
 loop-c-preserved c =
-    let b = c.before.before in
-    let l = b.before.before.before in
+    let b = c in
+    let l = b in
     let a = l.args in
     let k = to_z w64 (of_z w64 a.carry) in
     let n = c.next_marked-c.ensures.past in (
@@ -95,7 +95,7 @@ loop-c-preserved c =
           (λ j h i e. e ∙ strays-keep a.flags.now (part_of9 a.parts.now) a.masses.now a.marks.now a.off.now a.low k j (n.before j h i))
           (⊎_elim
           (λ w.
-          let d : At-After-lost9-t = record { before = record { before = b.before; if1 = w.0 }; lost9 = w.1 } in
+          let d : At-After-lost9-t = record { before = record { before = b.before.before; if1 = w.0 }; lost9 = w.1 } in
           ap (to_z w64) w.2 ∙ reads_as (v64 (both d)) tt
           ∙ strays-more a.flags.now (part_of9 a.parts.now) a.masses.now a.marks.now a.off.now a.low k l.loop-c.c)
           (λ w. ap (to_z w64) w.1 ∙ l.loop-c.invariant.1
@@ -105,8 +105,8 @@ loop-c-preserved c =
 
 pub returns : goal.returns
 returns c =
-    let l = c.before.before in
-    let s = l.before.before.before in
+    let l = c in
+    let s = l in
     let a = s.args in
     let e : l.loop-c.c ≡ length a.flags.now = omega (arith, l.loop-c.invariant.0, c.loop-c-test.false, s.requires.0.marks-there) in
     l.loop-c.invariant.1

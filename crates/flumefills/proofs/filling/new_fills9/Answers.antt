@@ -109,7 +109,7 @@ loop-c-preserved c =
     b.if-flags-c-eq1.came)
 
 pub shape_of-fills : goal.shape_of-fills
-shape_of-fills c = let s = c.before.before.before.before.before.before.before.before.before in long c.before.before ∙ sym s.requires.1
+shape_of-fills c = let s = c in long c.before.before ∙ sym s.requires.1
 
 pub returns : goal.returns
 returns c =

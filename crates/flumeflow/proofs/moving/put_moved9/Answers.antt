@@ -44,7 +44,7 @@ wide-bound s = loosened _ _ _ _ _ s.requires.0 (omega arith) (omega arith)
 
 -- the relaxation as it is handed on
 handed : (c : goal.After-relaxation9) → to_z w64 (of_z w64 c.relaxation9.result) ≡ c.relaxation9.result
-handed c = to_z-of_z (record { sfits = c.relaxation9.type_inv })
+handed c = to_z-of_z {w = w64} (record { sfits = c.relaxation9.type_inv })
 
 pub flow_of-requires : goal.flow_of-requires
 flow_of-requires c = wide-bound c
@@ -123,6 +123,6 @@ returns c flags parts fills off low l e =
     record {
       kept = ap length put ∙ length-pasted9 _ _ _ s.requires.3;
       told = told-accepted spread_lattice.weight flags (part_of9 parts) fills off low _ _ _ e _ _ u.0 u.1 after-pulled.pulled-v.ensures l w.quieted-r.result quiet _ refl
-          (sym a.steady.ensures ∙ not-false _ else1.if-not-steady.false-raw) (to_z-of_z (record { sfits = c.struct_told-2-1.given.0.1 })) after-fair.fair.ensures;
+          (sym a.steady.ensures ∙ not-false _ else1.if-not-steady.false-raw) (to_z-of_z {w = w64} (record { sfits = c.struct_told-2-1.given.0.1 })) after-fair.fair.ensures;
       parts = λ h. put ∙ ap (pasted9 s.args.parts2.now s.args.c) (moved spread_lattice.weight flags (part_of9 parts) fills off low _ _ _ e _ _ u.0 u.1 after-pulled.pulled-v.ensures l w.quieted-r.result quiet);
     }

@@ -28,7 +28,7 @@ source : (s : At-Start) (k : ℕ) → k < 9 → get_or s.args.from.now k 0 ≡ s
 source s k h = ap (λ (l : List ℕ). get_or l k 0) s.requires.5 ∙ get_or-tab 9 (source_of9 s.args.off.now) 0 k h
 
 pub streamed_open9-requires : goal.streamed_open9-requires
-streamed_open9-requires c.before κs k h =
+streamed_open9-requires c k h =
     let s : At-Start = search in
     omega (arith, source s k h, at_source s.args.off.now s.args.low s.args.c k, s.requires.2.each (pair_opp (wide k)) (opposite-low (wide k) (place-low k h)), s.requires.0.count)
 

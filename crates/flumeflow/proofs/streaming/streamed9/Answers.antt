@@ -215,7 +215,7 @@ loop-k-preserved c =
           ∙ c.arriving9-in-loop-k.ensures s.args.fills.now s.args.off.now s.args.low g refl (leans d (p.place-i.result + 1) (second p) (to_z-of_z (sfits_of {w = w32} after-arriving9-arg6.arriving9-arg-in-loop-k-5-1.given)) g)
           ∙ ap (λ (n : ℕ). arrives (scene s g) s.args.c (n + 1) (wide l.loop-k.k)) e
           ∙ sym (streamed-odd _ _ _ _ _ _ _ _ (wide l.loop-k.k) q.odd))
-          (to_z-of_z (sfits_of {w = w32} a.arriving9.ok)
+          (to_z-of_z (sfits_of {w = w32} a.arriving9.type_inv)
           ∙ a.arriving9.ensures s.args.fills.now s.args.off.now s.args.low g refl (leans d p.place-i.result p.place-i.ensures.1 (to_z-of_z (sfits_of {w = w32} after-arriving9-arg3.arriving9-arg-in-loop-k-2-1.given)) g)
           ∙ ap₂ (λ (n m : ℕ). arrives (scene s g) s.args.c n m) e q.next
           ∙ sym (streamed-even _ _ _ _ _ _ _ _ (wide l.loop-k.k) q.odd)

@@ -25,7 +25,7 @@ abbrev At-After-traded_mass9 : Type 0
 At-After-traded_mass9 = lts.After-traded_mass9 tie.the-claims reads.Pre reads.Post
 
 -- an interface cell, as the code reads it
-interface : (c : At-Then-flags-c-eq1) → let s = c.before.before.before.before in get_or s.args.flags.now s.args.c 3 ≡ 1
+interface : (c : At-Then-flags-c-eq1) → let s = c in get_or s.args.flags.now s.args.c 3 ≡ 1
 interface c = let s : At-Start = search in get_or-there s.args.flags.now s.args.c 3 0 s.requires.1 ∙ c.if-flags-c-eq1.true
 
 abbrev mass-of : (c : At-After-traded_mass9) → Val c.traded_mass9.result

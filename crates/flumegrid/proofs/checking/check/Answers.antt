@@ -29,7 +29,7 @@ sides-good : (c : At-Else-not-good_sides) → flume_sides_good c.args.s ≡ true
 sides-good c = sym c.good_sides.ensures ∙ not-false _ c.if-not-good_sides.false-raw
 
 -- the code's test of the lengths
-told : (c : At-After-good_lengths9) → let t = c.before.before.before.before.before.before in c.good_lengths9.result ≡ flume_lengths (flume_cells t.args.s) (own t)
+told : (c : At-After-good_lengths9) → let t = c in c.good_lengths9.result ≡ flume_lengths (flume_cells t.args.s) (own t.before.before.before.before.before.before)
 told c = lengths-are _ (own c.before.before.before.before.before.before) c.cells-n.ensures c.good_lengths9.ensures
 
 pub returns-then-not-good_sides : goal.returns-then-not-good_sides
@@ -49,5 +49,5 @@ checked9-requires c = (sides-good c.before.before.before.before, sized _ (own c.
 
 pub returns : goal.returns
 returns c =
-    let d = c.before.before in
-    c.checked9.ensures ∙ then-checked _ (own d.before.before.before.before.before.before.before) (sides-good d.before.before.before) (sym (told d.before) ∙ not-false _ d.if-not-good_lengths9.false-raw)
+    let d = c in
+    c.checked9.ensures ∙ then-checked _ (own d.before.before.before.before.before.before.before.before.before) (sides-good d.before.before.before.before.before) (sym (told d.before.before.before) ∙ not-false _ d.if-not-good_lengths9.false-raw)

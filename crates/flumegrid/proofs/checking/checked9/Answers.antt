@@ -27,34 +27,34 @@ own c = lent c.args.flags.now c.args.parts.now c.args.masses.now c.args.fills.no
 
 place : (c : At-After-first_bad9-broken) → c.first_bad9-broken.result ≡ bad_rule d2q9 (flume_cells c.args.s) (state_of 8 (own c.before.before.before.before.before.before.before.before))
 place c =
-    let w = c.before.before.before.before.before.before.before.before in
+    let w = c in
     c.first_bad9-broken.ensures
-    ∙ one-carry _ (own w) _ (to_z-of_z {w = w64} (sfits_of {w = w64} c.first_bad9-arg-1.given))
-    ∙ ap (λ (n : ℕ). bad_rule d2q9 n (state_of 8 (own w))) w.requires.1.flags
+    ∙ one-carry _ (own w.before.before.before.before.before.before.before.before) _ (to_z-of_z {w = w64} (sfits_of {w = w64} c.first_bad9-arg-1.given))
+    ∙ ap (λ (n : ℕ). bad_rule d2q9 n (state_of 8 (own w.before.before.before.before.before.before.before.before))) w.requires.1.flags
 
 pub returns-then-flagged-n : goal.returns-then-flagged-n
 unfolding flume_grid flume flume_cells d2q9 state_of
 returns-then-flagged-n c =
-    let w = c.before.before.before.before.before in
-    stops-at-flag d2q9 (flume_grid w.args.s) (state_of 8 (own w)) _ c.first_bad_flag-flagged.ensures (omega (arith, w.requires.1.flags, c.if-flagged-n.true))
+    let w = c in
+    stops-at-flag d2q9 (flume_grid w.args.s) (state_of 8 (own w.before.before.before.before.before)) _ c.first_bad_flag-flagged.ensures (omega (arith, w.requires.1.flags, c.if-flagged-n.true))
 
 pub returns-then-opened-n : goal.returns-then-opened-n
 unfolding flume_grid flume flume_cells d2q9 state_of
 returns-then-opened-n c =
-    let w = c.before.before.before.before.before.before.before in
-    stops-at-fluid d2q9 (flume_grid w.args.s) (state_of 8 (own w)) _ c.first_bad_flag-flagged.ensures (omega (arith, w.requires.1.flags, c.if-flagged-n.false)) _ c.first_open-opened.ensures
+    let w = c in
+    stops-at-fluid d2q9 (flume_grid w.args.s) (state_of 8 (own w.before.before.before.before.before.before.before)) _ c.first_bad_flag-flagged.ensures (omega (arith, w.requires.1.flags, c.if-flagged-n.false)) _ c.first_open-opened.ensures
     (omega (arith, w.requires.1.flags, c.if-opened-n.true))
 
 pub returns-then-broken-n : goal.returns-then-broken-n
 unfolding flume_grid flume flume_cells d2q9 state_of
 returns-then-broken-n c =
-    let w = c.before.before.before.before.before.before.before.before.before.before in
-    stops-at-rule d2q9 (flume_grid w.args.s) (state_of 8 (own w)) _ c.first_bad_flag-flagged.ensures (omega (arith, w.requires.1.flags, c.if-flagged-n.false)) _ c.first_open-opened.ensures
+    let w = c in
+    stops-at-rule d2q9 (flume_grid w.args.s) (state_of 8 (own w.before.before.before.before.before.before.before.before.before.before)) _ c.first_bad_flag-flagged.ensures (omega (arith, w.requires.1.flags, c.if-flagged-n.false)) _ c.first_open-opened.ensures
     (omega (arith, w.requires.1.flags, c.if-opened-n.false)) _ (place c.before.before) (omega (arith, w.requires.1.flags, c.if-broken-n.true))
 
 pub returns : goal.returns
 unfolding flume_grid flume flume_cells d2q9 state_of
 returns c =
-    let w = c.before.before.before.before.before.before.before.before.before.before in
-    goes_through d2q9 (flume_grid w.args.s) (state_of 8 (own w)) _ c.first_bad_flag-flagged.ensures (omega (arith, w.requires.1.flags, c.if-flagged-n.false)) _ c.first_open-opened.ensures
+    let w = c in
+    goes_through d2q9 (flume_grid w.args.s) (state_of 8 (own w.before.before.before.before.before.before.before.before.before.before)) _ c.first_bad_flag-flagged.ensures (omega (arith, w.requires.1.flags, c.if-flagged-n.false)) _ c.first_open-opened.ensures
     (omega (arith, w.requires.1.flags, c.if-opened-n.false)) _ (place c.before.before) (omega (arith, w.requires.1.flags, c.if-broken-n.false))

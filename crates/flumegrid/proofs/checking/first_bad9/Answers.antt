@@ -28,13 +28,13 @@ good_cell9-requires c =
 
 pub returns-then-not-good_cell9 : goal.returns-then-not-good_cell9
 returns-then-not-good_cell9 c =
-    let l = c.before.before.before.before in
-    let a = c.before.before.before.before.before.before.before in
+    let l = c in
+    let a = c in
     nine-cell a.args.flags.now a.args.parts.now a.args.masses.now a.args.fills.now _ l.loop-c.c l.loop-c.invariant.1 c.loop-c-test.true (sym c.good_cell9.ensures ∙ not-true _ c.if-not-good_cell9.true-raw)
 
 pub loop-c-preserved : goal.loop-c-preserved
 loop-c-preserved c =
-    let l = c.before.before.before.before in
+    let l = c in
     (omega arith, below_more _ _ l.loop-c.invariant.1 (sym c.good_cell9.ensures ∙ not-false _ c.if-not-good_cell9.false-raw))
 
 pub overflow_add-result : goal.overflow_add-result
@@ -42,12 +42,12 @@ overflow_add-result c = omega arith
 
 pub returns-then-fair_carry : goal.returns-then-fair_carry
 returns-then-fair_carry c =
-    let l = c.before.before.before.before in
-    let a = c.before.before.before.before.before.before.before in
+    let l = c in
+    let a = c in
     nine-none a.args.flags.now a.args.parts.now a.args.masses.now a.args.fills.now _ l.loop-c.c l.loop-c.invariant.1 (omega (arith, l.loop-c.invariant.0, c.loop-c-test.false)) (ap carry_good (sym (to_z-of_z {w = w64} a.ranges.carry)) ∙ sym c.fair_carry.ensures ∙ c.if-fair_carry.true)
 
 pub returns : goal.returns
 returns c =
-    let l = c.before.before.before.before in
-    let a = c.before.before.before.before.before.before.before in
+    let l = c in
+    let a = c in
     nine-carry a.args.flags.now a.args.parts.now a.args.masses.now a.args.fills.now _ l.loop-c.c l.loop-c.invariant.1 (omega (arith, l.loop-c.invariant.0, c.loop-c-test.false)) (ap carry_good (sym (to_z-of_z {w = w64} a.ranges.carry)) ∙ sym c.fair_carry.ensures ∙ c.if-fair_carry.false)

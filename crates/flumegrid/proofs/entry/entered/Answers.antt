@@ -49,7 +49,7 @@ settings-good : (d : At-Else-not-good_settings) → settings_good (level_setting
 settings-good d = sym d.good_settings.ensures ∙ not-false _ d.if-not-good_settings.false-raw
 
 pub returns-then-not-good_sides : goal.returns-then-not-good_sides
-returns-then-not-good_sides c = let t = c.before.before.before.before.before.before.before.before in refuses-sides t.args.s t.args.g (first t) (second t) t.args.marks.now (sym c.good_sides.ensures ∙ not-true _ c.if-not-good_sides.true-raw)
+returns-then-not-good_sides c = let t = c in refuses-sides t.args.s t.args.g (first t.before.before.before.before.before.before.before.before) (second t.before.before.before.before.before.before.before.before) t.args.marks.now (sym c.good_sides.ensures ∙ not-true _ c.if-not-good_sides.true-raw)
 
 pub cells-n-requires : goal.cells-n-requires
 cells-n-requires c = sides-good c.before
@@ -62,24 +62,24 @@ good_lengths9-second-requires c = omega (arith, c.cells-n.ensures, few _ (sides-
 
 pub returns-then-not-first-second : goal.returns-then-not-first-second
 returns-then-not-first-second c =
-    let t = c.before.before.before.before.before.before.before.before.before.before.before.before in
-    refuses-lengths t.args.s t.args.g (first t) (second t) t.args.marks.now (sides-good c.before.before.before.before.before)
-    (sym (lengths-told t.args.s t.args.g (first t) (second t) t.args.marks.now c.cells-n.ensures c.good_lengths9-first.ensures c.good_lengths9-second.ensures)
+    let t = c in
+    refuses-lengths t.args.s t.args.g (first t.before.before.before.before.before.before.before.before.before.before.before.before) (second t.before.before.before.before.before.before.before.before.before.before.before.before) t.args.marks.now (sides-good c.before.before.before.before.before)
+    (sym (lengths-told t.args.s t.args.g (first t.before.before.before.before.before.before.before.before.before.before.before.before) (second t.before.before.before.before.before.before.before.before.before.before.before.before) t.args.marks.now c.cells-n.ensures c.good_lengths9-first.ensures c.good_lengths9-second.ensures)
     ∙ not-true _ c.if-not-first-second.true-raw)
 
 pub returns-then-not-good_settings : goal.returns-then-not-good_settings
 returns-then-not-good_settings c =
-    let t = c.before.before.before.before.before.before.before.before.before.before.before.before.before.before in
-    refuses-settings t.args.s t.args.g (first t) (second t) t.args.marks.now (sides-good c.before.before.before.before.before.before.before) (lengths-good c.before.before.before)
+    let t = c in
+    refuses-settings t.args.s t.args.g (first t.before.before.before.before.before.before.before.before.before.before.before.before.before.before) (second t.before.before.before.before.before.before.before.before.before.before.before.before.before.before) t.args.marks.now (sides-good c.before.before.before.before.before.before.before) (lengths-good c.before.before.before)
     (sym c.good_settings.ensures ∙ not-true _ c.if-not-good_settings.true-raw)
 
 pub checked9-requires : goal.checked9-requires
 checked9-requires c =
-    let t = c.before.before.before.before.before.before.before.before.before.before.before.before.before.before in
-    (sides-good c.before.before.before.before.before.before.before, first_good t.args.s t.args.g (first t) (second t) t.args.marks.now (sides-good c.before.before.before.before.before.before.before) (lengths-good c.before.before.before))
+    let t = c in
+    (sides-good c.before.before.before.before.before.before.before, first_good t.args.s t.args.g (first t.before.before.before.before.before.before.before.before.before.before.before.before.before.before) (second t.before.before.before.before.before.before.before.before.before.before.before.before.before.before) t.args.marks.now (sides-good c.before.before.before.before.before.before.before) (lengths-good c.before.before.before))
 
 pub returns : goal.returns
 returns c =
-    let t = c.before.before.before.before.before.before.before.before.before.before.before.before.before.before.before in
+    let t = c in
     c.checked9.ensures
-    ∙ then-good t.args.s t.args.g (first t) (second t) t.args.marks.now (sides-good c.before.before.before.before.before.before.before.before) (lengths-good c.before.before.before.before) (settings-good c.before.before)
+    ∙ then-good t.args.s t.args.g (first t.before.before.before.before.before.before.before.before.before.before.before.before.before.before.before) (second t.before.before.before.before.before.before.before.before.before.before.before.before.before.before.before) t.args.marks.now (sides-good c.before.before.before.before.before.before.before.before) (lengths-good c.before.before.before.before) (settings-good c.before.before)

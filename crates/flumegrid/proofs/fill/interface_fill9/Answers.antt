@@ -21,10 +21,10 @@ abbrev At-After-density : Type 0
 At-After-density = lts.After-density tie.the-claims reads.Pre reads.Post
 
 -- the code's density
-sum_of : (c : At-After-density) → let s = c.before.before in c.density.result ≡ density d3q19 (part_of9 s.args.parts.now s.args.c)
+sum_of : (c : At-After-density) → let s = c in c.density.result ≡ density d3q19 (part_of9 s.args.parts.now s.args.c)
 unfolding part_of9
 sum_of c =
-    let s = c.before.before in
+    let s = c in
     c.density.ensures ∙ density-is c.own9.result (part_of9 s.args.parts.now s.args.c) c.own9.ensures
 
 density-of : (c : goal.After-wide) → to_z w64 (of_z w64 c.wide.result) ≡ c.density.result
@@ -35,16 +35,16 @@ density-of c =
 pub density-requires : goal.density-requires
 unfolding part_of9
 density-requires c =
-    let s = c.before in
+    let s = c in
     bounded-is c.own9.result (part_of9 s.args.parts.now s.args.c) c.own9.ensures s.requires.1.rest s.requires.1.each
 
 pub part_fill-requires : goal.part_fill-requires
 part_fill-requires c =
-    let s = c.before.before.before in
+    let s = c in
     let few : nat_abs c.density.result ≤ 2147483648 = nat_abs-le c.density.result c.density.type_inv in
     (rw (density-of c, sum_of c.before) s.requires.1.some, rw (density-of c) (record { abs = omega arith }))
 
 pub returns : goal.returns
 returns c =
-    let s = c.before.before.before.before in
+    let s = c in
     c.part_fill.ensures ∙ ap₂ fill_of (to_z-of_z s.ranges.m) (density-of c.before ∙ sum_of c.before.before)

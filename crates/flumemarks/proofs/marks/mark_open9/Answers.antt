@@ -21,18 +21,18 @@ overflow_sub-c c = c.loop-c.invariant.from
 
 pub beside9-requires : goal.beside9-requires
 beside9-requires c =
-    let l = c.before.before.before in
+    let l = c in
     reach-by l.requires.0 _ (record { from = l.loop-c.invariant.from; to = omega (arith, c.loop-c-test.true) }) _ refl
 
 pub bounds-marks-c : goal.bounds-marks-c
 bounds-marks-c c =
-    let l = c.before.before.before.before.before in
+    let l = c in
     omega (arith, l.loop-c.invariant.size, l.requires.2)
 
 pub loop-c-preserved : goal.loop-c-preserved
 loop-c-preserved c =
-    let l = c.before.before.before.before.before in
-    let a = l.before.before.before in
+    let l = c in
+    let a = l in
     ranged-more 0 _ a.args.marks.now _ _ l.loop-c.marks l.loop-c.c _ l.loop-c.invariant c.loop-c-test.true (omega (arith, a.requires.2))
     (c.open_mark.ensures ∙ ap (open_mark (get_or a.args.flags.now l.loop-c.c 0)) c.beside9.ensures
     ∙ open-same a.args.flags.now a.args.off.now a.args.low l.loop-c.c a.requires.1 l.loop-c.invariant.from)
@@ -42,6 +42,6 @@ shape_of-marks c = c.loop-c.invariant.size
 
 pub returns : goal.returns
 returns c =
-    let l = c.before.before in
-    let a = l.before.before.before in
+    let l = c in
+    let a = l in
     opened a.args.flags.now a.args.marks.now a.args.off.now l.loop-c.marks a.args.low l.loop-c.c a.requires.2 l.loop-c.invariant c.loop-c-test.false

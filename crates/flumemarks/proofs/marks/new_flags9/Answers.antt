@@ -21,7 +21,7 @@ abbrev At-In-loop-c : Type 0
 At-In-loop-c = lts.In-loop tie.the-claims reads.Pre reads.Post goal.the-invariant-loop-c goal.the-decreases-loop-c
 
 -- a cell of the range has all its neighbours
-within : (c : At-In-loop-c) → let s = c.before.before.before.before.before in Amid (length s.args.flags.now) s.args.low c.loop-c.c
+within : (c : At-In-loop-c) → let s = c in Amid (length s.args.flags.now) s.args.low c.loop-c.c
 within c = record { from = c.loop-c.invariant.from; to = omega (arith, c.loop-c-test.true) }
 
 pub overflow_sub-end : goal.overflow_sub-end
@@ -29,7 +29,7 @@ overflow_sub-end c = omega (arith, c.requires.0.reaching.room)
 
 pub loop-c-init : goal.loop-c-init
 loop-c-init c =
-    let a = c.before.before.before.before in
+    let a = c in
     subst (λ (m : List ℕ). Ranged 0 (turned_at a.args.flags.now a.args.marks.now a.args.off.now a.args.low) a.args.flags.now a.args.low (length a.args.flags.now - a.args.low) m a.args.low)
     (sym a.requires.2) (ranged-first 0 _ _ _ _ (omega (arith, a.requires.0.reaching.room)))
 
@@ -44,23 +44,23 @@ overflow_sub-c c = (within c.before.before.before).from
 
 pub beside9-requires : goal.beside9-requires
 beside9-requires c =
-    let d = c.before.before.before in
-    let s = d.before.before.before.before.before in
-    reach-by s.requires.0.reaching _ (within d) _ s.requires.0.count
+    let d = c in
+    let s = d in
+    reach-by s.requires.0.reaching _ (within d.before.before.before) _ s.requires.0.count
 
 pub overflow_sub-c-in-loop-c : goal.overflow_sub-c-in-loop-c
 overflow_sub-c-in-loop-c c = (within c.before.before.before.before).from
 
 pub beside9-requires-in-loop-c : goal.beside9-requires-in-loop-c
 beside9-requires-in-loop-c c =
-    let d = c.before.before.before.before in
-    let s = d.before.before.before.before.before in
-    reach-by s.requires.0.reaching _ (within d) _ s.requires.0.count
+    let d = c in
+    let s = d in
+    reach-by s.requires.0.reaching _ (within d.before.before.before.before) _ s.requires.0.count
 
 pub kind_after-requires : goal.kind_after-requires
 kind_after-requires c =
-    let d = c.before.before.before.before.before in
-    let a = d.before.before.before.before.before in
+    let d = c in
+    let a = d in
     let h : d.loop-c.c < length a.args.flags.now = omega (arith, d.loop-c-test.true) in
     (a.requires.0.flagged d.loop-c.c h, a.requires.0.only d.loop-c.c h)
 
@@ -69,8 +69,8 @@ bounds-next-c c = omega (arith, c.loop-c.invariant.size)
 
 pub loop-c-preserved : goal.loop-c-preserved
 loop-c-preserved c =
-    let d = c.before.before.before.before.before.before in
-    let l = d.before in
+    let d = c in
+    let l = d in
     let f = l.args.flags.now in
     let m = l.args.marks.now in
     ranged-more 0 _ f _ _ l.loop-c.next l.loop-c.c _ l.loop-c.invariant d.loop-c-test.true (omega arith)
@@ -82,6 +82,6 @@ shape_of-next c = c.loop-c.invariant.size ∙ ap length (sym c.requires.2)
 
 pub returns : goal.returns
 returns c =
-    let l = c.before.before in
-    let a = l.before.before.before.before in
+    let l = c in
+    let a = l in
     turned a.args.flags.now a.args.marks.now a.args.off.now l.loop-c.next a.args.low l.loop-c.c l.loop-c.invariant c.loop-c-test.false

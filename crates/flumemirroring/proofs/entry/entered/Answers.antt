@@ -46,7 +46,7 @@ module _ (d : At-Else-not-first-second) where
       ∙ not-false _ d.if-not-first-second.false-raw
 
 pub returns-then-not-good_sides : goal.returns-then-not-good_sides
-returns-then-not-good_sides c = let t = c.before.before.before.before.before.before.before in sides-refused t.args.s t.args.axis (first t) (second t) (sym c.good_sides.ensures ∙ not-true _ c.if-not-good_sides.true-raw)
+returns-then-not-good_sides c = let t = c in sides-refused t.args.s t.args.axis (first t.before.before.before.before.before.before.before) (second t.before.before.before.before.before.before.before) (sym c.good_sides.ensures ∙ not-true _ c.if-not-good_sides.true-raw)
 
 pub cells-n-requires : goal.cells-n-requires
 cells-n-requires c = sides-good c.before
@@ -59,26 +59,26 @@ good_lengths9-second-requires c = omega (arith, c.cells-n.ensures, few _ (sides-
 
 pub returns-then-not-first-second : goal.returns-then-not-first-second
 returns-then-not-first-second c =
-    let t = c.before.before.before.before.before.before.before.before.before.before.before in
-    lengths-refused t.args.s t.args.axis (first t) (second t) (sides-good c.before.before.before.before.before)
-    (sym (lengths-told t.args.s t.args.axis (first t) (second t) c.cells-n.ensures c.good_lengths9-first.ensures c.good_lengths9-second.ensures)
+    let t = c in
+    lengths-refused t.args.s t.args.axis (first t.before.before.before.before.before.before.before.before.before.before.before) (second t.before.before.before.before.before.before.before.before.before.before.before) (sides-good c.before.before.before.before.before)
+    (sym (lengths-told t.args.s t.args.axis (first t.before.before.before.before.before.before.before.before.before.before.before) (second t.before.before.before.before.before.before.before.before.before.before.before) c.cells-n.ensures c.good_lengths9-first.ensures c.good_lengths9-second.ensures)
     ∙ not-true _ c.if-not-first-second.true-raw)
 
 pub returns-then-not-good_axis : goal.returns-then-not-good_axis
 returns-then-not-good_axis c =
-    let d = c.before.before.before in
-    let t = w d in
-    axis-refused t.args.s t.args.axis (first t) (second t) (sides d) (lengths-good d) (sym c.good_axis.ensures ∙ not-true _ c.if-not-good_axis.true-raw)
+    let d = c in
+    let t = w d.before.before.before in
+    axis-refused t.args.s t.args.axis (first t) (second t) (sides d.before.before.before) (lengths-good d.before.before.before) (sym c.good_axis.ensures ∙ not-true _ c.if-not-good_axis.true-raw)
 
 pub checked9-requires : goal.checked9-requires
 checked9-requires c =
-    let d = c.before.before.before in
-    let t = w d in
-    (sides d, first_good t.args.s t.args.axis (first t) (second t) (sides d) (lengths-good d))
+    let d = c in
+    let t = w d.before.before.before in
+    (sides d.before.before.before, first_good t.args.s t.args.axis (first t) (second t) (sides d.before.before.before) (lengths-good d.before.before.before))
 
 pub returns : goal.returns
 returns c =
-    let d = c.before.before.before.before in
-    let t = w d in
+    let d = c in
+    let t = w d.before.before.before.before in
     c.checked9.ensures
-    ∙ then-tested t.args.s t.args.axis (first t) (second t) (sides d) (lengths-good d) (sym c.good_axis.ensures ∙ not-false _ c.if-not-good_axis.false-raw)
+    ∙ then-tested t.args.s t.args.axis (first t) (second t) (sides d.before.before.before.before) (lengths-good d.before.before.before.before) (sym c.good_axis.ensures ∙ not-false _ c.if-not-good_axis.false-raw)

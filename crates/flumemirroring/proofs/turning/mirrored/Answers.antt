@@ -34,7 +34,7 @@ module _ (d : At-In_default) where
   ready = accepted w.args.s w.args.axis (first w) (second w) passed
 
 pub returns-in-Refused : goal.returns-in-Refused
-returns-in-Refused c = let v = c.before.before.before.before.before.before.before.before.before.before.before.before.before.before in refused v.args.s v.args.axis (first v) (second v) (sym c.in-Refused.is ∙ c.entered-a.ensures)
+returns-in-Refused c = let v = c in refused v.args.s v.args.axis (first v.before.before.before.before.before.before.before) (second v.before.before.before.before.before.before.before) (sym c.in-Refused.is ∙ c.entered-a.ensures)
 
 pub directions9-dirs-requires : goal.directions9-dirs-requires
 directions9-dirs-requires c = (ready c.before).axis-good
@@ -47,6 +47,6 @@ copy_i64-requires c = let r = ready c.before.before.before.before.before.before.
 
 pub returns : goal.returns
 returns c =
-    let d = c.before.before.before.before.before.before.before.before.before.before.before.before.before.before.before.before.before in
-    let v = w d in
-    done v.args.s v.args.axis (first v) (second v) (passed d) c.directions9-dirs.ensures c.turn.ensures c.copy_i64.ensures
+    let d = c in
+    let v = w d.before.before.before.before.before.before.before.before.before.before.before.before.before.before.before.before.before in
+    done v.args.s v.args.axis (first v) (second v) (passed d.before.before.before.before.before.before.before.before.before.before.before.before.before.before.before.before.before) c.directions9-dirs.ensures c.turn.ensures c.copy_i64.ensures

@@ -64,14 +64,14 @@ cells_are c = c.cells-n.ensures ∙ ap flume_cells c.requires.s_value
 
 small : (c : At-After-cells-n) → c.cells-n.result ≤ 262144
 small c =
-    let d = c.before.before in
+    let d = c in
     omega (arith, c.cells-n.ensures, few d.args.s (ap flume_sides_good d.requires.s_value ∙ d.requires.flume_sound.sides))
 
 abbrev start : At-After-cells-n → At-Start
 start c = c.before.before
 
 there : (c : At-After-cells-n) → let r = (start c).args.rec.now in 68 + flume_cells_in r ≤ length r
-there c = omega (arith, (start c).requires.flume_sound.flags.inside)
+there c = omega (arith, (start c).requires.0.flags.inside)
 
 -- test 5 of its flags
 abbrev before-open : At-After-first_open-open → At-After-cells-n
@@ -153,7 +153,7 @@ module _ (c : At-After-first_unfair-unfair) where
 
 -- every cell keeps its rules
 fair : (c : At-Else-unfair-n) → n c.before ≤ first (n c.before) (bad c.before)
-fair c = let u = c.before in omega (arith, found u, cells_are (f (i u)), c.if-unfair-n.false)
+fair c = let u = c in omega (arith, found u.before, cells_are (f (i u.before)), c.if-unfair-n.false)
 
 -- the carry
 abbrev unfair : At-After-fair_carry → At-Else-unfair-n
@@ -177,25 +177,25 @@ slice_bounds-flags-end c = omega (arith, cells_are c.before, there c.before)
 
 pub first_open-open-requires : goal.first_open-open-requires
 first_open-open-requires c =
-    let f = c.before.before in
-    let d = start f in
+    let f = c in
+    let d = start f.before.before in
     let r = d.args.rec.now in
-    let is = cells_are f in
+    let is = cells_are f.before.before in
     let e = d.requires.s_value in
     record {
       sides = ap flume_sides_good e ∙ d.requires.flume_sound.sides;
-      count = ap length (flags-are r is) ∙ length-flags r is (there f) ∙ sym is ∙ f.cells-n.ensures;
+      count = ap length (flags-are r is) ∙ length-flags r is (there f.before.before) ∙ sym is ∙ f.cells-n.ensures;
       tested = le_trans (le_of_eq (sym f.cells-n.ensures ∙ is)) (le_trans d.requires.flume_sound.tested (le_of_eq (sym (bad-flag-is r is d.args.s e))));
     }
 
 pub returns-then-open-n : goal.returns-then-open-n
 returns-then-open-n c =
-    let o = c.before.before in
-    let fl = before-open o in
+    let o = c in
+    let fl = before-open o.before.before in
     let q = (start fl).args.rec.now in
     let fluid = bad_fluid 8 (flume_grid (flume_sides_in q)) (flume_flag_in q) in
     let rest = if_none (suc (flume_cells_in q)) 6 (bad_rule d2q9 (flume_cells_in q) (flume_state_in q)) Done in
-    let e = opened o in
+    let e = opened o.before.before in
     let h : fluid < flume_cells_in q = omega (arith, e, c.if-open-n.true, cells_are fl) in
     ap (Refused 5) e ∙ sym (stop (flume_cells_in q) 5 fluid rest h)
 
@@ -217,12 +217,12 @@ first_unfair-unfair-requires c =
 
 pub returns-then-unfair-n : goal.returns-then-unfair-n
 returns-then-unfair-n c =
-    let u = c.before.before in
-    let e = found u in
-    let h : first (n u) (bad u) < n u = omega (arith, e, cells_are (f (i u)), c.if-unfair-n.true) in
-    let b = bad-cell d2q9 (n u) (flume_state_in (r (i u))) (bad u) (rules u) h in
+    let u = c in
+    let e = found u.before.before in
+    let h : first (n u.before.before) (bad u.before.before) < n u.before.before = omega (arith, e, cells_are (f (i u.before.before)), c.if-unfair-n.true) in
+    let b = bad-cell d2q9 (n u.before.before) (flume_state_in (r (i u.before.before))) (bad u.before.before) (rules u.before.before) h in
     ap (Refused 6) (e ∙ sym b)
-    ∙ sym (skip (n u) 5 (place u) (six u) (shut u) ∙ stop (suc (n u)) 6 (bad_rule d2q9 (n u) (flume_state_in (r (i u)))) Done (omega (arith, b, h)))
+    ∙ sym (skip (n u.before.before) 5 (place u.before.before) (six u.before.before) (shut u.before.before) ∙ stop (suc (n u.before.before)) 6 (bad_rule d2q9 (n u.before.before) (flume_state_in (r (i u.before.before)))) Done (omega (arith, b, h)))
 
 pub i64_at-requires : goal.i64_at-requires
 i64_at-requires c = let q = i c.before.before in omega (arith, (d q).requires.flume_sound.flags.inside)

@@ -13,7 +13,7 @@ loop-k-init c = filled_zero _
 
 pub loop-k-preserved : goal.loop-k-preserved
 loop-k-preserved c =
-    let l = c.before.before.before.before in
+    let l = c in
     let a = l.args in
     let x = c.i32_at in
     filled_more (λ (j : ℕ). i32_at a.rec.now (a.at + 4 * j)) l.loop-k.v l.loop-k.k c.place.result _ l.loop-k.invariant c.loop-k-test.true c.place.ensures.0 c.place.ensures.1

@@ -16,7 +16,7 @@ returns-then-one_liquid-eq0 c =
 
 pub i32_at-requires : goal.i32_at-requires
 i32_at-requires c =
-    let d = c.before.before.before.before in
+    let d = c in
     d.requires (wet d.args.flag (λ e. c.if-one_liquid-eq0.false (c.one_liquid.ensures ∙ e)))
 
 pub returns : goal.returns

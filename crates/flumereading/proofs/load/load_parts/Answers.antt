@@ -33,8 +33,8 @@ here c = let h = c.loop-m-test.true in let e = c.loop-m.invariant.1 in let p = c
 inside : (c : At-After-shared_slice_known-in-loop-m-1)
     → c.loop-m.at + 36 * cond (liquid (get_or c.args.flags.now (c.loop-m.m / 9) 0)) 1 0 ≤ length c.args.rec.now
 inside c =
-    let l = c.before.before in
-    let d = c.before.before.before.before.before in
+    let l = c in
+    let d = c in
     let s = d.args.flags.now in
     let k = l.loop-m.m / 9 in
     omega (arith, liquids-more s k (here c), liquids-le (k + 1) (length s) (flag_of s) (let h = here c in omega arith), d.requires.flags_in_bounds, l.loop-m.invariant.2)
@@ -77,7 +77,7 @@ pub overflow_add-at : goal.overflow_add-at
 overflow_add-at c = record { fits = omega (arith, inside c.before, c.requires.rec_len_bound) }
 
 pub held_part-x-requires : goal.held_part-x-requires
-held_part-x-requires c.before κs e =
+held_part-x-requires c e =
     let one : ◌≡◌ {A = ℕ} (cond (liquid (get_or c.args.flags.now (c.loop-m.m / 9) 0)) 1 0) 1 = ap (λ (b : Bool). cond {A = ℕ} b 1 0) e in
     omega (arith, inside c.before, one)
 
@@ -98,8 +98,8 @@ loop-m-smaller c = omega (arith, c.loop-m-test.true, c.loop-m.invariant.1)
 
 pub loop-m-preserved : goal.loop-m-preserved
 loop-m-preserved c =
-    let l = c.before.before.before.before.before in
-    let d = c.before.before.before.before.before.before.before.before in
+    let l = c in
+    let d = c in
     let r = d.args.rec.now in
     let s = d.args.flags.now in
     let m = l.loop-m.m in
@@ -122,9 +122,9 @@ shape_of-parts c = c.loop-m.invariant.1
 
 pub returns : goal.returns
 returns c =
-    let d = c.before.before.before.before.before in
+    let d = c in
     let s = d.args.flags.now in
-    let l = c.before.before in
+    let l = c in
     let n = l.loop-m.invariant.1 ∙ d.requires.parts_len in
     let e : l.loop-m.m ≡ 9 * length s = omega (arith, n, l.loop-m.invariant.0) in
     upto_all (pos 0) (held d.args.rec.now s d.args.from) l.loop-m.parts (9 * length s) n

@@ -36,7 +36,7 @@ unfolding flume_cells_in
 cells_are c = c.cells-n.ensures ∙ ap flume_cells c.requires.s_value
 
 small : (c : At-After-cells-n) → c.cells-n.result ≤ 262144
-small c = let d = c.before.before in omega (arith, c.cells-n.ensures, few d.args.s d.requires.s_value_2)
+small c = let d = c in omega (arith, c.cells-n.ensures, few d.args.s d.requires.s_value_2)
 
 abbrev start : At-After-cells-n → At-Start
 start c = c.before.before
@@ -59,10 +59,10 @@ slice_bounds-flags-end c = omega (arith, cells_are c.before, (start c.before).re
 
 pub first_bad_flag-bad-requires : goal.first_bad_flag-bad-requires
 first_bad_flag-bad-requires c =
-    let f = c.before.before in
-    let d = start f in
+    let f = c in
+    let d = start f.before.before in
     let r = d.args.rec.now in
-    (d.requires.s_value_2, ap length (flags-are r (cells_are f)) ∙ length-flags r (cells_are f) d.requires.rec_in_bounds ∙ sym (cells_are f) ∙ f.cells-n.ensures)
+    (d.requires.s_value_2, ap length (flags-are r (cells_are f.before.before)) ∙ length-flags r (cells_are f.before.before) d.requires.rec_in_bounds ∙ sym (cells_are f.before.before) ∙ f.cells-n.ensures)
 
 pub returns-then-bad-n : goal.returns-then-bad-n
 returns-then-bad-n c =
@@ -88,8 +88,8 @@ sections_to_end-requires c =
 
 pub returns : goal.returns
 returns c =
-    let b = c.before.before.before.before.before in
-    let f = counted b in
+    let b = c in
+    let f = counted b.before.before.before.before.before in
     let d = start f in
     let r = d.args.rec.now in
     let is = cells_are f in
@@ -97,7 +97,7 @@ returns c =
     let i = c.interface_cells.ensures ∙ interfaces-are r is d.requires.rec_in_bounds in
     let l = c.liquid_cells.ensures ∙ liquids-are r is d.requires.rec_in_bounds in
     let rest = ends_on r (68 + flume_cells_in r) (flume_interfaces_in r) (9 * flume_liquids_in r) Done in
-    let none : leb (flume_cells_in r) place ≡ true = le-leb (flume_cells_in r) place (omega (arith, c.if-bad-n.false, bad-is b, is)) in
+    let none : leb (flume_cells_in r) place ≡ true = le-leb (flume_cells_in r) place (omega (arith, c.if-bad-n.false, bad-is b.before.before.before.before.before, is)) in
     c.sections_to_end.ensures
     ∙ ap (λ (k : ℕ). ends_on r (68 + k) c.interface_cells.result (9 * c.liquid_cells.result) Done) is
     ∙ ap₂ (λ (k m : ℕ). ends_on r (68 + flume_cells_in r) k (9 * m) Done) i l

@@ -28,7 +28,7 @@ returns-then-one_liquid-eq0 c =
 
 pub density-requires : goal.density-requires
 density-requires c =
-    let d = c.before.before.before in
+    let d = c in
     let a = d.args in
     nine-bounded (λ k. get_or a.parts.now (9 * a.c + k) (pos 0)) c.own9.result c.own9.ensures (d.requires.within (wet a.flag (wet-here c.before)))
 

@@ -14,7 +14,7 @@ use Rattle.flumereading.proofs.weigh.cell_mass.Goals as goal
 
 pub i32_at-requires : goal.i32_at-requires
 i32_at-requires c =
-    let d = c.before.before.before in
+    let d = c in
     subst (λ (f : ℕ). d.args.at + 4 * cond (eqb f 1) 1 0 ≤ length d.args.rec.now) c.if-flag-eq1.true d.requires
 
 pub returns-then-flag-eq1 : goal.returns-then-flag-eq1
@@ -26,7 +26,7 @@ returns-then-flag-eq1 c =
 
 pub returns-then-flag-eq2 : goal.returns-then-flag-eq2
 returns-then-flag-eq2 c =
-    let d = c.before.before.before.before in
+    let d = c in
     let a = d.args in
     to_z-of_z w32 a.rho d.ranges.rho ∙ sym (ap (λ (f : ℕ). by_flag f (pos 0) (i32_at a.rec.now a.at) a.rho (pos 0)) c.if-flag-eq2.true)
 

@@ -58,20 +58,20 @@ fill_here rec flags from c parts h =
 inside : (c : At-In-loop-c)
     → c.loop-c.at + 4 * cond (eqb (get_or c.args.flags.now c.loop-c.c 0) 1) 1 0 ≤ length c.args.rec.now
 inside c =
-    let l = c.before in
-    let d = l.before.before.before.before in
+    let l = c in
+    let d = l in
     let s = d.args.flags.now in
     omega (arith, interfaces-more s l.loop-c.c c.loop-c-test.true, interfaces-le (l.loop-c.c + 1) (length s) (flag_of s) (omega arith), d.requires.flags_in_bounds)
 
 -- the density, and the mass, as they passed the calls
-ρ-is : (c : At-After-cell_density-rho) → let l = c.before.before.before in let a = l.args in
+ρ-is : (c : At-After-cell_density-rho) → let l = c in let a = l.args in
     to_z w32 (of_z w32 c.cell_density-rho.result) ≡ by_flag (get_or a.flags.now l.loop-c.c 0) (pos 0) (ρ-of a.parts.now l.loop-c.c) (ρ-of a.parts.now l.loop-c.c) (pos 0)
 ρ-is c = to_z-of_z w32 c.cell_density-rho.result (record { sfits = c.cell_density-rho.type_inv }) ∙ c.cell_density-rho.ensures
 
-mass-is : (c : At-After-cell_mass-m) → let l = c.before.before.before.before in let a = l.args in
+mass-is : (c : At-After-cell_mass-m) → let l = c in let a = l.args in
     to_z w32 (of_z w32 c.cell_mass-m.result) ≡ mass_loaded d2q9 9 a.rec.now a.flags.now a.from a.parts.now l.loop-c.c
 mass-is c =
-    let l = c.before.before.before.before in
+    let l = c in
     let a = l.args in
     let f = get_or a.flags.now l.loop-c.c 0 in
     to_z-of_z w32 c.cell_mass-m.result (record { sfits = c.cell_mass-m.type_inv })
@@ -95,8 +95,8 @@ bounds-flags-c c = omega arith
 
 pub cell_density-rho-requires : goal.cell_density-rho-requires
 cell_density-rho-requires c =
-    let l = c.before.before.before in
-    let d = l.before.before.before.before in
+    let l = c in
+    let d = l in
     let h = c.loop-c-test.true in 
     record { c_in_bounds = omega (arith, d.requires.parts_len, h); within = λ e. d.requires.heavy.inside l.loop-c.c h (ap liquid (sym (get_or-there d.args.flags.now l.loop-c.c 0 3 h)) ∙ e) }
 
@@ -112,8 +112,8 @@ bounds-masses-c c = omega (arith, c.loop-c.invariant.2.0, c.requires.masses_len,
 pub cell_fill-requires : goal.cell_fill-requires
 cell_fill-requires c =
     λ e.
-    let l = c.before.before.before.before.before in
-    let d = l.before.before.before.before in
+    let l = c in
+    let d = l in
     let h = c.loop-c-test.true in
     let p = ρ-of d.args.parts.now l.loop-c.c in
     subst (λ (z : ℤ). pos 294912 ≤ℤ z) (sym (ρ-is c.before.before ∙ ap (λ (f : ℕ). by_flag f (pos 0) p p (pos 0)) e))
@@ -139,8 +139,8 @@ loop-c-smaller c = omega (arith, c.loop-c-test.true)
 
 pub loop-c-preserved : goal.loop-c-preserved
 loop-c-preserved c =
-    let l = c.before.before.before.before.before.before.before in
-    let d = l.before.before.before.before in
+    let l = c in
+    let d = l in
     let a = d.args in
     let r = a.rec.now in
     let s = a.flags.now in
@@ -169,8 +169,8 @@ shape_of-fills c = c.loop-c.invariant.2.1
 
 pub returns : goal.returns
 returns c =
-    let l = c.before.before in
-    let d = l.before.before.before.before in
+    let l = c in
+    let d = l in
     let a = d.args in
     let s = a.flags.now in
     let e : l.loop-c.c ≡ length s = omega arith in

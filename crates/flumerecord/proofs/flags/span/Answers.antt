@@ -52,16 +52,16 @@ overflow_add-end c =
 
 pub returns-then-rec-end : goal.returns-then-rec-end
 returns-then-rec-end c =
-    let e = c.before.before.before in
-    let a = (start e).args in
+    let e = c in
+    let a = (start e.before.before.before).args in
     let r = a.rec.now in
     let l = lt-leb (flume_flags_at + flume_cells a.h.sides) (length r) (omega (arith, c.if-rec-end.true, c.cells-end.ensures)) in
-    rw (answered e.before.before.before, sided e, l) refl
+    rw (answered e.before.before.before.before.before.before, sided e.before.before.before, l) refl
 
 pub returns : goal.returns
 returns c =
-    let e = c.before.before.before in
-    let a = (start e).args in
+    let e = c in
+    let a = (start e.before.before.before).args in
     let r = a.rec.now in
     let l = le-leb (flume_flags_at + flume_cells a.h.sides) (length r) (omega (arith, c.if-rec-end.false, c.cells-end.ensures)) in
-    rw (answered e.before.before.before, sided e, l) (ap (λ (j : ℕ). record { from = 68; to = 68 + j }) c.cells-end.ensures)
+    rw (answered e.before.before.before.before.before.before, sided e.before.before.before, l) (ap (λ (j : ℕ). record { from = 68; to = 68 + j }) c.cells-end.ensures)

@@ -38,7 +38,7 @@ abbrev At-After-resumed : Type 0
 At-After-resumed = lts.After-resumed tie.the-claims reads.Pre reads.Post
 
 pub resumed-requires : goal.resumed-requires
-resumed-requires c = let after-put-all : At-After-put_all = search in let start : At-Start = search in soiled after-put-all.put_all_lem.ensures start.requires
+resumed-requires c = let after-put-all : At-After-put_all = search in let start : At-Start = search in soiled after-put-all.put_all.ensures start.requires
 
 pub shape_of-flags2 : goal.shape_of-flags2
 shape_of-flags2 c = let after-flags22 : At-After-flags2-2-1 = search in let after-flags2 : At-After-flags2-1 = search in after-flags22.flags2-2-1.given ∙ after-flags2.flags2-1.given

@@ -72,12 +72,12 @@ module _ (d : At-At-loop-k) where
   first-same = alike-sized (entry d).requires.ready.sized d.loop-k.invariant.1.first
 
   second-same : Alike (lent (entry d).args.flags2.now (entry d).args.parts2.now (entry d).args.masses2.now (entry d).args.fills2.now (entry d).args.carry2.now) (lent d.loop-k.flags2 d.loop-k.parts2 d.loop-k.masses2 d.loop-k.fills2 d.loop-k.carry2)
-  second-same = alike-sized (entry d).requires.second d.loop-k.invariant.1.second
+  second-same = alike-sized (entry d).pre.second d.loop-k.invariant.1.second
 
 pub loop-k-init : goal.loop-k-init
 loop-k-init c =
     let after-put-all : At-After-put_all = search in let start : At-Start = search in
-    let r = soiled after-put-all.put_all_lem.ensures start.requires in
+    let r = soiled after-put-all.put_all.ensures start.requires in
     (r.dried, going-first _ _ _ _ _ _ r.entered)
 
 pub turn-a-requires : goal.turn-a-requires

@@ -9,8 +9,8 @@ use Rattle.flumewriting.proofs.front.put_carry.Goals as goal
 pub returns : goal.returns
 unfolding bytes_of join
 returns c =
-    let first = c.before.before.before in
-    let counted = first.before.before.before.before in
-    let d = counted.before.before.before in
+    let first = c in
+    let counted = first in
+    let d = counted in
     let a = d.args in
     then-signed 8 w64 w64 a.room.now 52 56 (u32_of 1) a.carry counted.put_count.ensures first.put_i64.ensures d.ranges.carry.sfits refl

@@ -15,11 +15,11 @@ use Rattle.flumewriting.proofs.front.put_head.Goals as goal
 pub returns : goal.returns
 unfolding bytes_of join flume_site_bytes flume_head_bytes
 returns c =
-    let put_four = c.before.before.before in
-    let put_three = put_four.before.before.before.before in
-    let put_two = put_three.before.before.before.before in
-    let put_one = put_two.before.before.before.before in
-    let d = put_one.before.before.before in
+    let put_four = c in
+    let put_three = put_four in
+    let put_two = put_three in
+    let put_one = put_two in
+    let d = put_one in
     let a = d.args in
     let l = a.room.now in
     let one = section 2 (u32_of a.s.nx ∷ u32_of a.s.nz ∷ []) in

@@ -46,38 +46,38 @@ two d = or_refuse (flume_lengths (flume_cells d.args.s) (set d)) 2 0 (three d)
 sided : (c : At-Else-not-good_sides) → flume_sides_good c.args.s ≡ true
 sided c = sym c.good_sides.ensures ∙ not-false _ c.if-not-good_sides.false-raw
 
-lengths-are : (c : At-After-good_lengths9) → let d = c.before.before.before.before.before.before in c.good_lengths9.result ≡ flume_lengths (flume_cells d.args.s) (set d)
+lengths-are : (c : At-After-good_lengths9) → let d = c in c.good_lengths9.result ≡ flume_lengths (flume_cells d.args.s) (set d.before.before.before.before.before.before)
 unfolding flume_lengths
-lengths-are c = let d = c.before.before.before.before.before.before in c.good_lengths9.ensures ∙ ap (λ (n : ℕ). flume_lengths n (set d)) c.cells-n.ensures
+lengths-are c = let d = c in c.good_lengths9.ensures ∙ ap (λ (n : ℕ). flume_lengths n (set d.before.before.before.before.before.before)) c.cells-n.ensures
 
 pub returns-then-not-good_sides : goal.returns-then-not-good_sides
-returns-then-not-good_sides c = let d = c.before.before.before.before.before in sym (or-fail 1 0 (two d) (sym c.good_sides.ensures ∙ not-true _ c.if-not-good_sides.true-raw))
+returns-then-not-good_sides c = let d = c in sym (or-fail 1 0 (two d.before.before.before.before.before) (sym c.good_sides.ensures ∙ not-true _ c.if-not-good_sides.true-raw))
 
 pub cells-n-requires : goal.cells-n-requires
 cells-n-requires c = sided c.before
 
 pub good_lengths9-requires : goal.good_lengths9-requires
-good_lengths9-requires c = let d = c.before.before.before.before.before.before in omega (arith, c.cells-n.ensures, few d.args.s (sided c.before.before))
+good_lengths9-requires c = let d = c in omega (arith, c.cells-n.ensures, few d.args.s (sided c.before.before))
 
 pub returns-then-not-good_lengths9 : goal.returns-then-not-good_lengths9
-returns-then-not-good_lengths9 c = let d = c.before.before.before.before.before.before.before.before in sym (or-pass 1 0 (two d) (sided c.before.before.before.before) ∙ or-fail 2 0 (three d) (sym (lengths-are c.before.before) ∙ not-true _ c.if-not-good_lengths9.true-raw))
+returns-then-not-good_lengths9 c = let d = c in sym (or-pass 1 0 (two d.before.before.before.before.before.before.before.before) (sided c.before.before.before.before) ∙ or-fail 2 0 (three d.before.before.before.before.before.before.before.before) (sym (lengths-are c.before.before) ∙ not-true _ c.if-not-good_lengths9.true-raw))
 
 pub returns-then-not-good_site : goal.returns-then-not-good_site
 returns-then-not-good_site c =
-    let d = c.before.before.before.before.before.before.before.before.before.before in
-    sym (or-pass 1 0 (two d) (sided c.before.before.before.before.before.before)
-    ∙ or-pass 2 0 (three d) (sym (lengths-are c.before.before.before.before) ∙ not-false _ c.if-not-good_lengths9.false-raw)
-    ∙ or-fail 3 0 (good d) (sym c.good_site.ensures ∙ not-true _ c.if-not-good_site.true-raw))
+    let d = c in
+    sym (or-pass 1 0 (two d.before.before.before.before.before.before.before.before.before.before) (sided c.before.before.before.before.before.before)
+    ∙ or-pass 2 0 (three d.before.before.before.before.before.before.before.before.before.before) (sym (lengths-are c.before.before.before.before) ∙ not-false _ c.if-not-good_lengths9.false-raw)
+    ∙ or-fail 3 0 (good d.before.before.before.before.before.before.before.before.before.before) (sym c.good_site.ensures ∙ not-true _ c.if-not-good_site.true-raw))
 
 pub checked9-requires : goal.checked9-requires
 checked9-requires c =
-    let d = c.before.before.before.before.before.before.before.before.before.before in
-    (sided c.before.before.before.before.before.before, sized (flume_cells d.args.s) (set d) (sym (lengths-are c.before.before.before.before) ∙ not-false _ c.if-not-good_lengths9.false-raw))
+    let d = c in
+    (sided c.before.before.before.before.before.before, sized (flume_cells d.args.s) (set d.before.before.before.before.before.before.before.before.before.before) (sym (lengths-are c.before.before.before.before) ∙ not-false _ c.if-not-good_lengths9.false-raw))
 
 pub returns : goal.returns
 returns c =
-    let d = c.before.before.before.before.before.before.before.before.before.before.before in
+    let d = c in
     c.checked9.ensures
-    ∙ sym (or-pass 1 0 (two d) (sided c.before.before.before.before.before.before.before)
-    ∙ or-pass 2 0 (three d) (sym (lengths-are c.before.before.before.before.before) ∙ not-false _ c.if-not-good_lengths9.false-raw)
-    ∙ or-pass 3 0 (good d) (sym c.good_site.ensures ∙ not-false _ c.if-not-good_site.false-raw))
+    ∙ sym (or-pass 1 0 (two d.before.before.before.before.before.before.before.before.before.before.before) (sided c.before.before.before.before.before.before.before)
+    ∙ or-pass 2 0 (three d.before.before.before.before.before.before.before.before.before.before.before) (sym (lengths-are c.before.before.before.before.before) ∙ not-false _ c.if-not-good_lengths9.false-raw)
+    ∙ or-pass 3 0 (good d.before.before.before.before.before.before.before.before.before.before.before) (sym c.good_site.ensures ∙ not-false _ c.if-not-good_site.false-raw))

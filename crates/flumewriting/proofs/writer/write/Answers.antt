@@ -38,61 +38,61 @@ At-After-record_length-long = lts.After-record_length tie.the-claims reads.Pre r
 abbrev set : At-Start → Lent
 set d = lent d.args.flags.now d.args.parts.now d.args.masses.now d.args.fills.now d.args.carry.now
 
-fits-so : (c : At-Else-not-passed) → let d = c.before.before.before.before.before.before in accepted (flume_fits d.args.s d.args.g d.args.t (set d) Done) ≡ true
+fits-so : (c : At-Else-not-passed) → let d = c in accepted (flume_fits d.args.s d.args.g d.args.t (set d.before.before.before.before.before.before) Done) ≡ true
 fits-so c =
-    let d = c.before.before.before.before.before.before in
-    chain-ok (flume_fits d.args.s d.args.g d.args.t (set d)) c.fit-tested.ensures c.passed.ensures c.if-not-passed.false-raw
+    let d = c in
+    chain-ok (flume_fits d.args.s d.args.g d.args.t (set d.before.before.before.before.before.before)) c.fit-tested.ensures c.passed.ensures c.if-not-passed.false-raw
 
-is-fit : (c : At-Else-not-passed) → let d = c.before.before.before.before.before.before in Fit d.args.s d.args.g d.args.t (set d)
-is-fit c = let d = c.before.before.before.before.before.before in fit d.args.s d.args.g d.args.t (set d) (fits-so c)
+is-fit : (c : At-Else-not-passed) → let d = c in Fit d.args.s d.args.g d.args.t (set d.before.before.before.before.before.before)
+is-fit c = let d = c in fit d.args.s d.args.g d.args.t (set d.before.before.before.before.before.before) (fits-so c)
 
 -- the length is the record's
-long-so : (c : At-After-record_length-long) → let d = c.before.before.before.before.before.before.before in c.record_length-long.result ≡ flume_record_length d.args.s (set d)
+long-so : (c : At-After-record_length-long) → let d = c in c.record_length-long.result ≡ flume_record_length d.args.s (set d.before.before.before.before.before.before.before)
 unfolding flume_record_length state_of
 long-so c =
-    let d = c.before.before.before.before.before.before.before in
+    let d = c in
     let s = d.args.flags.now in
     c.record_length-long.ensures ∙ ap (λ (n : ℕ). length_of flume_counts 1 n (interfaces n (flag_of s)) (9 * liquids n (flag_of s))) (is-fit c.before).lengths.flags
 
 pub returns-then-not-passed : goal.returns-then-not-passed
 returns-then-not-passed c =
-    let d = c.before.before.before.before.before.before.before in
-    write-refused d.args.s d.args.g d.args.t (set d) d.args.room.now c.fit-tested.result c.fit-tested.ensures
+    let d = c in
+    write-refused d.args.s d.args.g d.args.t (set d.before.before.before.before.before.before.before) d.args.room.now c.fit-tested.result c.fit-tested.ensures
     (sym c.passed.ensures ∙ not-true _ c.if-not-passed.true-raw)
 
 pub record_length-long-requires : goal.record_length-long-requires
 record_length-long-requires c =
-    let d = c.before.before.before.before.before.before.before in 
+    let d = c in 
     record { flags_len_bound = omega (arith, (is-fit c.before).lengths.flags, few d.args.s (is-fit c.before).sides); from_bound = omega arith; w_bound = omega arith }
 
 pub returns-then-room-long : goal.returns-then-room-long
 returns-then-room-long c =
-    let d = c.before.before.before.before.before.before.before.before.before in
-    write-short d.args.s d.args.g d.args.t (set d) d.args.room.now c.record_length-long.result (long-so c.before.before) (fits-so c.before.before.before) c.if-room-long.true
+    let d = c in
+    write-short d.args.s d.args.g d.args.t (set d.before.before.before.before.before.before.before.before.before) d.args.room.now c.record_length-long.result (long-so c.before.before) (fits-so c.before.before.before) c.if-room-long.true
 
 pub bounds-carry-0 : goal.bounds-carry-0
 bounds-carry-0 c = omega (arith, (is-fit c.before.before.before).lengths.carry)
 
 pub put_record-requires : goal.put_record-requires
 put_record-requires c =
-    let else = c.before.before.before in
-    let d = c.before.before.before.before.before.before.before.before.before.before.before in
-    let e = is-fit else.before.before in  record { s_value = e.sides; small = level-small d.args.g d.args.t e.site; flags_len = e.lengths.flags; parts_len = e.lengths.parts; masses_len = e.lengths.masses; flags_in_bounds = omega (arith, else.record_length-long.ensures, else.if-room-long.false) }
+    let else = c in
+    let d = c in
+    let e = is-fit else.before.before.before.before.before in  record { s_value = e.sides; small = level-small d.args.g d.args.t e.site; flags_len = e.lengths.flags; parts_len = e.lengths.parts; masses_len = e.lengths.masses; flags_in_bounds = omega (arith, else.record_length-long.ensures, else.if-room-long.false) }
 
 pub returns : goal.returns
 unfolding flume_record_of state_of
 returns c =
-    let kept = c.before.before.before.before.before in
-    let else = kept.before in
-    let one = else.before.before in
-    let d = one.before.before.before.before.before.before in
+    let kept = c in
+    let else = kept in
+    let one = else in
+    let d = one in
     let a = d.args in
     let s = a.flags.now in
     let mass : ℕ → ℤ = λ k. get_or a.masses.now k (pos 0) in
     let part : ℕ → ℕ → ℤ = λ k j. get_or a.parts.now (9 * k + j) (pos 0) in
     let carry : ℤ = get_or a.carry.now 0 (pos 0) in
     let put : ℤ → ℕ → List ℕ = λ x n. sets a.room.now 0 (flume_head_bytes a.s a.g a.t x ++ cell_sections 9 n s mass part) in
-    write_done a.s a.g a.t (set d) a.room.now else.record_length-long.result _ (long-so else.before) (fits-so one) else.if-room-long.false
+    write_done a.s a.g a.t (set d.before.before.before.before.before.before.before.before.before.before.before.before.before.before) a.room.now else.record_length-long.result _ (long-so else.before.before.before.before.before.before.before) (fits-so one.before.before.before.before.before.before.before.before) else.if-room-long.false
     (c.put_record.ensures
     ∙ ap (λ (x : ℤ). put x (length s)) (to_z-of_z w64 carry (record { sfits = kept.kept-1.given }))
-    ∙ ap (put carry) (is-fit one).lengths.flags)
+    ∙ ap (put carry) (is-fit one.before.before.before.before.before.before.before.before).lengths.flags)

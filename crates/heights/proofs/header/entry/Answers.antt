@@ -23,15 +23,15 @@ At-After-line_at-at = lts.After-line_at tie.the-claims reads.Pre reads.Post
 abbrev At-After-is_key : Type 0
 At-After-is_key = lts.After-is_key tie.the-claims reads.Pre reads.Post
 
-first : (c : At-After-next_word-a) → Found c.args.s.now c.line_at_lem.result c.next_word-a.result
-first c = found c.line_at_lem.ensures.inside c.next_word-a.ensures
+first : (c : At-After-next_word-a) → Found c.args.s.now c.line_at-at.result c.next_word-a.result
+first c = found c.line_at-at.ensures.inside c.next_word-a.ensures
 
 -- the keyword's line
-own : (c : At-After-line_at-at) → drop c.line_at_lem.result c.args.s.now ≡ from_line (line_of c.args.k) c.args.s.now
-own c = c.line_at_lem.ensures.rest ∙ ap (λ (n : ℕ). from_line n c.args.s.now) c.line_of.ensures
+own : (c : At-After-line_at-at) → drop c.line_at-at.result c.args.s.now ≡ from_line (line_of c.args.k) c.args.s.now
+own c = c.line_at-at.ensures.rest ∙ ap (λ (n : ℕ). from_line n c.args.s.now) c.line_of.ensures
 
 -- what the test of the keyword says
-key : (c : At-After-is_key) → c.is_key.result ≡ alike (word (drop c.line_at_lem.result c.args.s.now)) (key_of c.args.k)
+key : (c : At-After-is_key) → c.is_key.result ≡ alike (word (drop c.line_at-at.result c.args.s.now)) (key_of c.args.k)
 key c = c.is_key.ensures ∙ ap (λ (w : List ℕ). alike w (key_of c.args.k)) (first c.before.before).bytes
 
 pub slice_bounds-is_key-count : goal.slice_bounds-is_key-count
@@ -51,6 +51,6 @@ last_of-requires c = (first c.before.before.before.before).inside
 
 pub returns : goal.returns
 returns c =
-    let w = c.before.before.before.before.before in
+    let w = c in
     let k = w.args.k in
-    c.last_of.ensures ∙ ap (last_of k) (first w).rest ∙ entry-so k _ _ (own w.before) (sym (key c.before.before.before) ∙ not-false _ c.if-not-is_key.false-raw)
+    c.last_of.ensures ∙ ap (last_of k) (first w.before.before.before.before.before).rest ∙ entry-so k _ _ (own w.before.before.before.before.before.before) (sym (key c.before.before.before) ∙ not-false _ c.if-not-is_key.false-raw)

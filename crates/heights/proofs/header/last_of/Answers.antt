@@ -49,6 +49,6 @@ slice_bounds-number_of-end c = (first c.before.before.before.before).inside
 
 pub returns : goal.returns
 returns c =
-    let w = c.before.before.before.before.before.before in
+    let w = c in
     let k = w.args.k in
-    c.keep.ensures ∙ ap (checked k) (c.number_of.ensures ∙ ap number_of (first w.before).bytes) ∙ last-so k _ (omega (arith, third w, c.if-c.false))
+    c.keep.ensures ∙ ap (checked k) (c.number_of.ensures ∙ ap number_of (first w.before.before.before.before.before.before.before).bytes) ∙ last-so k _ (omega (arith, third w.before.before.before.before.before.before, c.if-c.false))

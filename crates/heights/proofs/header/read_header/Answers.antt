@@ -46,48 +46,48 @@ returns-in_default c = bad-columns _ (sym c.entry.ensures ∙ c.in_default.is)
 
 pub returns-in_default-entry : goal.returns-in_default-entry
 returns-in_default-entry c =
-    let a = c.before.before.before in
-    bad-rows _ (columns a) (sym c.entry-2.ensures ∙ c.in_default-entry.is)
+    let a = c in
+    bad-rows _ (columns a.before.before.before) (sym c.entry-2.ensures ∙ c.in_default-entry.is)
 
 pub returns-in_default-entry-2 : goal.returns-in_default-entry-2
 returns-in_default-entry-2 c =
-    let b = c.before.before.before in
-    let a = b.before.before in
-    bad-west _ (columns a) (rows b) (sym c.entry-3.ensures ∙ c.in_default-entry-2.is)
+    let b = c in
+    let a = b in
+    bad-west _ (columns a.before.before.before.before.before) (rows b.before.before.before) (sym c.entry-3.ensures ∙ c.in_default-entry-2.is)
 
 pub returns-in_default-entry-3 : goal.returns-in_default-entry-3
 returns-in_default-entry-3 c =
-    let d = c.before.before.before in
-    let b = d.before.before in
-    let a = b.before.before in
-    bad-south _ (columns a) (rows b) (west d) (sym c.entry-4.ensures ∙ c.in_default-entry-3.is)
+    let d = c in
+    let b = d in
+    let a = b in
+    bad-south _ (columns a.before.before.before.before.before.before.before) (rows b.before.before.before.before.before) (west d.before.before.before) (sym c.entry-4.ensures ∙ c.in_default-entry-3.is)
 
 pub returns-in_default-entry-4 : goal.returns-in_default-entry-4
 returns-in_default-entry-4 c =
-    let e = c.before.before.before in
-    let d = e.before.before in
-    let b = d.before.before in
-    let a = b.before.before in
-    bad-edge _ (columns a) (rows b) (west d) (south e) (sym c.entry-5.ensures ∙ c.in_default-entry-4.is)
+    let e = c in
+    let d = e in
+    let b = d in
+    let a = b in
+    bad-edge _ (columns a.before.before.before.before.before.before.before.before.before) (rows b.before.before.before.before.before.before.before) (west d.before.before.before.before.before) (south e.before.before.before) (sym c.entry-5.ensures ∙ c.in_default-entry-4.is)
 
 pub returns-in_default-entry-5 : goal.returns-in_default-entry-5
 returns-in_default-entry-5 c =
-    let f = c.before.before.before in
-    let e = f.before.before in
-    let d = e.before.before in
-    let b = d.before.before in
-    let a = b.before.before in
-    bad-missing _ (columns a) (rows b) (west d) (south e) (edge f) (sym c.entry-6.ensures ∙ c.in_default-entry-5.is)
+    let f = c in
+    let e = f in
+    let d = e in
+    let b = d in
+    let a = b in
+    bad-missing _ (columns a.before.before.before.before.before.before.before.before.before.before.before) (rows b.before.before.before.before.before.before.before.before.before) (west d.before.before.before.before.before.before.before) (south e.before.before.before.before.before) (edge f.before.before.before) (sym c.entry-6.ensures ∙ c.in_default-entry-5.is)
 
 pub returns : goal.returns
 returns c =
-    let m = c.before.before.before in
-    let f = m.before.before in
-    let e = f.before.before in
-    let d = e.before.before in
-    let b = d.before.before in
-    let a = b.before.before in
+    let m = c in
+    let f = m in
+    let e = f in
+    let d = e in
+    let b = d in
+    let a = b in
     frame_is (units-are c.units-nx.type_inv (kept_by a.in-Thousandths.nx a.in-Thousandths.known_told-1-own.given.0.1) c.units-nx.ensures)
     (units-are c.units-ny.type_inv (kept_by b.in-Thousandths-entry.ny b.in-Thousandths-entry.known_told-in-Thousandths-entry-2-1-own.given.0.1) c.units-ny.ensures)
     (kept_by d.in-Thousandths-entry-2.x d.in-Thousandths-entry-2.known_told-in-Thousandths-entry-3-1-own.given.0.1) (kept_by e.in-Thousandths-entry-3.y e.in-Thousandths-entry-3.known_told-in-Thousandths-entry-4-1-own.given.0.1) (kept_by f.in-Thousandths-entry-4.edge f.in-Thousandths-entry-4.known_told-in-Thousandths-entry-5-1-own.given.0.1)
-    ∙ header-so _ (columns a) (rows b) (west d) (south e) (edge f) (sym m.entry-6.ensures ∙ m.in-Thousandths-entry-5.is)
+    ∙ header-so _ (columns a.before.before.before.before.before.before.before.before.before.before.before.before.before) (rows b.before.before.before.before.before.before.before.before.before.before.before) (west d.before.before.before.before.before.before.before.before.before) (south e.before.before.before.before.before.before.before) (edge f.before.before.before.before.before) (sym m.entry-6.ensures ∙ m.in-Thousandths-entry-5.is)

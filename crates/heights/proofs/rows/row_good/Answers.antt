@@ -54,5 +54,5 @@ next_word-w-requires-2 c = c.loop-i.invariant.inside
 
 pub returns : goal.returns
 returns c =
-    let l = c.before.before.before.before in
+    let l = c in
     row-end l.loop-i.invariant c.loop-i-test.false (found l.loop-i.invariant.inside c.next_word-w-2.ensures)

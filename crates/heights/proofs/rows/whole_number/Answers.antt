@@ -15,7 +15,7 @@ abbrev At-In-Thousandths : Type 0
 At-In-Thousandths = lts.Past-After-known_told tie.the-claims reads.Pre reads.Post
 
 held : (c : At-In-Thousandths) → to_z w64 (of_z w64 c.in-Thousandths.z) ≡ c.in-Thousandths.z
-held c = to_z-of_z (record { sfits = c.in-Thousandths.known_told-1-own.given.0.1 })
+held c = to_z-of_z {w = w64} (record { sfits = c.in-Thousandths.known_told-1-own.given.0.1 })
 
 pub returns : goal.returns
 returns c = c.is_whole.ensures ∙ ap is_whole (held c.before) ∙ ap is_whole_number (sym c.in-Thousandths.is)

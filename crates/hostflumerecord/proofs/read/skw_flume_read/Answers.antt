@@ -5,9 +5,9 @@ use Rattle.hostflumerecord.proofs.read.skw_flume_read.Goals as goal
 
 pub returns : goal.returns
 returns c =
-    let site = c.before.before.before in
-    let settings = site.before.before.before.before in
-    let sides = settings.before.before.before.before in
-    let span = sides.before.before.before in
+    let site = c in
+    let settings = site in
+    let sides = settings in
+    let span = sides in
     read_told span.read-h.ensures span.span-f.ensures c.number_of.ensures c.place_of.ensures
     sides.put_sides.ensures settings.put_settings.ensures site.put_site.ensures

@@ -7,7 +7,7 @@ use Rattle.hostflumerecord.proofs.write.skw_flume_write.Goals as goal
 
 pub returns : goal.returns
 returns c =
-    let d = c.before.before.before.before.before in
+    let d = c in
     let a = d.args in
     let f = d.ranges in
     write-told (settings-back a.p a.gx a.gz f.p f.gx f.gz) (site-back a.edge a.ox a.oz f.edge f.ox f.oz)

@@ -6,7 +6,7 @@ use Rattle.hostheights.proofs.depths_write.skw_depths_write.Goals as goal
 
 pub returns : goal.returns
 returns c =
-    let d = c.before.before.before.before.before in
-    let s = d.before.before.before.before.before in
+    let d = c in
+    let s = d in
     depths-told (corner-back s.args.edge s.args.ox s.args.oy s.ranges.edge s.ranges.ox s.ranges.oy)
     d.write-w.ensures c.number_of.ensures c.place_of.ensures refl

@@ -9,7 +9,7 @@ use Rattle.hostheights.proofs.invert_read.skw_invert_read.Goals as goal
 
 pub returns : goal.returns
 returns c =
-    let d = c.before.before.before.before.before.before.before.before.before.before.before.before.before.before.before.before.before.before.before.before.before.before.before in
+    let d = c in
     let a = d.args in
     let f = d.ranges in
     let sides = c.put_sides.ensures in

@@ -9,7 +9,7 @@ use Rattle.hostrecord.proofs.write.skw_write.Goals as goal
 
 pub returns : goal.returns
 returns c =
-    let d = c.before.before.before.before.before in
+    let d = c in
     let a = d.args in
     let f = d.ranges in
     write-told (settings-back false a.p a.gx a.gy a.gz f.p f.gx f.gy f.gz) (site-back a.edge a.ox a.oy a.oz f.edge f.ox f.oy f.oz)

@@ -103,8 +103,8 @@ shape_of-marks c = let after-marks : At-After-marks-1 = search in after-marks.ma
 pub returns : goal.returns
 returns c =
     let after-number-of : At-After-number_of = search in
-    let after_run = after-number-of.before.before.before.before.before.before.before.before.before.before.before.before.before.before.before.before.before.before.before.before.before.before.before.before.before in
-    let v = after_run.before.before.before.before.before.before.before.before.before.before.before.before.before.before.before.before.before.before.before.before.before.before.before.before.before in
+    let after_run = after-number-of in
+    let v = after_run in
     let a = v.args in
     let f = v.fits in
     run-told (settings-back a.turbulent a.p a.gx a.gy a.gz f.p f.gx f.gy f.gz) after_run.run-ran.ensures after-number-of.number_of.ensures c.place_of.ensures

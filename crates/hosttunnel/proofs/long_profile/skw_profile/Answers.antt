@@ -6,8 +6,8 @@ use Rattle.hosttunnel.proofs.long_profile.skw_profile.Goals as goal
 
 pub returns : goal.returns
 returns c =
-    let d = c.before.before.before.before.before.before.before.before.before in
-    let s = d.before.before.before.before.before.before.before in
+    let d = c in
+    let s = d in
     let a = s.args in
     let f = s.ranges in
     profile-told (frame_back a.nx a.ny a.nz a.edge a.ox a.oy a.oz f.edge f.ox f.oy f.oz)

@@ -8,7 +8,7 @@ use Rattle.hosttunnel.proofs.place.skw_place.Goals as goal
 
 pub returns : goal.returns
 returns c =
-    let d = c.before.before.before in
+    let d = c in
     let a = d.args in
     let f = d.ranges in
     place-told (to_z-of_z w64 a.edge f.edge) (point-back a.ox a.oy a.oz f.ox f.oy f.oz) (point-back a.x a.y a.z f.x f.y f.z)

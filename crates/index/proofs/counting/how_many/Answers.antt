@@ -18,15 +18,15 @@ abbrev At-After-ones_below : Type 0
 At-After-ones_below = lts.After-ones_below tie.the-claims reads.Pre reads.Post goal.the-invariant-loop-k goal.the-decreases-loop-k
 
 -- the sum with one word more
-more : (c : At-After-ones-sum) → (let l = c.before.before.before in l.loop-k.sum + c.ones-sum.result ≡ count (64 * (l.loop-k.k + 1)) (is_set l.args.words.now))
+more : (c : At-After-ones-sum) → (let l = c in l.loop-k.sum + c.ones-sum.result ≡ count (64 * (l.loop-k.k + 1)) (is_set l.args.words.now))
 more c =
-    let l = c.before.before.before in
+    let l = c in
     ap₂ (λ (x y : ℕ). x + y) l.loop-k.invariant.1 c.ones-sum.ensures ∙ sym (count_word l.args.words.now l.loop-k.k)
 
 -- and with the bits of the last word
-whole : (c : At-After-ones_below) → (let l = c.before.before.before.before in l.loop-k.sum + c.ones_below.result ≡ count l.args.n (is_set l.args.words.now))
+whole : (c : At-After-ones_below) → (let l = c in l.loop-k.sum + c.ones_below.result ≡ count l.args.n (is_set l.args.words.now))
 whole c =
-    let l = c.before.before.before.before in
+    let l = c in
     let n = l.args.n in
     let e : l.loop-k.k ≡ n / 64 = omega (arith, c.loop-k-test.false, l.loop-k.invariant.0) in
     ap₂ (λ (x y : ℕ). x + y) (l.loop-k.invariant.1 ∙ ap (λ (m : ℕ). count (64 * m) (is_set l.args.words.now)) e) c.ones_below.ensures
@@ -39,7 +39,7 @@ loop-k-init c = (omega arith, refl)
 
 pub overflow_add-sum : goal.overflow_add-sum
 overflow_add-sum c =
-    let l = c.before.before.before.before in
+    let l = c in
     record { fits = omega (arith, more c.before, count_most (64 * (l.loop-k.k + 1)) (is_set l.args.words.now), c.loop-k-test.true, l.requires.0) }
 
 pub loop-k-preserved : goal.loop-k-preserved
@@ -48,12 +48,12 @@ loop-k-preserved c = (omega (arith, c.loop-k-test.true), more c.before)
 pub returns-then-n-eq0 : goal.returns-then-n-eq0
 unfolding how_many
 returns-then-n-eq0 c =
-    let l = c.before.before.before in
+    let l = c in
     l.loop-k.invariant.1 ∙ ap (λ (m : ℕ). count m (is_set l.args.words.now)) (omega (arith, c.loop-k-test.false, l.loop-k.invariant.0, c.if-n-eq0.true))
 
 pub overflow_add-result : goal.overflow_add-result
 overflow_add-result c =
-    let l = c.before.before.before.before.before in
+    let l = c in
     record { fits = omega (arith, whole c.before, count_most l.args.n (is_set l.args.words.now), l.requires.0) }
 
 pub returns : goal.returns

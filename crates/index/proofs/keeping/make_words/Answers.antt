@@ -18,8 +18,8 @@ loop-k-smaller c = simp length-set (omega (arith, c.loop-k-test.true))
 
 pub loop-k-preserved : goal.loop-k-preserved
 loop-k-preserved c =
-    let l = c.before.before.before in
-    let w = l.before.before.before in
+    let l = c in
+    let w = l in
     let h : l.loop-k.k < length l.loop-k.words = c.loop-k-test.true in
     (simp length-set (omega arith), simp length-set l.loop-k.invariant.1, upto-more 0 (word_of (length w.args.flags.now) w.args.flags.now) l.loop-k.words l.loop-k.k _ h l.loop-k.invariant.2 c.word_at.ensures)
 
@@ -28,8 +28,8 @@ shape_of-words c = c.loop-k.invariant.1
 
 pub returns : goal.returns
 returns c =
-    let l = c.before.before in
-    let w = l.before.before.before in
+    let l = c in
+    let w = l in
     let e : l.loop-k.k ≡ words_of (length w.args.flags.now) = omega (arith, c.loop-k-test.false, l.loop-k.invariant.0, l.loop-k.invariant.1, w.requires.1) in
     upto_all 0 (word_of (length w.args.flags.now) w.args.flags.now) l.loop-k.words (words_of (length w.args.flags.now)) (l.loop-k.invariant.1 ∙ w.requires.1)
     (subst (λ (m : ℕ). Upto 0 (word_of (length w.args.flags.now) w.args.flags.now) l.loop-k.words m) e l.loop-k.invariant.2)

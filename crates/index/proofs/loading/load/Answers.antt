@@ -57,8 +57,8 @@ module _ (c : At-Else-not-set-good_lengths) where
 
 pub returns-then-not-good_sides : goal.returns-then-not-good_sides
 returns-then-not-good_sides c =
-    let w = c.before.before.before.before.before.before.before in
-    load-sides w.args.s (set w) (beside w) (sym c.good_sides.ensures ∙ not-true _ c.if-not-good_sides.true-raw)
+    let w = c in
+    load-sides w.args.s (set w.before.before.before.before.before.before.before) (beside w.before.before.before.before.before.before.before) (sym c.good_sides.ensures ∙ not-true _ c.if-not-good_sides.true-raw)
 
 pub cells-n-requires : goal.cells-n-requires
 cells-n-requires c = sides-good c.before
@@ -71,29 +71,29 @@ good_lengths-requires c = omega (arith, c.cells-n.ensures, few c.before.before.b
 
 pub returns-then-not-set-good_lengths : goal.returns-then-not-set-good_lengths
 returns-then-not-set-good_lengths c =
-    let f = c.before.before.before.before.before in
-    load-lengths (start f).args.s (set (start f)) (beside (start f)) (sides-good f)
-    (sym (lengths-told (start f).args.s (set (start f)) (beside (start f)) c.cells-n.ensures c.three_lengths-set.ensures c.good_lengths.ensures) ∙ not-true _ c.if-not-set-good_lengths.true-raw)
+    let f = c in
+    load-lengths (start f.before.before.before.before.before).args.s (set (start f.before.before.before.before.before)) (beside (start f.before.before.before.before.before)) (sides-good f.before.before.before.before.before)
+    (sym (lengths-told (start f.before.before.before.before.before).args.s (set (start f.before.before.before.before.before)) (beside (start f.before.before.before.before.before)) c.cells-n.ensures c.three_lengths-set.ensures c.good_lengths.ensures) ∙ not-true _ c.if-not-set-good_lengths.true-raw)
 
 pub checked-a-requires : goal.checked-a-requires
 checked-a-requires c = (sides-good (first c.before), set-three (s c.before) (set (start (first c.before))) (beside (start (first c.before))) (sides-good (first c.before)) (lengths-good c.before))
 
 pub returns-in-Refused : goal.returns-in-Refused
 returns-in-Refused c =
-    let d = c.before.before.before in
-    load-refused (s d) (set (start (first d))) (beside (start (first d))) (sides-good (first d)) (lengths-good d) (sym c.in-Refused.is ∙ c.checked-a.ensures)
+    let d = c in
+    load-refused (s d.before.before.before) (set (start (first d.before.before.before))) (beside (start (first d.before.before.before))) (sides-good (first d.before.before.before)) (lengths-good d.before.before.before) (sym c.in-Refused.is ∙ c.checked-a.ensures)
 
 pub agrees-requires : goal.agrees-requires
 agrees-requires c =
-    let d = c.before.before.before in
-    index-asked (s d) (set (start (first d))) (beside (start (first d))) (sides-good (first d)) (lengths-good d)
+    let d = c in
+    index-asked (s d.before.before.before) (set (start (first d.before.before.before))) (beside (start (first d.before.before.before))) (sides-good (first d.before.before.before)) (lengths-good d.before.before.before)
 
 pub returns-then-not-agrees : goal.returns-then-not-agrees
 returns-then-not-agrees c =
-    let d = c.before.before.before.before.before in
-    load-untrue (s d) (set (start (first d))) (beside (start (first d))) (sides-good (first d)) (lengths-good d) (sym c.checked-a.ensures ∙ c.in_default.is) (sym c.agrees.ensures ∙ not-true _ c.if-not-agrees.true-raw)
+    let d = c in
+    load-untrue (s d.before.before.before.before.before) (set (start (first d.before.before.before.before.before))) (beside (start (first d.before.before.before.before.before))) (sides-good (first d.before.before.before.before.before)) (lengths-good d.before.before.before.before.before) (sym c.checked-a.ensures ∙ c.in_default.is) (sym c.agrees.ensures ∙ not-true _ c.if-not-agrees.true-raw)
 
 pub returns : goal.returns
 returns c =
-    let d = c.before.before.before.before.before in
-    load-done (s d) (set (start (first d))) (beside (start (first d))) (sides-good (first d)) (lengths-good d) (sym c.checked-a.ensures ∙ c.in_default.is) (sym c.agrees.ensures ∙ not-false _ c.if-not-agrees.false-raw)
+    let d = c in
+    load-done (s d.before.before.before.before.before) (set (start (first d.before.before.before.before.before))) (beside (start (first d.before.before.before.before.before))) (sides-good (first d.before.before.before.before.before)) (lengths-good d.before.before.before.before.before) (sym c.checked-a.ensures ∙ c.in_default.is) (sym c.agrees.ensures ∙ not-false _ c.if-not-agrees.false-raw)

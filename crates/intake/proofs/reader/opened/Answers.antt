@@ -40,8 +40,8 @@ module _ (e : At-Else-not-passed) where
 
 pub returns-then-not-passed : goal.returns-then-not-passed
 returns-then-not-passed c =
-    let v = c.before.before.before.before.before.before.before in
-    stops v.args.rec.now v.args.parts v.args.masses v.args.fills v.args.carry (held v) c.opening-first.ensures c.passed.ensures c.if-not-passed.true-raw
+    let v = c in
+    stops v.args.rec.now v.args.parts v.args.masses v.args.fills v.args.carry (held v.before.before.before.before.before.before.before) c.opening-first.ensures c.passed.ensures c.if-not-passed.true-raw
 
 pub sides_in-requires : goal.sides_in-requires
 sides_in-requires c =
@@ -57,14 +57,14 @@ good_lengths-requires c =
 
 pub returns-then-not-good_lengths : goal.returns-then-not-good_lengths
 returns-then-not-good_lengths c =
-    let e = c.before.before.before.before.before in
-    let v = d e in
+    let e = c in
+    let v = d e.before.before.before.before.before in
     let fits = fits_told v.args.rec.now v.args.parts v.args.masses v.args.fills v.args.carry (held v) c.sides_in.ensures c.cells.ensures c.good_lengths.ensures in
-    wrong-index v.args.rec.now v.args.parts v.args.masses v.args.fills v.args.carry (held v) (passed e) (sym fits ∙ not-true _ c.if-not-good_lengths.true-raw)
+    wrong-index v.args.rec.now v.args.parts v.args.masses v.args.fills v.args.carry (held v) (passed e.before.before.before.before.before) (sym fits ∙ not-true _ c.if-not-good_lengths.true-raw)
 
 pub returns : goal.returns
 returns c =
-    let e = c.before.before.before.before.before in
-    let v = d e in
+    let e = c in
+    let v = d e.before.before.before.before.before in
     let fits = fits_told v.args.rec.now v.args.parts v.args.masses v.args.fills v.args.carry (held v) c.sides_in.ensures c.cells.ensures c.good_lengths.ensures in
-    opens-all v.args.rec.now v.args.parts v.args.masses v.args.fills v.args.carry (held v) (passed e) (sym fits ∙ not-false _ c.if-not-good_lengths.false-raw)
+    opens-all v.args.rec.now v.args.parts v.args.masses v.args.fills v.args.carry (held v) (passed e.before.before.before.before.before) (sym fits ∙ not-false _ c.if-not-good_lengths.false-raw)

@@ -18,23 +18,23 @@ given d = held (lent [] d.args.parts.now d.args.masses.now d.args.fills.now d.ar
 
 pub returns-then-not-passed : goal.returns-then-not-passed
 returns-then-not-passed c =
-    let v = c.before.before.before.before.before.before.before.before.before.before.before in
-    refused-early v.args.rec.now (given v) c.opened-first.ensures c.passed.ensures c.if-not-passed.true-raw c.refused.ensures
+    let v = c in
+    refused-early v.args.rec.now (given v.before.before.before.before.before.before.before.before.before) c.opened-first.ensures c.passed.ensures c.if-not-passed.true-raw c.refused.ensures
 
 pub returns-then-not-passed-2 : goal.returns-then-not-passed-2
 returns-then-not-passed-2 c =
-    let v = c.before.before.before.before.before.before.before.before.before.before.before.before.before.before.before.before.before.before.before.before.before.before in
-    refused-late v.args.rec.now (given v) c.opened-first.ensures c.passed.ensures c.if-not-passed.false-raw
+    let v = c in
+    refused-late v.args.rec.now (given v.before.before.before.before.before.before.before.before.before.before.before.before.before.before.before.before.before.before.before.before) c.opened-first.ensures c.passed.ensures c.if-not-passed.false-raw
     c.read-h.ensures c.passed-2.ensures c.if-not-passed-2.true-raw
 
 pub make-requires : goal.make-requires
 make-requires c =
-    let v = c.before.before.before.before.before.before.before.before.before.before.before.before.before.before.before.before.before.before.before.before.before.before.before.before.before in
-    room v.args.rec.now (given v) c.opened-first.ensures c.passed.ensures c.if-not-passed.false-raw
+    let v = c in
+    room v.args.rec.now (given v.before.before.before.before.before.before.before.before.before.before.before.before.before.before.before.before.before.before.before.before.before.before.before) c.opened-first.ensures c.passed.ensures c.if-not-passed.false-raw
     c.read-h.ensures c.passed-2.ensures c.if-not-passed-2.false-raw c.flags_of.ensures.bytes
 
 pub returns : goal.returns
 returns c =
-    let v = c.before.before.before.before.before.before.before.before.before.before.before.before.before.before.before.before.before.before.before.before.before.before.before.before.before.before.before.before.before.before in
-    read_all v.args.rec.now (given v) c.opened-first.ensures c.passed.ensures c.if-not-passed.false-raw
+    let v = c in
+    read_all v.args.rec.now (given v.before.before.before.before.before.before.before.before.before.before.before.before.before.before.before.before.before.before.before.before.before.before.before.before.before.before.before.before) c.opened-first.ensures c.passed.ensures c.if-not-passed.false-raw
     c.read-h.ensures c.passed-2.ensures c.if-not-passed-2.false-raw c.flags_of.ensures.bytes c.make.ensures

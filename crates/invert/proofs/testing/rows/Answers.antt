@@ -12,16 +12,16 @@ use Rattle.invert.proofs.testing.rows.Goals as goal
 pub test_rows-requires : goal.test_rows-requires
 test_rows-requires c =
     let s = c.args.text.now in
-    let e = c.line_at_lem.ensures in
-    let h : 7 ≤ c.line_at_lem.result = omega (arith, length-drop c.line_at_lem.result s, ap length e.rest, e.inside, c.requires.text_in_bounds) in 
+    let e = c.line_at-at.ensures in
+    let h : 7 ≤ c.line_at-at.result = omega (arith, length-drop c.line_at-at.result s, ap length e.rest, e.inside, c.requires.text_in_bounds) in 
     record { at_in_bounds = e.inside; line_le_at = h; le_n = c.requires.le_nx }
 
 pub returns-in-Fine : goal.returns-in-Fine
 returns-in-Fine c =
     let a = c.args in
-    ap rows_answer (sym c.in-Fine.is ∙ c.test_rows.ensures ∙ ap (λ (t : List ℕ). rows_of a.ny a.nx t 7) c.line_at_lem.ensures.rest)
+    ap rows_answer (sym c.in-Fine.is ∙ c.test_rows.ensures ∙ ap (λ (t : List ℕ). rows_of a.ny a.nx t 7) c.line_at-at.ensures.rest)
 
 pub returns-in-Unfit : goal.returns-in-Unfit
 returns-in-Unfit c =
     let a = c.args in
-    ap rows_answer (sym c.in-Unfit.is ∙ c.test_rows.ensures ∙ ap (λ (t : List ℕ). rows_of a.ny a.nx t 7) c.line_at_lem.ensures.rest)
+    ap rows_answer (sym c.in-Unfit.is ∙ c.test_rows.ensures ∙ ap (λ (t : List ℕ). rows_of a.ny a.nx t 7) c.line_at-at.ensures.rest)

@@ -14,7 +14,7 @@ pub loop-c-init : goal.loop-c-init
 loop-c-init c = (omega arith, refl, upto_zero 0 _ c.args.grid.now)
 
 pub loop-c-preserved : goal.loop-c-preserved
-loop-c-preserved c = let w = c.before.before.before.before.before.before.before.before.before in
+loop-c-preserved c = let w = c in
     let h : c.loop-c.c < length c.loop-c.grid = omega (arith, w.requires.1, c.loop-c.invariant.1, c.loop-c-test.true) in (
       omega (arith, c.loop-c-test.true),
       simp length-set c.loop-c.invariant.1,
@@ -26,7 +26,7 @@ pub shape_of-grid : goal.shape_of-grid
 shape_of-grid c = c.loop-c.invariant.1
 
 pub returns : goal.returns
-returns c = let w = c.before.before.before.before.before.before in
+returns c = let w = c in
     let e : c.loop-c.c ≡ length w.args.map.now = omega (arith, c.loop-c.invariant.0, c.loop-c-test.false) in
     upto_all 0 (here w.args.map.now w.args.own.now) c.loop-c.grid (length w.args.map.now) (c.loop-c.invariant.1 ∙ w.requires.1)
     (subst (λ (m : ℕ). Upto 0 (here w.args.map.now w.args.own.now) c.loop-c.grid m) e c.loop-c.invariant.2)

@@ -16,12 +16,12 @@ abbrev set : At-Start → Lent
 set w = lent w.args.own.now w.args.parts.now w.args.masses.now w.args.fills.now w.args.carry.now
 
 pub returns-in-Refused : goal.returns-in-Refused
-returns-in-Refused c = let w = c.before.before.before.before.before.before.before in join-refused w.args.s w.args.map.now (set w) w.args.grid.now (sym c.in-Refused.is ∙ c.entered-a.ensures)
+returns-in-Refused c = let w = c in join-refused w.args.s w.args.map.now (set w.before.before.before.before.before.before.before) w.args.grid.now (sym c.in-Refused.is ∙ c.entered-a.ensures)
 
 pub fill-requires : goal.fill-requires
-fill-requires c = let w = c.before.before.before.before.before.before.before.before in
-    let z = join-scheme w.args.s w.args.map.now (set w) w.args.grid.now (sym c.entered-a.ensures ∙ c.in_default.is) in
-    ((head-sized w.args.s (set w) z.0.sized).flags ∙ sym z.0.map-size, z.1)
+fill-requires c = let w = c in
+    let z = join-scheme w.args.s w.args.map.now (set w.before.before.before.before.before.before.before.before) w.args.grid.now (sym c.entered-a.ensures ∙ c.in_default.is) in
+    ((head-sized w.args.s (set w.before.before.before.before.before.before.before.before) z.0.sized).flags ∙ sym z.0.map-size, z.1)
 
 pub returns : goal.returns
-returns c = let w = c.before.before.before.before.before.before.before.before.before.before.before in join-done w.args.s w.args.map.now (set w) w.args.grid.now (sym c.entered-a.ensures ∙ c.in_default.is) c.fill.ensures
+returns c = let w = c in join-done w.args.s w.args.map.now (set w.before.before.before.before.before.before.before.before.before.before.before) w.args.grid.now (sym c.entered-a.ensures ∙ c.in_default.is) c.fill.ensures

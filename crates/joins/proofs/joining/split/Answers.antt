@@ -14,7 +14,7 @@ pub loop-c-init : goal.loop-c-init
 loop-c-init c = (omega arith, refl, upto_zero 0 _ c.args.own.now)
 
 pub loop-c-preserved : goal.loop-c-preserved
-loop-c-preserved c = let w = c.before.before.before.before.before.before.before in
+loop-c-preserved c = let w = c in
     let h : c.loop-c.c < length c.loop-c.own = omega (arith, w.requires, c.loop-c.invariant.1, c.loop-c-test.true) in (
       omega (arith, c.loop-c-test.true),
       simp length-set c.loop-c.invariant.1,
@@ -26,7 +26,7 @@ pub shape_of-own : goal.shape_of-own
 shape_of-own c = c.loop-c.invariant.1
 
 pub returns : goal.returns
-returns c = let w = c.before.before.before.before.before in
+returns c = let w = c in
     let e : c.loop-c.c ≡ length w.args.grid.now = omega (arith, c.loop-c.invariant.0, c.loop-c-test.false) in
     upto_all 0 (here w.args.grid.now) c.loop-c.own (length w.args.grid.now) (c.loop-c.invariant.1 ∙ w.requires)
     (subst (λ (m : ℕ). Upto 0 (here w.args.grid.now) c.loop-c.own m) e c.loop-c.invariant.2)

@@ -14,7 +14,7 @@ counts-after-requires c = omega (arith, c.masses2-1.given, c.requires.masses2_le
 
 pub returns : goal.returns
 returns c =
-    let first = c.before.before.before.before.before.before.before.before.before.before.before.before.before.before.before.before.before.before.before.before.before.before in
-    let start = first.before.before.before.before.before.before.before.before in
-    went (get_or start.args.carry.now 0 (pos 0)) (record { sfits = first.counts-arg-1.given }) (record { sfits = c.counts-arg5.given })
+    let first = c in
+    let start = first in
+    went (get_or start.args.carry.now 0 (pos 0)) (record { sfits = first.counts-arg-1.given }) (record { sfits = c.alone-1.given })
     first.counts-before.ensures c.step-step.ensures c.counts-after.ensures

@@ -11,8 +11,8 @@ returns-then-refused c = refused-told _ _ _ _ c.read-head.ensures.head-is c.refu
 
 pub go-requires : goal.go-requires
 go-requires c =
-    let read = c.before.before.before.before.before.before.before.before.before.before.before.before.before.before.before.before.before.before.before.before.before in
-    let start = read.before.before.before.before.before.before.before.before.before.before in 
+    let read = c in
+    let start = read in 
     record { masses_len_bound = omega (arith, read.read-head.auto.1.1.0, start.requires.masses_len_bound); masses2_len_bound = start.requires.masses2_len_bound; carry_len = read.read-head.auto.1.1.1.1.0 ∙ start.requires.carry_len; carry2_len = start.requires.carry2_len }
 
 pub shape_of-parts : goal.shape_of-parts
@@ -29,9 +29,9 @@ shape_of-carry c = c.read-head.auto.1.1.1.1.0
 
 pub returns : goal.returns
 returns c =
-    let went = c.before.before.before.before.before.before.before.before.before.before in
-    let flags = c.before.before.before.before.before.before.before.before.before.before.before.before.before.before.before.before.before.before.before.before.before.before.before in
-    let read = c.before.before.before.before.before.before.before.before.before.before.before.before.before.before.before.before.before.before.before.before.before.before.before.before.before.before.before.before.before.before.before in
+    let went = c in
+    let flags = c in
+    let read = c in
     let h = read.read-head.ensures in
     accepted-told _ _ _ _ h.head-is c.refused.ensures c.if-refused.false (handed _ _ _ _ h.head-is flags.flags_of-own.ensures).flags-are
     h.parts_are h.masses-are h.fills-are h.carry-is went.go.ensures

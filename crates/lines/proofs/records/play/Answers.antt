@@ -40,22 +40,22 @@ play-requires c =  record { masses_len_bound = take-low c.room-n.result _ 862 (o
 
 pub returns : goal.returns
 returns c =
-    let m = c.before.before.before.before.before.before.before.before.before.before.before.before in
+    let m = c in
     let room = m.room-n.ensures.value in
     let parts = ap (λ (n : ℕ). 19 * n) room in
     c.play.ensures
     ∙ told_is _ _ _ _ (omega (arith, c.if-rec-gt65536.false))
     (record {
-      parts = sym (slice_bounds-play-end m.before.before.before.before.before.before.before.before.before) ∙ parts;
-      masses = sym (slice_bounds-play-end-2 m.before.before.before.before.before.before.before.before) ∙ room;
-      fills = sym (slice_bounds-play-end-3 m.before.before.before.before.before.before.before) ∙ room;
+      parts = sym (slice_bounds-play-end m.before.before.before.before.before.before.before.before.before.before) ∙ parts;
+      masses = sym (slice_bounds-play-end-2 m.before.before.before.before.before.before.before.before.before) ∙ room;
+      fills = sym (slice_bounds-play-end-3 m.before.before.before.before.before.before.before.before) ∙ room;
       carry = refl;
     })
     (record {
-      flags = sym (slice_bounds-play-end-5 m.before.before.before.before.before) ∙ room;
-      parts = sym (slice_bounds-play-end-6 m.before.before.before.before) ∙ parts;
-      masses = sym (slice_bounds-play-end-7 m.before.before.before) ∙ room;
-      fills = sym (slice_bounds-play-end-8 m.before.before) ∙ room;
+      flags = sym (slice_bounds-play-end-5 m.before.before.before.before.before.before) ∙ room;
+      parts = sym (slice_bounds-play-end-6 m.before.before.before.before.before) ∙ parts;
+      masses = sym (slice_bounds-play-end-7 m.before.before.before.before) ∙ room;
+      fills = sym (slice_bounds-play-end-8 m.before.before.before) ∙ room;
       carry = refl;
-      marked = sym (slice_bounds-play-end-10 m) ∙ room;
+      marked = sym (slice_bounds-play-end-10 m.before) ∙ room;
     })

@@ -56,7 +56,7 @@ module _ (c : At-Else-not-first-second) where
       sym (lengths-told w.args.s w.args.axis (first w) (second w) c.cells-n.ensures c.three_lengths-first.ensures c.three_lengths-second.ensures c.good_lengths-beside.ensures) ∙ not-false _ c.if-not-first-second.false-raw
 
 pub returns-then-not-good_sides : goal.returns-then-not-good_sides
-returns-then-not-good_sides c = let v = c.before.before.before.before.before.before.before.before.before in sides-refused v.args.s v.args.axis (first v) (second v) (sym c.good_sides.ensures ∙ not-true _ c.if-not-good_sides.true-raw)
+returns-then-not-good_sides c = let v = c in sides-refused v.args.s v.args.axis (first v.before.before.before.before.before.before.before.before.before) (second v.before.before.before.before.before.before.before.before.before) (sym c.good_sides.ensures ∙ not-true _ c.if-not-good_sides.true-raw)
 
 pub cells-n-requires : goal.cells-n-requires
 cells-n-requires c = sides-good c.before
@@ -72,19 +72,19 @@ good_lengths-beside-requires c = omega (arith, c.cells-n.ensures, few c.before.b
 
 pub returns-then-not-first-second : goal.returns-then-not-first-second
 returns-then-not-first-second c =
-    let f = c.before.before.before.before.before.before in
-    let v = start f in
-    lengths-refused v.args.s v.args.axis (first v) (second v) (sides-good f)
+    let f = c in
+    let v = start f.before.before.before.before.before.before in
+    lengths-refused v.args.s v.args.axis (first v) (second v) (sides-good f.before.before.before.before.before.before)
     (sym (lengths-told v.args.s v.args.axis (first v) (second v) c.cells-n.ensures c.three_lengths-first.ensures c.three_lengths-second.ensures c.good_lengths-beside.ensures) ∙ not-true _ c.if-not-first-second.true-raw)
 
 pub returns-then-axis-gt2 : goal.returns-then-axis-gt2
-returns-then-axis-gt2 c = let d = c.before.before in let v = w d in axis-refused v.args.s v.args.axis (first v) (second v) (sides-good (one d)) (lengths-good d) (lt-leb _ _ c.if-axis-gt2.true)
+returns-then-axis-gt2 c = let d = c in let v = w d.before.before in axis-refused v.args.s v.args.axis (first v) (second v) (sides-good (one d.before.before)) (lengths-good d.before.before) (lt-leb _ _ c.if-axis-gt2.true)
 
 pub checked-requires : goal.checked-requires
-checked-requires c = let d = c.before.before in let v = w d in (sides-good (one d), first_three v.args.s v.args.axis (first v) (second v) (sides-good (one d)) (lengths-good d))
+checked-requires c = let d = c in let v = w d.before.before in (sides-good (one d.before.before), first_three v.args.s v.args.axis (first v) (second v) (sides-good (one d.before.before)) (lengths-good d.before.before))
 
 pub returns : goal.returns
 returns c =
-    let d = c.before.before.before in
-    let v = w d in
-    c.checked.ensures ∙ then-tested v.args.s v.args.axis (first v) (second v) (sides-good (one d)) (lengths-good d) (le-leb _ _ c.if-axis-gt2.false)
+    let d = c in
+    let v = w d.before.before.before in
+    c.checked.ensures ∙ then-tested v.args.s v.args.axis (first v) (second v) (sides-good (one d.before.before.before)) (lengths-good d.before.before.before) (le-leb _ _ c.if-axis-gt2.false)

@@ -51,19 +51,19 @@ pub nonzero_rem-c : goal.nonzero_rem-c
 nonzero_rem-c c = omega (arith, some-x c.before.before)
 
 pub flipped-x-requires : goal.flipped-x-requires
-flipped-x-requires c = let w = c.before.before in column-low w.args.s w.args.axis w.args.c w.requires.1
+flipped-x-requires c = let w = c in column-low w.args.s w.args.axis w.args.c w.requires.1
 
 pub nonzero_rem-row : goal.nonzero_rem-row
 nonzero_rem-row c = omega (arith, some-y c.before.before.before.before)
 
 pub flipped-y-requires : goal.flipped-y-requires
-flipped-y-requires c = let w = c.before.before.before.before in row_low w.args.s w.args.axis w.args.c w.requires.1
+flipped-y-requires c = let w = c in row_low w.args.s w.args.axis w.args.c w.requires.1
 
 pub nonzero_div-row-2 : goal.nonzero_div-row-2
 nonzero_div-row-2 c = omega (arith, some-y c.before.before.before.before.before.before)
 
 pub flipped-z-requires : goal.flipped-z-requires
-flipped-z-requires c = let w = c.before.before.before.before.before.before in plane-low w.args.s w.args.axis w.args.c w.requires.1
+flipped-z-requires c = let w = c in plane-low w.args.s w.args.axis w.args.c w.requires.1
 
 pub overflow_mul-result : goal.overflow_mul-result
 overflow_mul-result c = record { fits = omega (arith, (ways c.before).0) }

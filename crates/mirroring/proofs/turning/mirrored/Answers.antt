@@ -38,7 +38,7 @@ module _ (d : At-In_default) where
   ready = accepted w.args.s w.args.axis (first w) (second w) passed
 
 pub returns-in-Refused : goal.returns-in-Refused
-returns-in-Refused c = let v = c.before.before.before.before.before.before.before.before.before.before.before.before.before.before.before.before.before.before in refused v.args.s v.args.axis (first v) (second v) (sym c.in-Refused.is ∙ c.entered-a.ensures)
+returns-in-Refused c = let v = c in refused v.args.s v.args.axis (first v.before.before.before.before.before.before.before.before.before) (second v.before.before.before.before.before.before.before.before.before) (sym c.in-Refused.is ∙ c.entered-a.ensures)
 
 pub directions-dirs-requires : goal.directions-dirs-requires
 directions-dirs-requires c = (ready c.before).axis-good
@@ -51,12 +51,12 @@ copy_i64-requires c = let r = ready c.before.before.before.before.before.before.
 
 pub make-requires : goal.make-requires
 make-requires c =
-    let d = c.before.before.before.before.before.before.before.before.before.before.before.before.before.before.before.before.before.before.before.before in
-    subst (λ (m : ℕ). Room m (second (w d)).index) (sym (c.flags2-1.given ∙ (ready d).second-flags)) (ready d).room
+    let d = c in
+    subst (λ (m : ℕ). Room m (second (w d.before.before.before.before.before.before.before.before.before.before.before.before.before.before.before.before.before.before.before)).index) (sym (c.flags2-1.given ∙ (ready d.before.before.before.before.before.before.before.before.before.before.before.before.before.before.before.before.before.before.before).second-flags)) (ready d.before.before.before.before.before.before.before.before.before.before.before.before.before.before.before.before.before.before.before).room
 
 pub returns : goal.returns
 returns c =
-    let d = c.before.before.before.before.before.before.before.before.before.before.before.before.before.before.before.before.before.before.before.before.before.before.before.before.before in
-    let v = w d in
-    done v.args.s v.args.axis (first v) (second v) (passed d) c.directions-dirs.ensures c.turn.ensures c.copy_i64.ensures
-    (c.flags2-1.given ∙ (ready d).second-flags) c.make.ensures
+    let d = c in
+    let v = w d.before.before.before.before.before.before.before.before.before.before.before.before.before.before.before.before.before.before.before.before.before.before.before.before in
+    done v.args.s v.args.axis (first v) (second v) (passed d.before.before.before.before.before.before.before.before.before.before.before.before.before.before.before.before.before.before.before.before.before.before.before.before) c.directions-dirs.ensures c.turn.ensures c.copy_i64.ensures
+    (c.flags2-1.given ∙ (ready d.before.before.before.before.before.before.before.before.before.before.before.before.before.before.before.before.before.before.before.before.before.before.before.before).second-flags) c.make.ensures

@@ -72,7 +72,7 @@ pub overflow_add-width : goal.overflow_add-width
 overflow_add-width c = record { fits = omega (arith, c.requires.narrow) }
 
 pub loop-c-init : goal.loop-c-init
-loop-c-init c = let v = c.before.before.before.before.before in (omega arith, made_none v.args.s v.args.axis v.args.dirs.now v.args.q (first v) _ v.requires.second)
+loop-c-init c = let v = c in (omega arith, made_none v.args.s v.args.axis v.args.dirs.now v.args.q (first v.before.before.before.before.before) _ v.requires.second)
 
 pub cell_in-m-requires : goal.cell_in-m-requires
 cell_in-m-requires c = ((w c.before).requires.few, here c.before)
@@ -108,18 +108,18 @@ pub bounds-fills2-c : goal.bounds-fills2-c
 bounds-fills2-c c = omega (arith, here c.before.before.before.before.before, c.loop-c.invariant.1.sized.fills)
 
 pub overflow_mul-width : goal.overflow_mul-width
-overflow_mul-width c = let d = c.before.before.before.before in record { fits = omega (arith, small (v d).args.q d.cell_in-m.result (v d).requires.narrow (few-there d)) }
+overflow_mul-width c = let d = c in record { fits = omega (arith, small (v d.before.before.before.before).args.q d.cell_in-m.result (v d.before.before.before.before).requires.narrow (few-there d.before.before.before.before)) }
 
 pub overflow_mul-width-in-loop-c : goal.overflow_mul-width-in-loop-c
-overflow_mul-width-in-loop-c c = let i = c.before.before.before.before.before.before in record { fits = omega (arith, small (w i).args.q i.loop-c.c (w i).requires.narrow (few-here i)) }
+overflow_mul-width-in-loop-c c = let i = c in record { fits = omega (arith, small (w i.before.before.before.before.before.before).args.q i.loop-c.c (w i.before.before.before.before.before.before).requires.narrow (few-here i.before.before.before.before.before.before)) }
 
 pub fetch-requires : goal.fetch-requires
 fetch-requires c =
-    let d = c.before.before.before.before.before in
-    let i = d.before in
-    let t = v d in (
-      room t.args.q (n i) d.cell_in-m.result t.args.parts.now t.requires.first.parts (there d),
-      room t.args.q (n i) i.loop-c.c i.loop-c.parts2 i.loop-c.invariant.1.sized.parts (here i),
+    let d = c in
+    let i = d in
+    let t = v d.before.before.before.before.before in (
+      room t.args.q (n i.before.before.before.before.before.before) d.cell_in-m.result t.args.parts.now t.requires.first.parts (there d.before.before.before.before.before),
+      room t.args.q (n i.before.before.before.before.before.before) i.loop-c.c i.loop-c.parts2 i.loop-c.invariant.1.sized.parts (here i.before.before.before.before.before.before),
       omega (arith, t.requires.narrow),
       subst (λ (k : ℕ). Directed k t.args.dirs.now) (sym (add-one t.args.q)) t.requires.directed,
     )
@@ -129,13 +129,13 @@ loop-c-smaller c = omega (arith, c.loop-c-test.true)
 
 pub loop-c-preserved : goal.loop-c-preserved
 loop-c-preserved c =
-    let i = c.before.before.before.before.before.before.before.before in
-    let l = i.before in
+    let i = c in
+    let l = i in
     let d = c.cell_in-m in
-    let u = w i in
-    let h = here i in (
+    let u = w i.before.before.before.before.before.before.before.before in
+    let h = here i.before.before.before.before.before.before.before.before in (
       omega (arith, h),
-      made_more u.args.s u.args.axis u.args.dirs.now u.args.q (first u) u.requires.first (second l) (u.args.q + 1) l.loop-c.c d.result _ _ _ _ (add-one u.args.q) h d.ensures.0 refl
+      made_more u.args.s u.args.axis u.args.dirs.now u.args.q (first u) u.requires.first (second l.before.before.before.before.before.before.before.before.before) (u.args.q + 1) l.loop-c.c d.result _ _ _ _ (add-one u.args.q) h d.ensures.0 refl
           (to_z-of_z (sfits_of {w = w32} c.masses2-1.given)) refl c.fetch.ensures l.loop-c.invariant.1,
     )
 
@@ -153,6 +153,6 @@ shape_of-fills2 c = c.loop-c.invariant.1.sized.fills ∙ sym c.requires.second.f
 
 pub returns : goal.returns
 returns c =
-    let v = c.before.before.before.before.before.before.before in
+    let v = c in
     let l = c.loop-c in
-    made_all v.args.s v.args.axis v.args.dirs.now v.args.q (first v) (second c.before.before) l.c (omega (arith, l.invariant.0, v.requires.first.flags, c.loop-c-test.false)) l.invariant.1
+    made_all v.args.s v.args.axis v.args.dirs.now v.args.q (first v.before.before.before.before.before.before.before) (second c.before.before) l.c (omega (arith, l.invariant.0, v.requires.first.flags, c.loop-c-test.false)) l.invariant.1

@@ -14,7 +14,7 @@ loop-k-init c = filled_zero _
 
 pub loop-k-preserved : goal.loop-k-preserved
 loop-k-preserved c =
-    let l = c.before.before.before in
+    let l = c in
     filled_more (λ (j : ℕ). get_or l.args.parts.now (9 * l.args.c + j) (pos 0)) l.loop-k.v l.loop-k.k c.place.result _ l.loop-k.invariant c.loop-k-test.true c.place.ensures.0 c.place.ensures.1 (to_z-of_z (sfits_of {w = w32} c.v-1.given))
 
 pub returns : goal.returns

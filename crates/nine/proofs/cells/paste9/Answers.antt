@@ -23,8 +23,8 @@ loop-k-init c = (omega arith, refl, paste-zero c.args.out.now (9 * c.args.c) (ni
 
 pub loop-k-preserved : goal.loop-k-preserved
 loop-k-preserved c =
-    let l = c.before.before.before in
-    let s = l.before in
+    let l = c in
+    let s = l in
     let v = s.args.v in
     let k = l.loop-k.k in
     let t : l.loop-k.k < 9 = c.loop-k-test.true in
@@ -44,7 +44,7 @@ shape_of-out c = c.loop-k.invariant.1
 pub returns : goal.returns
 unfolding pasted9
 returns c =
-    let s = c.before.before in
+    let s = c in
     let e : c.loop-k.k ≡ 9 = omega arith in
     (rw e at c.loop-k.invariant.2)
     ∙ ap (λ (l : List ℤ). take (9 * s.args.c) s.args.out.now ++ l ++ drop (9 * s.args.c + 9) s.args.out.now) (take_all 9 (nine_of s.args.v) (le_of_eq (nine-long s.args.v)))

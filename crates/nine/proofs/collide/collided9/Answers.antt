@@ -98,10 +98,10 @@ module _ (c : goal.Else-highest-gt4293918719) where
   form-is : (k : ℕ) → k < 18 → forms (suc k) ≡ wanted (suc k)
   form-is k h =
       let s = first_of in
-      let t = c.before.before.before.before.before in
+      let t = c in
       let z : suc k - 1 ≡ k = omega arith in
       ap₂ (λ (n : ℕ) (y : ℤ). landed (get_or t.ends9-e.result n 0) (parts_of s.args.f (suc k)) y) z share-is
-      ∙ lands s.args.v s.args.p s.args.f t.ends9-e.result s.requires.3 (steady-tame s.args.v s.requires.1).low (ends-are t) k h (omega (arith, c.highest.ensures k h))
+      ∙ lands s.args.v s.args.p s.args.f t.ends9-e.result s.requires.3 (steady-tame s.args.v s.requires.1).low (ends-are t.before.before.before.before.before) k h (omega (arith, c.highest.ensures k h))
 
 pub ends9-e-requires : goal.ends9-e-requires
 ends9-e-requires c = (c.requires.1, rw (to_z-of_z c.ranges.p) c.requires.2)
@@ -114,20 +114,20 @@ overflow_cast-c c = let p = relaxation-in c.args.p c.requires.2 in does-fit (sea
 
 pub loop-i-init : goal.loop-i-init
 loop-i-init c =
-    let s = c.before.before.before in
+    let s = c in
     begun _ _ _ refl (within_by (v32 (inside (steady-tame s.args.v s.requires.1).rho)) tt)
 
 pub settled-m-requires : goal.settled-m-requires
 settled-m-requires c =
-    let t = c.before.before.before.before.before in
+    let t = c in
     let i = c.loop-i.i in
-    mixes t (i - 1) (omega arith) (within_by (v32 (inside (t.requires.0.at i (omega arith) (omega arith)))) tt)
+    mixes t.before.before.before.before.before (i - 1) (omega arith) (within_by (v32 (inside (t.requires.0.at i (omega arith) (omega arith)))) tt)
 
 pub settled-n-requires : goal.settled-n-requires
 settled-n-requires c =
-    let t = c.before.before.before.before.before.before.before in
+    let t = c in
     let i = c.loop-i.i in
-    mixes t i (omega arith) (within_by (v32 (inside (t.requires.0.at (i + 1) (omega arith) (omega arith)))) tt)
+    mixes t.before.before.before.before.before.before.before i (omega arith) (within_by (v32 (inside (t.requires.0.at (i + 1) (omega arith) (omega arith)))) tt)
 
 pub overflow_add-r : goal.overflow_add-r
 overflow_add-r c =
@@ -158,16 +158,16 @@ loop-i-preserved c =
 
 pub by_divider9-requires : goal.by_divider9-requires
 by_divider9-requires c =
-    let s = c.before.before.before.before.before.before.before.before in
+    let s = c in
     (s.well_formed.0.1.0.1, wider-parts s.requires.0, steady-tame s.args.v s.requires.1, rw (to_z-of_z s.ranges.p) s.requires.2)
 
 pub returns-then-highest-gt4293918719 : goal.returns-then-highest-gt4293918719
 returns-then-highest-gt4293918719 c =
-    let s = c.before.before.before.before.before.before.before.before in
+    let s = c in
     rw (to_z-of_z s.ranges.p) at c.by_divider9.ensures
 
 pub returns : goal.returns
 returns c =
-    let s = c.before.before.before.before.before.before in
+    let s = c in
     let e : to_z w32 (of_z w32 s.args.v.rho) ≡ s.args.v.rho = reads_as (v32 (inside (steady-tame s.args.v s.requires.1).rho)) tt in
     all_done (forms c) s.args.v.rho spread_lattice eighteen (vec s.args.v) s.args.p (parts_of s.args.f) (form-is c) (rw e at c.loop-i.invariant) (omega arith)

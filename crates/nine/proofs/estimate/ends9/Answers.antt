@@ -85,21 +85,21 @@ rates_of-k-requires c = (c.requires.0, rw (to_z-of_z c.ranges.p) c.requires.1)
 
 pub axis-x-requires : goal.axis-x-requires
 axis-x-requires c =
-    let k = c.before.before.before.before.before in
-    let g = fair k.before in
-    let asks = asks-axis g (axis-x g) (ex k) (evx k) (eox k) (eb k) in record { within = asks.0; pos_bound = asks.1 }
+    let k = c in
+    let g = fair k.before.before.before.before.before.before in
+    let asks = asks-axis g (axis-x g) (ex k.before.before.before.before.before) (evx k.before.before.before.before.before) (eox k.before.before.before.before.before) (eb k.before.before.before.before.before) in record { within = asks.0; pos_bound = asks.1 }
 
 pub axis-z-requires : goal.axis-z-requires
 axis-z-requires c =
-    let k = c.before.before.before.before.before.before.before.before.before.before in
-    let g = fair k.before in
-    let asks = asks-axis g (axis-z g) (ez k) (evz k) (eoz k) (eb k) in record { within = asks.0; pos_bound = asks.1 }
+    let k = c in
+    let g = fair k.before.before.before.before.before.before.before.before.before.before.before in
+    let asks = asks-axis g (axis-z g) (ez k.before.before.before.before.before.before.before.before.before.before) (evz k.before.before.before.before.before.before.before.before.before.before) (eoz k.before.before.before.before.before.before.before.before.before.before) (eb k.before.before.before.before.before.before.before.before.before.before) in record { within = asks.0; pos_bound = asks.1 }
 
 pub crossed-xz-requires : goal.crossed-xz-requires
 crossed-xz-requires c =
-    let k = c.before.before.before.before.before.before.before.before.before.before.before.before.before.before.before.before.before.before in
-    let g = fair k.before in
-    let asks = asks-crossed g (axis-x g) (axis-z g) (ex k) (ez k) (evx k) (evz k) (eox k) (eoz k) (eb k) in record { within = asks.0; pos_bound = asks.1.0; pos_bound_2 = asks.1.1 }
+    let k = c in
+    let g = fair k.before.before.before.before.before.before.before.before.before.before.before.before.before.before.before.before.before.before.before in
+    let asks = asks-crossed g (axis-x g) (axis-z g) (ex k.before.before.before.before.before.before.before.before.before.before.before.before.before.before.before.before.before.before) (ez k.before.before.before.before.before.before.before.before.before.before.before.before.before.before.before.before.before.before) (evx k.before.before.before.before.before.before.before.before.before.before.before.before.before.before.before.before.before.before) (evz k.before.before.before.before.before.before.before.before.before.before.before.before.before.before.before.before.before.before) (eox k.before.before.before.before.before.before.before.before.before.before.before.before.before.before.before.before.before.before) (eoz k.before.before.before.before.before.before.before.before.before.before.before.before.before.before.before.before.before.before) (eb k.before.before.before.before.before.before.before.before.before.before.before.before.before.before.before.before.before.before) in record { within = asks.0; pos_bound = asks.1.0; pos_bound_2 = asks.1.1 }
 
 pub overflow_mul-result : goal.overflow_mul-result
 overflow_mul-result c = twice-fits c.axis-x.result.a c.axis-x.ensures.a.most
@@ -116,16 +116,16 @@ overflow_mul-result-4 c = twice-fits c.axis-z.result.b c.axis-z.ensures.b.most
 pub returns : goal.returns
 unfolding narrow idle
 returns c =
-    let k = c.before.before.before.before.before.before.before.before.before.before.before.before.before.before.before.before.before.before.before.before.before.before in
-    let s = k.before in
+    let k = c in
+    let s = k in
     let v = s.args.v in
     let p = s.args.p in
-    let g = fair s in
+    let g = fair s.before.before.before.before.before.before.before.before.before.before.before.before.before.before.before.before.before.before.before.before.before.before.before in
     let sx = (axis-x g).slope in
-    let rx = axis-is g (axis-x g) (ex k) (evx k) (eox k) (eb k) c.axis-x.ensures in
+    let rx = axis-is g (axis-x g) (ex k.before.before.before.before.before.before.before.before.before.before.before.before.before.before.before.before.before.before.before.before.before.before) (evx k.before.before.before.before.before.before.before.before.before.before.before.before.before.before.before.before.before.before.before.before.before.before) (eox k.before.before.before.before.before.before.before.before.before.before.before.before.before.before.before.before.before.before.before.before.before.before) (eb k.before.before.before.before.before.before.before.before.before.before.before.before.before.before.before.before.before.before.before.before.before.before) c.axis-x.ensures in
     let sz = (axis-z g).slope in
-    let rz = axis-is g (axis-z g) (ez k) (evz k) (eoz k) (eb k) c.axis-z.ensures in
-    let rxz = crossed-is g (axis-x g) (axis-z g) (ex k) (ez k) (evx k) (evz k) (eox k) (eoz k) (eb k) c.crossed-xz.ensures in
+    let rz = axis-is g (axis-z g) (ez k.before.before.before.before.before.before.before.before.before.before.before.before.before.before.before.before.before.before.before.before.before.before) (evz k.before.before.before.before.before.before.before.before.before.before.before.before.before.before.before.before.before.before.before.before.before.before) (eoz k.before.before.before.before.before.before.before.before.before.before.before.before.before.before.before.before.before.before.before.before.before.before) (eb k.before.before.before.before.before.before.before.before.before.before.before.before.before.before.before.before.before.before.before.before.before.before) c.axis-z.ensures in
+    let rxz = crossed-is g (axis-x g) (axis-z g) (ex k.before.before.before.before.before.before.before.before.before.before.before.before.before.before.before.before.before.before.before.before.before.before) (ez k.before.before.before.before.before.before.before.before.before.before.before.before.before.before.before.before.before.before.before.before.before.before) (evx k.before.before.before.before.before.before.before.before.before.before.before.before.before.before.before.before.before.before.before.before.before.before) (evz k.before.before.before.before.before.before.before.before.before.before.before.before.before.before.before.before.before.before.before.before.before.before) (eox k.before.before.before.before.before.before.before.before.before.before.before.before.before.before.before.before.before.before.before.before.before.before) (eoz k.before.before.before.before.before.before.before.before.before.before.before.before.before.before.before.before.before.before.before.before.before.before) (eb k.before.before.before.before.before.before.before.before.before.before.before.before.before.before.before.before.before.before.before.before.before.before) c.crossed-xz.ensures in
     let pxz = joined p v.rho sx sz in
     let mxz = joined p v.rho sx (turned p v.rho sz) in
     let nx = c.axis-x.result in

@@ -33,7 +33,7 @@ overflow_cast-p c = index-asks w64 (w64-in c.ranges.p (relaxation-in c.args.p c.
 
 pub own_from-requires : goal.own_from-requires
 own_from-requires c =
-    let s = c.before.before in
+    let s = c in
     let e = to_z-of_z s.ranges.p in
     (rw e (abs-above (positive s.args.p s.requires.2)), rw e (relaxation-in s.args.p s.requires.2).abs, c.tension.ensures.1, rw e s.requires.3)
 
@@ -43,9 +43,9 @@ overflow_cast-result c = record { sfits = omega (arith, small c) }
 pub returns : goal.returns
 unfolding own_relaxation
 returns c =
-    let t = c.before in
-    let b = t.before in
-    let s = b.before in
+    let t = c in
+    let b = t in
+    let s = b in
     let e = signed_is w64 c.own_from.result 2037 (small c) tt in (
       e ∙ ap pos (c.own_from.ensures ∙ ap₂ own (ap nat_abs (to_z-of_z s.ranges.p)) (t.tension.ensures.0 ∙ tension-is _ b.beyond9.result b.beyond9.ensures.0 ∙ sym (tension-places _))),
       subst (λ (z : ℤ). relaxation_good z ≡ true) (sym e) (good-range c.own_from.result (some c) (small c)),

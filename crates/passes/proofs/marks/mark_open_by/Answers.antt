@@ -36,7 +36,7 @@ At-After-mark_span = lts.After-mark_span tie.the-claims reads.Pre reads.Post goa
 
 -- from c to the next fluid cell, and some cells on, all in the range
 steps : (c : At-After-least-b)
-    → let l = c.before.before.before.before in
+    → let l = c in
     (l.loop-c.c ≤ c.least-a.result) × (c.least-a.result ≤ c.least-b.result) × (l.loop-c.c < c.least-b.result)
 steps c =
     let l : At-At-loop-c = search in let in-loop : At-In-loop-c = search in

@@ -173,7 +173,7 @@ pub either_liquid-requires : goal.either_liquid-requires
 either_liquid-requires c = let h = c.loop-c-test.true in (h, omega (arith, is-cell c.before, (start c.before).requires.flags-room))
 
 pub bounds-marks-c : goal.bounds-marks-c
-bounds-marks-c c = let d : At-In-loop-c = search in let h = is-cell d in omega (arith, d.loop-c.invariant.3, (start d).requires.marks-room)
+bounds-marks-c c = let d : At-In-loop-c = search in let h = is-cell d in omega (arith, d.loop-c.invariant.3, (start d).pre.marks-room)
 
 pub put_parts-o-requires : goal.put_parts-o-requires
 put_parts-o-requires c = putting (search)
@@ -213,10 +213,10 @@ pub offset_bounds-masses2-c : goal.offset_bounds-masses2-c
 offset_bounds-masses2-c c = let h = is-cell (search) in record { fits = omega (arith, few (start (search)).args.s (poise (search)).sides) }
 
 pub bounds-masses2-c : goal.bounds-masses2-c
-bounds-masses2-c c = let d : At-In-loop-c = search in let h = is-cell d in omega (arith, d.loop-c.invariant.2, (start d).requires.masses-room)
+bounds-masses2-c c = let d : At-In-loop-c = search in let h = is-cell d in omega (arith, d.loop-c.invariant.2, (start d).pre.masses-room)
 
 pub bounds-marks-c-then-either_liquid : goal.bounds-marks-c-then-either_liquid
-bounds-marks-c-then-either_liquid c = let d : At-In-loop-c = search in let h = is-cell d in omega (arith, d.loop-c.invariant.3, (start d).requires.marks-room)
+bounds-marks-c-then-either_liquid c = let d : At-In-loop-c = search in let h = is-cell d in omega (arith, d.loop-c.invariant.3, (start d).pre.marks-room)
 
 pub overflow_add-c : goal.overflow_add-c
 overflow_add-c c = let h = is-cell (search) in record { fits = omega (arith, few (start (search)).args.s (poise (search)).sides) }
@@ -229,21 +229,21 @@ loop-c-preserved-then-either_liquid c =
     let after-new-mark : At-After-new_mark-k = search in let after-struct-told2 : At-After-struct_told-then-either_liquid-1 = search in let after-new-mass : At-After-new_mass-m = search in
     let after-struct-told : At-After-struct_told-1 = search in let else2 : At-Else-not-o = search in let after-put-parts : At-After-put_parts-o = search in
     let then1 : At-Then-either_liquid = search in
-    let d = then1.before.before in
-    let t = start d in
+    let d = then1 in
+    let t = start d.before.before in
     let l = d.loop-c in
     let put = after-put-parts.put_parts-o in
     let gained = after-new-mass.new_mass-m in
     let mark = after-new-mark.new_mark-k in
     let ok = not-false _ else2.if-not-o.false in
-    let h = is-cell d in
+    let h = is-cell d.before.before in
     let fits : 19 * l.c + 19 ≤ length l.parts2-1 = omega (arith, l.invariant.1, t.requires.parts-room) in (
       omega arith,
       put.ensures.kept ∙ l.invariant.1,
       simp length-set l.invariant.2,
       simp length-set l.invariant.3,
-      walked-turn d3q19.weight t.args.flags.now (part_of t.args.parts.now) t.args.masses.now t.args.fills.now (off d) (low d) t.args.g t.args.marks.now
-          (part_of l.parts2-1) (part_of put.last.1.1.1.0) l.masses2-1 l.marks l.fair l.calm l.c (walked d) put.result put.ensures.told ok
+      walked-turn d3q19.weight t.args.flags.now (part_of t.args.parts.now) t.args.masses.now t.args.fills.now (off d.before.before) (low d.before.before) t.args.g t.args.marks.now
+          (part_of l.parts2-1) (part_of put.last.1.1.1.0) l.masses2-1 l.marks l.fair l.calm l.c (walked d.before.before) put.result put.ensures.told ok
           (put-more _ l.parts2-1 put.last.1.1.1.0 l.c fits (put.ensures.parts ok))
           gained.result _ _ _ _ mark.result _ (get_or-there t.args.flags.now l.c 0 3 d.loop-c-test.true)
           (omega (arith, l.invariant.2, t.requires.masses-room)) (omega (arith, l.invariant.3, t.requires.marks-room))
@@ -256,7 +256,7 @@ loop-c-preserved-then-either_liquid c =
 pub skip_dry-c-requires : goal.skip_dry-c-requires
 skip_dry-c-requires c =
     let d : At-In-loop-c = search in let after-either-liquid : At-After-either_liquid = search in let else1 : At-Else-either_liquid = search in
-    let p = (start d).requires in
+    let p = (start d).pre in
     record {
       is-cell = d.loop-c-test.true;
       dry = sym after-either-liquid.either_liquid.ensures ∙ else1.if-either_liquid.false;

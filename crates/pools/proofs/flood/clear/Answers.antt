@@ -13,7 +13,7 @@ loop-i-init c = (omega arith, refl, fill_none _ 0)
 
 pub loop-i-preserved : goal.loop-i-preserved
 loop-i-preserved c =
-    let l = c.before in
+    let l = c in
     let h : l.loop-i.i < length l.args.marks.now = omega (arith, l.loop-i.invariant.1, c.loop-i-test.true) in
     (omega arith, simp length-set l.loop-i.invariant.1, rw l.loop-i.invariant.2 (fill_more _ 0 _ h))
 
@@ -22,6 +22,6 @@ shape_of-marks c = c.loop-i.invariant.1
 
 pub returns : goal.returns
 returns c =
-    let l = c.before in
+    let l = c in
     let e : l.loop-i.i ≡ length l.args.marks.now = omega (arith, l.loop-i.invariant.0, l.loop-i.invariant.1, c.loop-i-test.false) in
     l.loop-i.invariant.2 ∙ rw (e, drop-length) (append-nil _)

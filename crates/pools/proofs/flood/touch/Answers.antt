@@ -24,14 +24,14 @@ wet c = sym c.is_liquid.ensures ∙ not-false _ c.if-not-is_liquid.false-raw
 
 place : (c : At-Else-marks-e-ne0) → c.args.tail < length c.args.work.now
 place c =
-    let a = c.before.before.before.before.before.before.before.before in
+    let a = c in
     a.requires.place (is_free a.args.flags.now a.args.marks.now a.args.work.now a.args.e a.args.m a.args.tail (wet c.before.before) c.if-marks-e-ne0.false)
 
 pub returns-then-not-is_liquid : goal.returns-then-not-is_liquid
-returns-then-not-is_liquid c = let a = c.before.before.before.before.before.before.before in touch-dry a.args.flags.now a.args.marks.now a.args.work.now a.args.e a.args.m a.args.tail (sym c.is_liquid.ensures ∙ not-true _ c.if-not-is_liquid.true-raw)
+returns-then-not-is_liquid c = let a = c in touch-dry a.args.flags.now a.args.marks.now a.args.work.now a.args.e a.args.m a.args.tail (sym c.is_liquid.ensures ∙ not-true _ c.if-not-is_liquid.true-raw)
 
 pub returns-then-marks-e-ne0 : goal.returns-then-marks-e-ne0
-returns-then-marks-e-ne0 c = let a = c.before.before.before.before.before.before.before.before.before in touch-old a.args.flags.now a.args.marks.now a.args.work.now a.args.e a.args.m a.args.tail (wet c.before.before.before) c.if-marks-e-ne0.true
+returns-then-marks-e-ne0 c = let a = c in touch-old a.args.flags.now a.args.marks.now a.args.work.now a.args.e a.args.m a.args.tail (wet c.before.before.before) c.if-marks-e-ne0.true
 
 pub offset_bounds-work-tail : goal.offset_bounds-work-tail
 offset_bounds-work-tail c = omega (arith, place c.before)
@@ -43,4 +43,4 @@ pub overflow_add-result : goal.overflow_add-result
 overflow_add-result c = omega (arith, place c.before)
 
 pub returns : goal.returns
-returns c = let a = c.before.before.before.before.before.before.before.before.before in touch-new a.args.flags.now a.args.marks.now a.args.work.now a.args.e a.args.m a.args.tail (wet c.before.before.before) c.if-marks-e-ne0.false
+returns c = let a = c in touch-new a.args.flags.now a.args.marks.now a.args.work.now a.args.e a.args.m a.args.tail (wet c.before.before.before) c.if-marks-e-ne0.false

@@ -31,27 +31,27 @@ module _ (a : At-Start) where
 
 own-wet : (c : At-Else-not-is_liquid) → Wets c.requires.0.flagged c.args.c
 own-wet c =
-    let a = c.before.before.before.before.before.before in
-    wet a.requires.0.flagged a.args.c a.requires.1 (ap liquid (flag_is a) ∙ sym c.is_liquid.ensures ∙ not-false _ c.if-not-is_liquid.false-raw)
+    let a = c in
+    wet a.requires.0.flagged a.args.c a.requires.1 (ap liquid (flag_is a.before.before.before.before.before.before) ∙ sym c.is_liquid.ensures ∙ not-false _ c.if-not-is_liquid.false-raw)
 
 -- the pool that begins
 fits : (c : At-After-struct_known-1) → c.args.found.pools + 1 < 65536
-fits c = let a = c.before.before.before.before.before.before.before.before.before in mark-fits a.requires.0.flagged a.requires.2 (own-wet c.before.before.before) c.if-marks-c-ne0.false
+fits c = let a = c in mark-fits a.requires.0.flagged a.requires.2 (own-wet c.before.before.before) c.if-marks-c-ne0.false
 
 place : (c : At-After-struct_known-1) → c.args.found.tail < length c.args.work.now
-place c = let a = c.before.before.before.before.before.before.before.before.before in queue-room a.requires.0.flagged a.requires.2 (own-wet c.before.before.before) c.if-marks-c-ne0.false
+place c = let a = c in queue-room a.requires.0.flagged a.requires.2 (own-wet c.before.before.before) c.if-marks-c-ne0.false
 
 most : (a : At-Start) → cells_of a.args.s ≤ 262144
 most a = omega (arith, few-cells a.requires.0.flagged, a.requires.0.flagged.count)
 
 pub returns-then-not-is_liquid : goal.returns-then-not-is_liquid
 returns-then-not-is_liquid c =
-    let a = c.before.before.before.before.before.before.before in
-    flooded-dry a.requires.0.flagged a.requires.2 (ap liquid (flag_is a) ∙ sym c.is_liquid.ensures ∙ not-true _ c.if-not-is_liquid.true-raw)
+    let a = c in
+    flooded-dry a.requires.0.flagged a.requires.2 (ap liquid (flag_is a.before.before.before.before.before.before.before) ∙ sym c.is_liquid.ensures ∙ not-true _ c.if-not-is_liquid.true-raw)
 
 pub returns-then-marks-c-ne0 : goal.returns-then-marks-c-ne0
 returns-then-marks-c-ne0 c =
-    let a = c.before.before.before.before.before.before.before.before.before in
+    let a = c in
     flooded-old a.requires.0.flagged a.requires.2 (own-wet c.before.before.before) c.if-marks-c-ne0.true
 
 pub overflow_add-pools : goal.overflow_add-pools
@@ -61,7 +61,7 @@ pub overflow_cast-marks : goal.overflow_cast-marks
 overflow_cast-marks c = omega (arith, fits c.before)
 
 pub overflow_cast-work : goal.overflow_cast-work
-overflow_cast-work c = let a = c.before.before.before.before.before.before.before.before.before.before in omega (arith, a.requires.1, most a)
+overflow_cast-work c = let a = c in omega (arith, a.requires.1, most a.before.before.before.before.before.before.before.before.before.before)
 
 pub offset_bounds-work-tail : goal.offset_bounds-work-tail
 offset_bounds-work-tail c = omega (arith, place c.before)
@@ -74,12 +74,12 @@ overflow_add-tail c = omega (arith, place c.before.before.before)
 
 pub drain-end-requires : goal.drain-end-requires
 drain-end-requires c =
-    let d = c.before.before.before in
-    let a = d.before.before.before.before.before.before.before.before.before in
-    (a.requires.0, begins a.requires.0.flagged a.requires.2 (own-wet d.before.before.before) d.if-marks-c-ne0.false, omega arith)
+    let d = c in
+    let a = d in
+    (a.requires.0, begins a.requires.0.flagged a.requires.2 (own-wet d.before.before.before.before.before.before) d.if-marks-c-ne0.false, omega arith)
 
 pub returns : goal.returns
 returns c =
-    let d = c.before.before.before.before.before.before.before.before in
-    let a = d.before.before.before.before.before.before.before.before.before in
-    flooded-new a.requires.0.flagged a.requires.2 (own-wet d.before.before.before) d.if-marks-c-ne0.false c.drain-end.ensures
+    let d = c in
+    let a = d in
+    flooded-new a.requires.0.flagged a.requires.2 (own-wet d.before.before.before.before.before.before.before.before.before.before.before) d.if-marks-c-ne0.false c.drain-end.ensures

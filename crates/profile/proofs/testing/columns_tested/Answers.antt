@@ -10,7 +10,7 @@ use Rattle.profile.proofs.testing.columns_tested.Goals as goal
 pub returns-then-i-m : goal.returns-then-i-m
 unfolding columns_answer
 returns-then-i-m c =
-    let b = c.before.before.before.before in
+    let b = c in
     let s = c.look-a.ensures.told in
     simp (← b.first_broken-i.ensures, lt-leb _ _ b.if-i-m.true)
     (ap₂ (λ (n p : ℕ). Refused n p) (c.depth_number.ensures ∙ s.number_is) (c.depth_place.ensures ∙ s.place_is))

@@ -28,14 +28,14 @@ loop-i-init c = (omega arith, λ j h. absurd (not-suc-le-zero h))
 
 pub returns-then-refuses : goal.returns-then-refuses
 returns-then-refuses c =
-    let l = c.before.before.before.before.before.before in
+    let l = c in
     let a = l.args in
     sym (first-is a.m (broken (survey a.f a.flags.now a.fills.now a.points.now)) l.loop-i.i c.loop-i-test.true l.loop-i.invariant.1
     (tested c.before.before true c.if-refuses.true))
 
 pub loop-i-preserved : goal.loop-i-preserved
 loop-i-preserved c =
-    let l = c.before.before.before.before.before.before in
+    let l = c in
     (omega (arith, c.loop-i-test.true), below_more _ _ l.loop-i.invariant.1 (tested c.before.before false c.if-refuses.false))
 
 pub returns : goal.returns

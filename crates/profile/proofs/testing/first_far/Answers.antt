@@ -29,14 +29,14 @@ loop-i-init c = (omega arith, λ j h. absurd (not-suc-le-zero h))
 
 pub returns-then-refusal_number-eq3 : goal.returns-then-refusal_number-eq3
 returns-then-refusal_number-eq3 c =
-    let l = c.before.before.before.before in
+    let l = c in
     let a = l.args in
     sym (first-is a.m (far a.f a.points.now) l.loop-i.i c.loop-i-test.true l.loop-i.invariant.1
     (tested c.before true (eq-eqb c.refusal_number.result 3 c.if-refusal_number-eq3.true)))
 
 pub loop-i-preserved : goal.loop-i-preserved
 loop-i-preserved c =
-    let l = c.before.before.before.before in
+    let l = c in
     (omega (arith, c.loop-i-test.true), below_more _ _ l.loop-i.invariant.1 (tested c.before false (ne_eqb c.refusal_number.result 3 c.if-refusal_number-eq3.false)))
 
 pub returns : goal.returns

@@ -29,14 +29,14 @@ loop-i-init c = (omega arith, first_above c.args.chainages.now)
 
 pub returns-then-chainages-i : goal.returns-then-chainages-i
 returns-then-chainages-i c =
-    let l = c.before.before.before.before in
+    let l = c in
     let a = l.args.chainages.now in
     let t = le_test {a = get_or a l.loop-i.i (pos 0)} {b = get_or a (l.loop-i.i - 1) (pos 0)} (sfits_of {w = w64} c.t7-1.given) (sfits_of {w = w64} c.t11-1.given) c.if-chainages-i.true in
     sym (first-is (length a) (not_above a) l.loop-i.i c.loop-i-test.true l.loop-i.invariant.1 (at_least_one a l.loop-i.i true l.loop-i.invariant.0 t))
 
 pub loop-i-preserved : goal.loop-i-preserved
 loop-i-preserved c =
-    let l = c.before.before.before.before in
+    let l = c in
     let a = l.args.chainages.now in
     let t = le_test {a = get_or a l.loop-i.i (pos 0)} {b = get_or a (l.loop-i.i - 1) (pos 0)} (sfits_of {w = w64} c.t7-1.given) (sfits_of {w = w64} c.t11-1.given) c.if-chainages-i.false in
     (omega arith, below_more _ _ l.loop-i.invariant.1 (at_least_one a l.loop-i.i false l.loop-i.invariant.0 t))

@@ -48,24 +48,24 @@ returns-then-n-eq2 c = simp (depth_is c.before.before.before, ne_eqb _ _ c.if-n-
 pub returns-then-not-whole : goal.returns-then-not-whole
 unfolding open_answer
 returns-then-not-whole c =
-    let w = c.before.before in
-    let b = w.before in
-    simp (depth_is b.before.before, ne_eqb _ _ b.if-n-eq1.false, ne_eqb _ _ b.if-n-eq2.false, sym w.whole.ensures ∙ not-true _ c.if-not-whole.true-raw)
+    let w = c in
+    let b = w in
+    simp (depth_is b.before.before.before.before.before, ne_eqb _ _ b.if-n-eq1.false, ne_eqb _ _ b.if-n-eq2.false, sym w.whole.ensures ∙ not-true _ c.if-not-whole.true-raw)
 
 pub returns-then-m-eq0 : goal.returns-then-m-eq0
 unfolding open_answer
 returns-then-m-eq0 c =
-    let w = c.before.before.before in
-    let b = w.before in
-    simp (depth_is b.before.before, ne_eqb _ _ b.if-n-eq1.false, ne_eqb _ _ b.if-n-eq2.false, sym w.whole.ensures ∙ not-false _ c.if-not-whole.false-raw, eq-eqb _ _ c.if-m-eq0.true)
+    let w = c in
+    let b = w in
+    simp (depth_is b.before.before.before.before.before.before, ne_eqb _ _ b.if-n-eq1.false, ne_eqb _ _ b.if-n-eq2.false, sym w.whole.ensures ∙ not-false _ c.if-not-whole.false-raw, eq-eqb _ _ c.if-m-eq0.true)
 
 pub returns-then-m-gt2000 : goal.returns-then-m-gt2000
 unfolding open_answer
 returns-then-m-gt2000 c =
-    let w = c.before.before.before.before in
-    let b = w.before in
+    let w = c in
+    let b = w in
     simp (
-      depth_is b.before.before,
+      depth_is b.before.before.before.before.before.before.before,
       ne_eqb _ _ b.if-n-eq1.false,
       ne_eqb _ _ b.if-n-eq2.false,
       sym w.whole.ensures ∙ not-false _ c.if-not-whole.false-raw,
@@ -76,11 +76,11 @@ returns-then-m-gt2000 c =
 pub returns-then-refusal_number-eq3 : goal.returns-then-refusal_number-eq3
 unfolding open_answer
 returns-then-refusal_number-eq3 c =
-    let l = c.before.before.before.before.before in
-    let w = l.before.before.before in
-    let b = w.before in
+    let l = c in
+    let w = l in
+    let b = w in
     simp (
-      depth_is b.before.before,
+      depth_is b.before.before.before.before.before.before.before.before.before.before.before,
       ne_eqb _ _ b.if-n-eq1.false,
       ne_eqb _ _ b.if-n-eq2.false,
       sym w.whole.ensures ∙ not-false _ l.if-not-whole.false-raw,
@@ -93,11 +93,11 @@ returns-then-refusal_number-eq3 c =
 pub returns : goal.returns
 unfolding open_answer
 returns c =
-    let l = c.before.before.before.before.before in
-    let w = l.before.before.before in
-    let b = w.before in
+    let l = c in
+    let w = l in
+    let b = w in
     simp (
-      depth_is b.before.before,
+      depth_is b.before.before.before.before.before.before.before.before.before.before.before,
       ne_eqb _ _ b.if-n-eq1.false,
       ne_eqb _ _ b.if-n-eq2.false,
       sym w.whole.ensures ∙ not-false _ l.if-not-whole.false-raw,

@@ -39,15 +39,15 @@ first_far-out-requires c = (has c.before.before).points-size
 pub returns-then-up-m : goal.returns-then-up-m
 unfolding tests_answer
 returns-then-up-m c =
-    let u = c.before.before.before in
-    simp (ok u.before, ← u.first_not_above-up.ensures, lt-leb _ _ c.if-up-m.true)
+    let u = c in
+    simp (ok u.before.before.before.before, ← u.first_not_above-up.ensures, lt-leb _ _ c.if-up-m.true)
 
 pub returns-then-out-m : goal.returns-then-out-m
 unfolding tests_answer
 returns-then-out-m c =
-    let o = c.before.before.before in
-    let u = o.before in
-    simp (ok u.before, ← u.first_not_above-up.ensures, le-leb _ _ c.if-up-m.false, ← o.first_far-out.ensures, lt-leb _ _ c.if-out-m.true)
+    let o = c in
+    let u = o in
+    simp (ok u.before.before.before.before.before, ← u.first_not_above-up.ensures, le-leb _ _ c.if-up-m.false, ← o.first_far-out.ensures, lt-leb _ _ c.if-out-m.true)
 
 pub columns_tested-requires : goal.columns_tested-requires
 columns_tested-requires c = let h = has c.before.before.before.before.before in (h.points-size, h.sides)
@@ -55,7 +55,7 @@ columns_tested-requires c = let h = has c.before.before.before.before.before in 
 pub returns : goal.returns
 unfolding tests_answer
 returns c =
-    let o = c.before.before.before.before in
-    let u = o.before in
-    simp (ok u.before, ← u.first_not_above-up.ensures, le-leb _ _ c.if-up-m.false, ← o.first_far-out.ensures, le-leb _ _ c.if-out-m.false)
+    let o = c in
+    let u = o in
+    simp (ok u.before.before.before.before.before.before, ← u.first_not_above-up.ensures, le-leb _ _ c.if-up-m.false, ← o.first_far-out.ensures, le-leb _ _ c.if-out-m.false)
     c.columns_tested.ensures

@@ -34,8 +34,8 @@ module _ (d : At-In_default) where
 
 pub returns-in-Refused : goal.returns-in-Refused
 returns-in-Refused c =
-    let s = c.before.before.before.before.before.before.before in
-    told-refused (site s) s.args.chainages.now s.args.kinds.now s.args.depths.now _ _ (sym c.in-Refused.is ∙ c.tested-a.ensures)
+    let s = c in
+    told-refused (site s.before.before.before.before.before.before.before) s.args.chainages.now s.args.kinds.now s.args.depths.now _ _ (sym c.in-Refused.is ∙ c.tested-a.ensures)
 
 pub written-at-requires : goal.written-at-requires
 written-at-requires c =
@@ -44,16 +44,16 @@ written-at-requires c =
 
 pub returns-then-at-m : goal.returns-then-at-m
 returns-then-at-m c =
-    let s = c.before.before.before.before.before.before.before.before.before.before.before.before.before.before.before in
-    let d = c.before.before.before.before.before.before.before.before.before in
-    let w = c.before.before.before.before.before.before in
+    let s = c in
+    let d = c in
+    let w = c in
     told-done s.args.f s.args.flags.now s.args.fills.now s.args.points.now s.args.chainages.now s.args.kinds.now s.args.depths.now w.written-at.result _ _ _
-    (sym (ok d)) w.written-at.ensures (is-deep _ _ c.if-at-m.true)
+    (sym (ok d.before.before.before.before.before.before.before.before.before)) w.written-at.ensures (is-deep _ _ c.if-at-m.true)
 
 pub returns : goal.returns
 returns c =
-    let s = c.before.before.before.before.before.before.before.before.before.before.before.before.before.before.before in
-    let d = c.before.before.before.before.before.before.before.before.before in
-    let w = c.before.before.before.before.before.before in
+    let s = c in
+    let d = c in
+    let w = c in
     told-done s.args.f s.args.flags.now s.args.fills.now s.args.points.now s.args.chainages.now s.args.kinds.now s.args.depths.now w.written-at.result _ _ _
-    (sym (ok d)) w.written-at.ensures (is-dry _ _ c.if-at-m.false)
+    (sym (ok d.before.before.before.before.before.before.before.before.before)) w.written-at.ensures (is-dry _ _ c.if-at-m.false)

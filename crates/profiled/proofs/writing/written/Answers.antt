@@ -29,8 +29,8 @@ site s = survey s.args.f s.args.flags.now s.args.fills.now s.args.points.now
 
 pub loop-i-init : goal.loop-i-init
 loop-i-init c =
-    let s = c.before.before.before.before.before in
-    (omega arith, lines_none (site s) s.args.m s.args.kinds.now s.args.depths.now s.requires.kinds-size s.requires.depths-size, best_none (depth_at (site s)) s.args.m)
+    let s = c in
+    (omega arith, lines_none (site s.before.before.before.before.before) s.args.m s.args.kinds.now s.args.depths.now s.requires.kinds-size s.requires.depths-size, best_none (depth_at (site s.before.before.before.before.before)) s.args.m)
 
 pub look-a-requires : goal.look-a-requires
 look-a-requires c =
@@ -45,16 +45,16 @@ bounds-depths-i c = omega (arith, c.loop-i-test.true, c.loop-i.invariant.1.depth
 
 pub shares-requires : goal.shares-requires
 shares-requires c =
-    let l = c.before.before.before.before.before in
-    subst (λ (x : Float). Parts x 65536) (sym c.depth_value-depth.ensures) (value-parts (site (entry l)) l.loop-i.i c.look-a.ensures)
+    let l = c in
+    subst (λ (x : Float). Parts x 65536) (sym c.depth_value-depth.ensures) (value-parts (site (entry l.before.before.before.before.before)) l.loop-i.i c.look-a.ensures)
 
 pub loop-i-smaller : goal.loop-i-smaller
 loop-i-smaller c = omega (arith, c.loop-i-test.true)
 
 pub loop-i-preserved : goal.loop-i-preserved
 loop-i-preserved c =
-    let l = c.before.before.before.before.before.before.before in
-    let s = entry l in
+    let l = c in
+    let s = entry l.before.before.before.before.before.before.before in
     let h = c.look-a.ensures in
     let below = c.loop-i-test.true in (
       omega (arith, below),
@@ -72,8 +72,8 @@ shape_of-depths c = c.loop-i.invariant.1.depths-size ∙ sym (entry c.before.bef
 
 pub returns : goal.returns
 returns c =
-    let l = c.before.before in
-    let s = entry l in
+    let l = c in
+    let s = entry l.before.before in
     let e : l.loop-i.i ≡ s.args.m = omega (arith, l.loop-i.invariant.0, c.loop-i-test.false) in
     let t = subst (λ (i : ℕ). LinesTo (site s) s.args.m i l.loop-i.kinds l.loop-i.depths) e l.loop-i.invariant.1 in
     record {

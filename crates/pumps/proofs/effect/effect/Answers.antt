@@ -81,31 +81,31 @@ mass_after-after-requires c = (subst (λ (z : ℤ). Within z 2359296) (sym (mass
 
 pub returns-then-after-gt2359296 : goal.returns-then-after-gt2359296
 returns-then-after-gt2359296 c =
-    let d = c.before.before in
-    let a = (start d).args in
-    no-effect a.pour a.amount a.mass a.total (bad-mass a.pour a.amount a.mass a.total (good d.before.before)
-    (not-true _ (sym (lt_not_le (pos 2359296) (mass_of a.pour a.mass (t d))) ∙ (rw (after_is c.before) at c.if-after-gt2359296.true))))
+    let d = c in
+    let a = (start d.before.before).args in
+    no-effect a.pour a.amount a.mass a.total (bad-mass a.pour a.amount a.mass a.total (good d.before.before.before.before)
+    (not-true _ (sym (lt_not_le (pos 2359296) (mass_of a.pour a.mass (t d.before.before))) ∙ (rw (after_is c.before) at c.if-after-gt2359296.true))))
 
 pub overflow_add-sum : goal.overflow_add-sum
-overflow_add-sum c = let d = c.before.before in rw (moved-is d, to_z-of_z (start d).ranges.total) (sum_fits d)
+overflow_add-sum c = let d = c in rw (moved-is d.before.before, to_z-of_z (start d.before.before).ranges.total) (sum_fits d.before.before)
 
 pub returns-then-sum-gt1000000000000000 : goal.returns-then-sum-gt1000000000000000
 returns-then-sum-gt1000000000000000 c =
-    let d = c.before.before.before in
-    let a = (start d).args in
-    no-effect a.pour a.amount a.mass a.total (bad-total a.pour a.amount a.mass a.total (good d.before.before) (light c.before)
-    (not-true _ (sym (lt_not_le (pos 1000000000000000) (a.total +ℤ t d)) ∙ (rw (sum_is d) at c.if-sum-gt1000000000000000.true))))
+    let d = c in
+    let a = (start d.before.before.before).args in
+    no-effect a.pour a.amount a.mass a.total (bad-total a.pour a.amount a.mass a.total (good d.before.before.before.before.before) (light c.before)
+    (not-true _ (sym (lt_not_le (pos 1000000000000000) (a.total +ℤ t d.before.before.before)) ∙ (rw (sum_is d.before.before.before) at c.if-sum-gt1000000000000000.true))))
 
 pub overflow_cast-result : goal.overflow_cast-result
-overflow_cast-result c = let d = c.before.before.before in let a = (start d).args in rw (after_is c.before.before) (does-fit (known (mass_of a.pour a.mass (t d)) 4718592 (mass-in a.pour a.mass (t d) (start d).requires.0 (small d)).abs) tt)
+overflow_cast-result c = let d = c in let a = (start d.before.before.before).args in rw (after_is c.before.before) (does-fit (known (mass_of a.pour a.mass (t d.before.before.before)) 4718592 (mass-in a.pour a.mass (t d.before.before.before) (start d.before.before.before).requires.0 (small d.before.before.before)).abs) tt)
 
 pub returns : goal.returns
 returns c =
-    let d = c.before.before.before in
-    let a = (start d).args in
+    let d = c in
+    let a = (start d.before.before.before).args in
     record {
-      good-is = all-good a.pour a.amount a.mass a.total (good d.before.before) (light c.before) (not-false _ (sym (lt_not_le (pos 1000000000000000) (a.total +ℤ t d)) ∙ (rw (sum_is d) at c.if-sum-gt1000000000000000.false)));
-      moved-is = λ e. moved-is d;
+      good-is = all-good a.pour a.amount a.mass a.total (good d.before.before.before.before.before) (light c.before) (not-false _ (sym (lt_not_le (pos 1000000000000000) (a.total +ℤ t d.before.before.before)) ∙ (rw (sum_is d.before.before.before) at c.if-sum-gt1000000000000000.false)));
+      moved-is = λ e. moved-is d.before.before.before;
       mass-is = λ e. to_z-of_z (overflow_cast-result c) ∙ after_is c.before.before;
-      total-is = λ e. sum_is d;
+      total-is = λ e. sum_is d.before.before.before;
     }

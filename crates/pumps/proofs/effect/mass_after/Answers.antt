@@ -13,7 +13,7 @@ overflow_add-result c =
 
 pub returns-then-pour : goal.returns-then-pour
 returns-then-pour c =
-    let s = c.before in
+    let s = c in
     let h = s.requires.0 in
     let k = s.requires.1 in
     reads_as (search (machine, w64-in) depth 30 fits 5000) tt ∙ sym (ap (λ (b : Bool). mass_of b s.args.mass s.args.moved) c.if-pour.true)
@@ -26,7 +26,7 @@ overflow_sub-result c =
 
 pub returns : goal.returns
 returns c =
-    let s = c.before in
+    let s = c in
     let h = s.requires.0 in
     let k = s.requires.1 in
     reads_as (search (machine, w64-in) depth 30 fits 5000) tt ∙ sym (ap (λ (b : Bool). mass_of b s.args.mass s.args.moved) c.if-pour.false)

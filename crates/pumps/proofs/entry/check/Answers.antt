@@ -40,7 +40,7 @@ lengths : (c : At-Else-not-three_lengths) → three_lengths (cells_of (second c)
 lengths c = lengths-told (second c).args.s (set (second c)) c.cells-n.ensures c.three_lengths.ensures (not-false _ c.if-not-three_lengths.false-raw)
 
 pub returns-then-not-good_sides : goal.returns-then-not-good_sides
-returns-then-not-good_sides c = let s = c.before.before.before.before.before in refuses-sides s.args.s (set s) (sym c.good_sides.ensures ∙ not-true _ c.if-not-good_sides.true-raw)
+returns-then-not-good_sides c = let s = c in refuses-sides s.args.s (set s.before.before.before.before.before) (sym c.good_sides.ensures ∙ not-true _ c.if-not-good_sides.true-raw)
 
 pub cells-n-requires : goal.cells-n-requires
 cells-n-requires c = sides c.before
@@ -51,13 +51,13 @@ three_lengths-requires c = omega (arith, c.cells-n.ensures, (good-sides _ (sides
 
 pub returns-then-not-three_lengths : goal.returns-then-not-three_lengths
 returns-then-not-three_lengths c =
-    let e = c.before.before.before.before in
-    let s = first e in
-    refuses-lengths s.args.s (set s) (sides e)
+    let e = c in
+    let s = first e.before.before.before.before in
+    refuses-lengths s.args.s (set s) (sides e.before.before.before.before)
     (lengths-told s.args.s (set s) c.cells-n.ensures c.three_lengths.ensures (not-true _ c.if-not-three_lengths.true-raw))
 
 pub checked-requires : goal.checked-requires
 checked-requires c = (sides c.before.before.before.before, lengths c.before)
 
 pub returns : goal.returns
-returns c = let d = c.before.before in c.checked.ensures ∙ then-checked (second d).args.s (set (second d)) (sides d.before.before.before) (lengths d)
+returns c = let d = c in c.checked.ensures ∙ then-checked (second d.before.before).args.s (set (second d.before.before)) (sides d.before.before.before.before.before) (lengths d.before.before)

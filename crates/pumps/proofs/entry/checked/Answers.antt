@@ -48,15 +48,15 @@ totals c =
 
 -- ---- the needs
 pub slice_bounds-checked-end : goal.slice_bounds-checked-end
-slice_bounds-checked-end c = let w = c.before.before.before.before in sym (head-length w.args.carry.now (carry-three w.args.s (set w) w.requires.1))
+slice_bounds-checked-end c = let w = c in sym (head-length w.args.carry.now (carry-three w.args.s (set w.before.before.before) w.requires.1))
 
 pub checked-a-requires : goal.checked-a-requires
-checked-a-requires c = let w = c.before.before.before.before in (w.requires.0, head-sized w.args.s (set w) w.requires.1)
+checked-a-requires c = let w = c in (w.requires.0, head-sized w.args.s (set w.before.before.before) w.requires.1)
 
 pub returns-in-Refused : goal.returns-in-Refused
 returns-in-Refused c =
-    let w = c.before.before.before.before.before.before.before.before in
-    refuses-good w.args.s (set w) Done (sym c.in-Refused.is ∙ c.checked-a.ensures)
+    let w = c in
+    refuses-good w.args.s (set w.before.before.before.before.before) Done (sym c.in-Refused.is ∙ c.checked-a.ensures)
 
 pub bounds-carry-1 : goal.bounds-carry-1
 bounds-carry-1 c = let s = w c.before in omega (arith, carry-three s.args.s (set s) s.requires.1)
@@ -66,12 +66,12 @@ bounds-carry-2 c = let s = w c.before.before in omega (arith, carry-three s.args
 
 pub returns-then-not-good_totals : goal.returns-then-not-good_totals
 returns-then-not-good_totals c =
-    let d = c.before.before.before.before.before in
-    let s = w d in
-    refuses-totals s.args.s (set s) Done (ok d) (head-sized s.args.s (set s) s.requires.1).flags (sym (totals c.before.before) ∙ not-true _ c.if-not-good_totals.true-raw)
+    let d = c in
+    let s = w d.before.before.before.before.before in
+    refuses-totals s.args.s (set s) Done (ok d.before.before.before.before.before) (head-sized s.args.s (set s) s.requires.1).flags (sym (totals c.before.before) ∙ not-true _ c.if-not-good_totals.true-raw)
 
 pub returns : goal.returns
 returns c =
-    let d = c.before.before.before.before.before in
-    let s = w d in
-    accepts-totals s.args.s (set s) Done (ok d) (sym (totals c.before.before) ∙ not-false _ c.if-not-good_totals.false-raw)
+    let d = c in
+    let s = w d.before.before.before.before.before in
+    accepts-totals s.args.s (set s) Done (ok d.before.before.before.before.before) (sym (totals c.before.before) ∙ not-false _ c.if-not-good_totals.false-raw)

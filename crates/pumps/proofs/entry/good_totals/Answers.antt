@@ -8,5 +8,5 @@ use Rattle.pumps.proofs.entry.good_totals.Goals as goal
 
 pub returns : goal.returns
 returns c =
-    let d = c.before.before in
+    let d = c in
     ap₂ (λ (a b : Bool). a && b) (c.good_total.ensures ∙ ap total_good (to_z-of_z d.ranges.poured)) (c.good_total-2.ensures ∙ ap total_good (to_z-of_z d.ranges.taken))

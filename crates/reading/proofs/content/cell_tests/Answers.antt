@@ -71,7 +71,7 @@ cells_are c = c.cells-n.ensures ∙ ap cells_of c.requires.s_value
 small : (c : At-After-cells-n) → c.cells-n.result ≤ 262144
 unfolding cells_of
 small c =
-    let d = c.before.before in
+    let d = c in
     omega (arith, c.cells-n.ensures, (good-sides d.args.s (ap sides_good d.requires.s_value ∙ d.requires.sound.sides)).all)
 
 abbrev start : At-After-flags_at-at → At-Start
@@ -81,7 +81,7 @@ low : (c : At-After-flags_at-at) → c.flags_at-at.result ≤ 100
 low c = omega (arith, c.flags_at-at.ensures, totals-few (start c).args.rec.now)
 
 there : (c : At-After-flags_at-at) → let r = (start c).args.rec.now in flags_at r + cells_in r ≤ length r
-there c = omega (arith, (start c).requires.sound.flags.inside)
+there c = omega (arith, (start c).requires.0.flags.inside)
 
 -- test 5 of its flags
 abbrev before-open : At-After-first_open-open → At-After-flags_at-at
@@ -158,7 +158,7 @@ module _ (c : At-After-first_unfair-unfair) where
 
 -- every cell keeps its rules
 fair : (c : At-Else-unfair-n) → n c.before ≤ first (n c.before) (bad c.before)
-fair c = let u = c.before in omega (arith, found u, cells_are (f (i u)).before, c.if-unfair-n.false)
+fair c = let u = c in omega (arith, found u.before, cells_are (f (i u.before)).before, c.if-unfair-n.false)
 
 -- the carry
 abbrev unfair : At-After-fair_carry → At-Else-unfair-n
@@ -204,26 +204,26 @@ slice_bounds-flags-end c = omega (arith, cells_are c.before.before, c.flags_at-a
 
 pub first_open-open-requires : goal.first_open-open-requires
 first_open-open-requires c =
-    let f = c.before.before in
-    let d = start f in
+    let f = c in
+    let d = start f.before.before in
     let r = d.args.rec.now in
-    let is = cells_are f.before in
+    let is = cells_are f.before.before.before in
     let from = f.flags_at-at.ensures in
     let e = d.requires.s_value in
     record {
       sides = ap sides_good e ∙ d.requires.sound.sides;
-      count = ap length (flags-are r is from) ∙ length-flags r is from (there f) ∙ sym is ∙ f.cells-n.ensures;
+      count = ap length (flags-are r is from) ∙ length-flags r is from (there f.before.before) ∙ sym is ∙ f.cells-n.ensures;
       tested = le_trans (le_of_eq (sym f.cells-n.ensures ∙ is)) (le_trans d.requires.sound.tested (le_of_eq (sym (bad-flag-is r is from d.args.s e))));
     }
 
 pub returns-then-open-n : goal.returns-then-open-n
 returns-then-open-n c =
-    let o = c.before.before in
-    let fl = before-open o in
+    let o = c in
+    let fl = before-open o.before.before in
     let q = (start fl).args.rec.now in
     let fluid = bad_fluid 18 (grid_of (sides_in q)) (flag_in q) in
     let rest = if_none (suc (cells_in q)) 6 (bad_rule d3q19 (cells_in q) (state_in q)) (or_refuse (totals_good (poured_in q) (taken_in q)) 6 (cells_in q) Done) in
-    let e = opened o in
+    let e = opened o.before.before in
     let h : fluid < cells_in q = omega (arith, e, c.if-open-n.true, cells_are fl.before) in
     ap (Refused 5) e ∙ sym (stop (cells_in q) 5 fluid rest h)
 
@@ -246,12 +246,12 @@ first_unfair-unfair-requires c =
 
 pub returns-then-unfair-n : goal.returns-then-unfair-n
 returns-then-unfair-n c =
-    let u = c.before.before in
-    let e = found u in
-    let h : first (n u) (bad u) < n u = omega (arith, e, cells_are (f (i u)).before, c.if-unfair-n.true) in
-    let b = bad-cell d3q19 (n u) (state_in (r (i u))) (bad u) (rules u) h in
+    let u = c in
+    let e = found u.before.before in
+    let h : first (n u.before.before) (bad u.before.before) < n u.before.before = omega (arith, e, cells_are (f (i u.before.before)).before, c.if-unfair-n.true) in
+    let b = bad-cell d3q19 (n u.before.before) (state_in (r (i u.before.before))) (bad u.before.before) (rules u.before.before) h in
     ap (Refused 6) (e ∙ sym b)
-    ∙ sym (skip (n u) 5 (place u) (six u) (shut u) ∙ stop (suc (n u)) 6 (bad_rule d3q19 (n u) (state_in (r (i u)))) (last u) (omega (arith, b, h)))
+    ∙ sym (skip (n u.before.before) 5 (place u.before.before) (six u.before.before) (shut u.before.before) ∙ stop (suc (n u.before.before)) 6 (bad_rule d3q19 (n u.before.before) (state_in (r (i u.before.before)))) (last u.before.before) (omega (arith, b, h)))
 
 pub i64_at-requires : goal.i64_at-requires
 i64_at-requires c = let q = i c.before.before in omega (arith, (d q).requires.sound.flags.inside)

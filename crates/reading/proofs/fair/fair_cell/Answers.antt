@@ -62,7 +62,7 @@ returns-then-flag-ne1 c =
 
 pub i32_at-requires : goal.i32_at-requires
 i32_at-requires c =
-    let d = c.before.before.before.before.before.before.before.before in
+    let d = c in
     subst (λ (f : ℕ). d.args.m + 4 * cond (eqb f 1) 1 0 ≤ length d.args.rec.now) (is_one c.before) d.requires.flag_in_bounds
 
 pub returns : goal.returns

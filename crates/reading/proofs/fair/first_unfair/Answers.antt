@@ -36,22 +36,22 @@ At-After-fair_cell = lts.After-fair_cell tie.the-claims reads.Pre reads.Post tie
 masses-inside : (c : At-In-loop-c)
     → c.loop-c.m + 4 * cond (eqb (get_or c.args.flags.now c.loop-c.c 0) 1) 1 0 ≤ length c.args.rec.now
 masses-inside c =
-    let l = c.before in
+    let l = c in
     let s = l.args.flags.now in
     omega (arith, interfaces-more s l.loop-c.c c.loop-c-test.true, interfaces-le (l.loop-c.c + 1) (length s) (flag_of s) (omega arith), l.requires.flags_in_bounds)
 
 parts-inside : (c : At-In-loop-c)
     → c.loop-c.p + 76 * cond (liquid (get_or c.args.flags.now c.loop-c.c 0)) 1 0 ≤ length c.args.rec.now
 parts-inside c =
-    let l = c.before in
+    let l = c in
     let s = l.args.flags.now in
     omega (arith, liquids-more s l.loop-c.c c.loop-c-test.true, liquids-le (l.loop-c.c + 1) (length s) (flag_of s) (omega arith), l.requires.flags_in_bounds_2)
 
 -- and the test of them is this cell's
 here : (c : At-After-fair_cell)
-    → let l = c.before.before.before in let a = l.args in c.fair_cell.result ≡ fair_at a.rec.now a.flags.now a.masses a.parts l.loop-c.c
+    → let l = c in let a = l.args in c.fair_cell.result ≡ fair_at a.rec.now a.flags.now a.masses a.parts l.loop-c.c
 here c =
-    let l = c.before.before.before in
+    let l = c in
     let a = l.args in
     c.fair_cell.ensures
     ∙ fair-at d3q19 19 a.rec.now a.flags.now a.masses a.parts l.loop-c.m l.loop-c.p l.loop-c.c c.loop-c-test.true l.loop-c.invariant.1 l.loop-c.invariant.2
@@ -68,7 +68,7 @@ fair_cell-requires c =  record { flag_in_bounds = masses-inside c.before.before;
 
 pub returns-then-not-fair_cell : goal.returns-then-not-fair_cell
 returns-then-not-fair_cell c =
-    let l = c.before.before.before.before.before in
+    let l = c in
     let a = l.args in
     let bad : ℕ → Bool = λ j. not (fair_at a.rec.now a.flags.now a.masses a.parts j) in
     sym (first-is (length a.flags.now) bad l.loop-c.c c.loop-c-test.true (λ j h. ap not (l.loop-c.invariant.3 j h)) (ap not (sym (here c.before.before)) ∙ c.if-not-fair_cell.true-raw))
@@ -93,7 +93,7 @@ loop-c-smaller c = omega arith
 
 pub loop-c-preserved : goal.loop-c-preserved
 loop-c-preserved c =
-    let l = c.before.before.before.before.before.before.before in
+    let l = c in
     let a = l.args in
     let s = a.flags.now in
     let h = c.loop-c-test.true in (
@@ -106,7 +106,7 @@ loop-c-preserved c =
 
 pub returns : goal.returns
 returns c =
-    let l = c.before.before in
+    let l = c in
     let a = l.args in
     let bad : ℕ → Bool = λ j. not (fair_at a.rec.now a.flags.now a.masses a.parts j) in
     let e : l.loop-c.c ≡ length a.flags.now = omega arith in

@@ -32,7 +32,7 @@ At-In-loop-c = lts.In-loop tie.the-claims reads.Pre reads.Post goal.the-invarian
 inside : (c : At-In-loop-c)
     → c.loop-c.at + 76 * cond (liquid (get_or c.args.flags.now c.loop-c.c 0)) 1 0 ≤ length c.args.rec.now
 inside c =
-    let l = c.before in
+    let l = c in
     let s = l.args.flags.now in
     omega (arith, liquids-more s l.loop-c.c c.loop-c-test.true, liquids-le (l.loop-c.c + 1) (length s) (flag_of s) (omega arith), l.requires.flags_in_bounds)
 
@@ -73,8 +73,8 @@ loop-c-smaller c = omega arith
 
 pub loop-c-preserved : goal.loop-c-preserved
 loop-c-preserved c =
-    let l = c.before.before.before.before.before.before.before.before in
-    let d = l.before.before.before in
+    let l = c in
+    let d = l in
     let r = d.args.rec.now in
     let s = d.args.flags.now in
     let k = l.loop-c.c in
@@ -94,7 +94,7 @@ shape_of-parts c = c.loop-c.invariant.2
 
 pub returns : goal.returns
 returns c =
-    let d = c.before.before.before.before.before in
+    let d = c in
     let s = d.args.flags.now in
     let e : c.loop-c.c ≡ length s = omega arith in
     blocks-all (held d.args.rec.now s d.args.from) c.loop-c.parts (length s) (c.loop-c.invariant.2 ∙ d.requires.parts_len)

@@ -18,7 +18,7 @@ loop-k-init c = (omega arith, refl, upto_zero (pos 0) _ (replicate 19 (pos 0)))
 
 pub loop-k-preserved : goal.loop-k-preserved
 loop-k-preserved c =
-    let l = c.before.before.before in
+    let l = c in
     let a = l.args in
     let h : l.loop-k.k < length l.loop-k.v = omega (arith, l.loop-k.invariant.1, c.loop-k-test.true) in (
       omega arith,

@@ -76,11 +76,11 @@ is-fit c =
     (fitting a.rec.now (length a.parts.now) (length a.masses.now) (length a.fills.now) (length a.carry.now) (shape-ok c))
 
 -- and the content
-content-is : (c : At-After-content-tested) → let d = c.before.before.before.before.before.before.before in c.content-tested.result ≡ read_answer d.args.rec.now (own d)
+content-is : (c : At-After-content-tested) → let d = c in c.content-tested.result ≡ read_answer d.args.rec.now (own d.before.before.before.before.before.before.before)
 unfolding read_answer
 content-is c =
-    let d = c.before.before.before.before.before.before.before in
-    c.content-tested.ensures ∙ sym ((chain d).passes (shape-ok c.before.before) (content_answer d.args.rec.now))
+    let d = c in
+    c.content-tested.ensures ∙ sym ((chain d.before.before.before.before.before.before.before).passes (shape-ok c.before.before) (content_answer d.args.rec.now))
 
 done : (c : At-Else-not-passed-2) → content_answer c.args.rec.now ≡ Done
 done c =
@@ -93,9 +93,9 @@ cells_are c = c.cells.ensures ∙ ap cells_of c.sides_in-s.ensures
 pub returns-then-not-passed : goal.returns-then-not-passed
 unfolding read_answer
 returns-then-not-passed c =
-    let d = c.before.before.before.before.before.before.before in
-    read-refused d.args.rec.now (own d) c.shape-shaped.result c.refused.result
-    (chain-stops (shapes d) (chain d) (content_answer d.args.rec.now) c.shape-shaped.ensures c.passed.ensures c.if-not-passed.true-raw)
+    let d = c in
+    read-refused d.args.rec.now (own d.before.before.before.before.before.before.before) c.shape-shaped.result c.refused.result
+    (chain-stops (shapes d.before.before.before.before.before.before.before) (chain d.before.before.before.before.before.before.before) (content_answer d.args.rec.now) c.shape-shaped.ensures c.passed.ensures c.if-not-passed.true-raw)
     (sym c.passed.ensures ∙ not-true _ c.if-not-passed.true-raw)
     c.refused.ensures
 
@@ -107,8 +107,8 @@ content-tested-requires c =  record { sound = is-sound c.before.before; s_value 
 
 pub returns-then-not-passed-2 : goal.returns-then-not-passed-2
 returns-then-not-passed-2 c =
-    let d = c.before.before.before.before.before.before.before.before.before.before.before in
-    read-refused d.args.rec.now (own d) c.content-tested.result c.refused-then-not-passed-2.result
+    let d = c in
+    read-refused d.args.rec.now (own d.before.before.before.before.before.before.before.before.before.before.before) c.content-tested.result c.refused-then-not-passed-2.result
     (content-is c.before.before.before.before)
     (sym c.passed-2.ensures ∙ not-true _ c.if-not-passed-2.true-raw)
     c.refused-then-not-passed-2.ensures
@@ -118,10 +118,10 @@ cells-requires c = ap sides_good c.sides_in-s.ensures ∙ (is-sound c.before.bef
 
 pub take-requires : goal.take-requires
 take-requires c =
-    let e = c.before.before.before.before.before.before in
-    let one = e.before.before.before.before in
+    let e = c in
+    let one = e in
     let is = cells_are c.before.before.before.before.before in
-    let fit = is-fit one in  record { sound = is-sound one; rec_value = done e; n_value = is; parts_len = fit.parts ∙ ap (λ (n : ℕ). 19 * n) (sym is); masses_len = fit.masses ∙ sym is; fills_len = fit.fills ∙ sym is; carry_len = fit.carry }
+    let fit = is-fit one.before.before.before.before.before.before.before.before.before.before in  record { sound = is-sound one.before.before.before.before.before.before.before.before.before.before; rec_value = done e.before.before.before.before.before.before; n_value = is; parts_len = fit.parts ∙ ap (λ (n : ℕ). 19 * n) (sym is); masses_len = fit.masses ∙ sym is; fills_len = fit.fills ∙ sym is; carry_len = fit.carry }
 
 pub settings_in-g-requires : goal.settings_in-g-requires
 settings_in-g-requires c = (is-sound c.before.before.before.before.before.before.before.before.before.before.before.before.before.before.before.before).settings.inside
@@ -131,10 +131,10 @@ site_in-t-requires c = (is-sound c.before.before.before.before.before.before.bef
 
 pub returns : goal.returns
 returns c =
-    let e = c.before.before.before.before.before.before.before.before.before.before.before.before.before.before in
-    let d = e.before.before.before.before.before.before.before.before.before in
-    read-accepted d.args.rec.now (own d) c.sides_in-s.result c.settings_in-g.result c.site_in-t.result _ _ _ _
-    (sym (ap accepted (content-is e.before.before)) ∙ sym e.passed-2.ensures ∙ not-false _ e.if-not-passed-2.false-raw)
+    let e = c in
+    let d = e in
+    read-accepted d.args.rec.now (own d.before.before.before.before.before.before.before.before.before.before.before.before.before.before.before.before.before.before.before.before.before.before.before) c.sides_in-s.result c.settings_in-g.result c.site_in-t.result _ _ _ _
+    (sym (ap accepted (content-is e.before.before.before.before.before.before.before.before.before.before.before.before.before.before.before.before)) ∙ sym e.passed-2.ensures ∙ not-false _ e.if-not-passed-2.false-raw)
     c.sides_in-s.ensures
     c.settings_in-g.ensures
     c.site_in-t.ensures

@@ -39,7 +39,7 @@ cells_are c = c.cells-n.ensures ∙ ap cells_of c.requires.s_value
 
 small : (c : At-After-cells-n) → c.cells-n.result ≤ 262144
 unfolding cells_in cells_of
-small c = let d = c.before.before in omega (arith, c.cells-n.ensures, (good-sides d.args.s d.requires.s_value_2).all)
+small c = let d = c in omega (arith, c.cells-n.ensures, (good-sides d.args.s d.requires.s_value_2).all)
 
 abbrev start : At-After-flags_at-at → At-Start
 start c = c.before.before.before
@@ -82,8 +82,8 @@ cell_sections-requires c =
 
 pub returns : goal.returns
 returns c =
-    let b = c.before.before.before.before.before in
-    let f = flags-at b in
+    let b = c in
+    let f = flags-at b.before.before.before.before.before in
     let d = start f in
     let r = d.args.rec.now in
     let is = cells_are f.before in
@@ -91,7 +91,7 @@ returns c =
     let i = c.interface_cells.ensures ∙ interfaces-are r is f.flags_at-at.ensures d.requires.rec_in_bounds in
     let l = c.liquid_cells.ensures ∙ liquids-are r is f.flags_at-at.ensures d.requires.rec_in_bounds in
     let rest = ends r (behind_flags r) (interfaces_in r) (liquids_in r) Done in
-    let none : leb (cells_in r) place ≡ true = le-leb (cells_in r) place (omega (arith, c.if-bad-n.false, bad-is b, is)) in
+    let none : leb (cells_in r) place ≡ true = le-leb (cells_in r) place (omega (arith, c.if-bad-n.false, bad-is b.before.before.before.before.before, is)) in
     c.cell_sections.ensures
     ∙ ap₂ (λ (j k : ℕ). ends r (j + k) c.interface_cells.result c.liquid_cells.result Done) f.flags_at-at.ensures is
     ∙ ap₂ (λ (k m : ℕ). ends r (behind_flags r) k m Done) i l

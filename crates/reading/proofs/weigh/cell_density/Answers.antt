@@ -32,7 +32,7 @@ returns-then-one_liquid-eq0 c =
 
 pub density-requires : goal.density-requires
 density-requires c =
-    let d = c.before.before.before in
+    let d = c in
     let a = d.args in
     bounded-by (λ k. get_or a.parts.now (19 * a.c + k) (pos 0)) c.own.result c.own.ensures (d.requires.within (wet a.flag (wet-here c.before)))
 

@@ -22,17 +22,17 @@ use Rattle.reading.proofs.weigh.cell_fill.Goals as goal
 -- the density as it passed the calls
 rho-is : (c : goal.After-wide-then-flag-eq1) → to_z w64 (of_z w64 c.wide-then-flag-eq1.result) ≡ c.args.rho
 rho-is c =
-    let d = c.before.before.before in
+    let d = c in
     to_z-of_z w64 c.wide-then-flag-eq1.result (record { sfits = c.wide-then-flag-eq1.type_inv }) ∙ c.wide-then-flag-eq1.ensures ∙ to_z-of_z w32 d.args.rho d.ranges.rho
 
 mass-is : (c : goal.After-wide-then-flag-eq1) → to_z w64 (of_z w64 c.wide.result) ≡ c.args.m
 mass-is c =
-    let d = c.before.before.before in
+    let d = c in
     to_z-of_z w64 c.wide.result (record { sfits = c.wide.type_inv }) ∙ c.wide.ensures ∙ to_z-of_z w32 d.args.m d.ranges.m
 
 pub part_fill-requires : goal.part_fill-requires
 part_fill-requires c =
-    let d = c.before.before.before in
+    let d = c in
     subst (λ (z : ℤ). (pos 0 <ℤ z) × Within z 1099511627776) (sym (rho-is c))
     (dense-positive (d.requires c.if-flag-eq1.true), record { abs = omega (arith, nat_abs-le d.args.rho d.ranges.rho.sfits) })
 

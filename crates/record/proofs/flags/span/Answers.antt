@@ -61,16 +61,16 @@ overflow_add-end c =
 
 pub returns-then-rec-end : goal.returns-then-rec-end
 returns-then-rec-end c =
-    let e = c.before.before.before.before in
-    let a = (start e).args in
+    let e = c in
+    let a = (start e.before.before.before.before).args in
     let r = a.rec.now in
     let l = lt-leb (flags_at r + cells_of a.h.sides) (length r) (omega (arith, c.if-rec-end.true, end_is c.before.before)) in
-    rw (answered e.before.before.before, sided e, l) refl
+    rw (answered e.before.before.before.before.before.before.before, sided e.before.before.before.before, l) refl
 
 pub returns : goal.returns
 returns c =
-    let e = c.before.before.before.before in
-    let a = (start e).args in
+    let e = c in
+    let a = (start e.before.before.before.before).args in
     let r = a.rec.now in
     let l = le-leb (flags_at r + cells_of a.h.sides) (length r) (omega (arith, c.if-rec-end.false, end_is c.before.before)) in
-    rw (answered e.before.before.before, sided e, l) (ap₂ (λ (i j : ℕ). record { from = i; to = j }) c.flags_at-at.ensures (end_is c.before.before))
+    rw (answered e.before.before.before.before.before.before.before, sided e.before.before.before.before, l) (ap₂ (λ (i j : ℕ). record { from = i; to = j }) c.flags_at-at.ensures (end_is c.before.before))

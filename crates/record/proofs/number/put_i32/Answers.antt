@@ -11,7 +11,7 @@ use Rattle.record.proofs.number.put_i32.Goals as goal
 
 pub returns : goal.returns
 returns c =
-    let d = c.before.before.before.before in
+    let d = c in
     let a = d.args in
     c.put_u32.ensures
     ∙ ap (λ (n : ℕ). sets a.s.now a.at (bytes_of 4 n)) (d.word_bits.ensures ∙ ap (of_z w32) (to_z-of_z w32 a.x d.ranges.x))

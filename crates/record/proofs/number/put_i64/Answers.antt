@@ -11,7 +11,7 @@ use Rattle.record.proofs.number.put_i64.Goals as goal
 
 pub returns : goal.returns
 returns c =
-    let d = c.before.before.before.before in
+    let d = c in
     let a = d.args in
     c.put_u64.ensures
     ∙ ap (λ (n : ℕ). sets a.s.now a.at (bytes_of 8 n)) (d.long_bits.ensures ∙ ap (of_z w64) (to_z-of_z w64 a.x d.ranges.x))

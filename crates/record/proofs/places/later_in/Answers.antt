@@ -28,7 +28,7 @@ returns-then-totals_in-ne3 c =
     sym (ap (λ (t : Bool). cond t (i64_at r (72 + 8 * a.i)) (pos 0)) (ne_eqb (totals_in r) 3 (λ e. c.if-totals_in-ne3.true (c.totals_in.ensures ∙ e))))
 
 pub i64_at-requires : goal.i64_at-requires
-i64_at-requires c = let d = c.before.before.before.before in omega (arith, three c.before, d.requires.rec_in_bounds, d.requires.i_bound)
+i64_at-requires c = let d = c in omega (arith, three c.before, d.requires.rec_in_bounds, d.requires.i_bound)
 
 pub returns : goal.returns
 returns c =

@@ -11,7 +11,7 @@ use Rattle.record.proofs.section.front_sections.Goals as goal
 
 pub sections_behind-requires : goal.sections_behind-requires
 sections_behind-requires c =
-    let d = c.before.before.before in 
+    let d = c in 
     record { sides_bound = omega arith; settings_bound = omega arith; origin_bound = omega arith; k_bound = subst (λ (k : ℕ). k ≤ 3) (sym c.totals_in.ensures) (totals-few d.args.rec.now); n_bound = d.requires }
 
 pub returns : goal.returns

@@ -20,13 +20,13 @@ returns-then-u32_at-n c =
 
 pub overflow_mul-size : goal.overflow_mul-size
 overflow_mul-size c =
-    let d = c.before.before.before.before.before in
+    let d = c in
     let h : d.args.size * d.args.n ≤ 8 * 4294967296 = mul-le-mul d.requires.size_bound d.requires.n_bound in
     record { fits = omega arith }
 
 pub overflow_add-from-3 : goal.overflow_add-from-3
 overflow_add-from-3 c =
-    let d = c.before.before.before.before.before in
+    let d = c in
     let h : d.args.size * d.args.n ≤ 8 * 4294967296 = mul-le-mul d.requires.size_bound d.requires.n_bound in
     record { fits = omega (arith, d.requires.from_bound) }
 

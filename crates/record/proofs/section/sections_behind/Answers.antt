@@ -82,9 +82,9 @@ section-settings-requires c = let f = few c.before.before.before in  record { fr
 
 pub returns-then-not-passed : goal.returns-then-not-passed
 returns-then-not-passed c =
-    let d = c.before.before.before.before.before.before in
+    let d = c in
     let a = d.args in
-    stopped a.rec.now 2 (settings_from a.held) a.held.settings 4 (three d) c.section-settings.ensures c.passed.ensures c.if-not-passed.true-raw
+    stopped a.rec.now 2 (settings_from a.held) a.held.settings 4 (three d.before.before.before.before.before.before) c.section-settings.ensures c.passed.ensures c.if-not-passed.true-raw
 
 pub overflow_add-third : goal.overflow_add-third
 overflow_add-third c = record { fits = omega (arith, few (first c.before)) }
@@ -100,11 +100,11 @@ section-origin-requires c = let f = few (first c.before.before) in  record { fro
 
 pub returns-then-not-passed-2 : goal.returns-then-not-passed-2
 returns-then-not-passed-2 c =
-    let e = c.before.before.before.before.before in
-    let d = first e in
+    let e = c in
+    let d = first e.before.before.before.before.before in
     let a = d.args in
     stopped a.rec.now 3 (origin_from a.held) a.held.origin 8 (four d) c.section-origin.ensures c.passed-2.ensures c.if-not-passed-2.true-raw
-    ∙ sym (settings-on e (three d))
+    ∙ sym (settings-on e.before.before.before.before.before (three d))
 
 pub overflow_add-fourth : goal.overflow_add-fourth
 overflow_add-fourth c = record { fits = omega (arith, few (second c.before)) }
@@ -120,11 +120,11 @@ section-totals-requires c = let f = few (second c.before.before) in  record { fr
 
 pub returns-then-not-passed-3 : goal.returns-then-not-passed-3
 returns-then-not-passed-3 c =
-    let e = c.before.before.before.before.before in
-    let d = second e in
+    let e = c in
+    let d = second e.before.before.before.before.before in
     let a = d.args in
     stopped a.rec.now 4 (totals_from a.held) a.k 8 (five d) c.section-totals.ensures c.passed-3.ensures c.if-not-passed-3.true-raw
-    ∙ sym (origin_on e (four d)) ∙ sym (settings-on e.before.before.before.before (three d))
+    ∙ sym (origin_on e.before.before.before.before.before (four d)) ∙ sym (settings-on e.before.before.before.before.before.before.before.before.before (three d))
 
 pub overflow_add-fourth-3 : goal.overflow_add-fourth-3
 overflow_add-fourth-3 c = record { fits = omega (arith, few (third c.before)) }
@@ -140,7 +140,7 @@ section-requires c = let f = few (third c.before) in  record { from_bound = omeg
 
 pub returns : goal.returns
 returns c =
-    let e = c.before.before in
-    let d = third e in
-    let two = e.before.before.before.before in
-    c.section.ensures ∙ sym (totals-on e (five d)) ∙ sym (origin_on two (four d)) ∙ sym (settings-on two.before.before.before.before (three d))
+    let e = c in
+    let d = third e.before.before in
+    let two = e in
+    c.section.ensures ∙ sym (totals-on e.before.before (five d)) ∙ sym (origin_on two.before.before.before.before.before.before (four d)) ∙ sym (settings-on two.before.before.before.before.before.before.before.before.before.before (three d))

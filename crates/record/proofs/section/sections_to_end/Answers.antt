@@ -58,26 +58,26 @@ parts-on c rest =
 
 pub returns-then-not-passed : goal.returns-then-not-passed
 returns-then-not-passed c =
-    let d = c.before.before.before.before.before in
-    stopped d.args.rec.now 6 d.args.from d.args.i 4 (seven d) c.section-masses.ensures c.passed.ensures c.if-not-passed.true-raw
+    let d = c in
+    stopped d.args.rec.now 6 d.args.from d.args.i 4 (seven d.before.before.before.before.before) c.section-masses.ensures c.passed.ensures c.if-not-passed.true-raw
 
 pub returns-then-not-passed-2 : goal.returns-then-not-passed-2
 returns-then-not-passed-2 c =
-    let e = c.before.before.before.before in
-    let d = first e in
+    let e = c in
+    let d = first e.before.before.before.before in
     stopped d.args.rec.now 7 (from d) d.args.m 4 (last d) c.section-parts.ensures c.passed-2.ensures c.if-not-passed-2.true-raw
-    ∙ sym (masses-on e (seven d))
+    ∙ sym (masses-on e.before.before.before.before (seven d))
 
 pub returns-then-rec-end : goal.returns-then-rec-end
 returns-then-rec-end c =
-    let e = c.before.before in
-    let d = second e in
+    let e = c in
+    let d = second e.before.before in
     ap (λ (t : Bool). or_refuse t 10 (end d) Done) (sym (lt-leb (length d.args.rec.now) (end d) c.if-rec-end.true))
-    ∙ sym (parts-on e (last d)) ∙ sym (masses-on e.before.before.before (seven d))
+    ∙ sym (parts-on e.before.before (last d)) ∙ sym (masses-on e.before.before.before.before.before (seven d))
 
 pub returns : goal.returns
 returns c =
-    let e = c.before.before in
-    let d = second e in
+    let e = c in
+    let d = second e.before.before in
     ap (λ (t : Bool). or_refuse t 10 (end d) Done) (sym (le-leb (length d.args.rec.now) (end d) c.if-rec-end.false))
-    ∙ sym (parts-on e (last d)) ∙ sym (masses-on e.before.before.before (seven d))
+    ∙ sym (parts-on e.before.before (last d)) ∙ sym (masses-on e.before.before.before.before.before (seven d))

@@ -190,9 +190,9 @@ make-requires c =
 pub make-requires-2 : goal.make-requires-2
 make-requires-2 c =
     let after-flags2 : At-After-flags2-1 = search in
-    let d = after-flags2.before.before.before.before.before.before.before.before.before.before.before.before.before.before.before.before.before.before.before.before.before in
-    let v = w d in
-    subst (λ (m : ℕ). Room m (second v).index) (sym (after-flags2.flags2-1.given ∙ second-flags d)) (second-index v.args.s v.args.g (first v) (second v) v.args.marks.now (passed d))
+    let d = after-flags2 in
+    let v = w d.before.before.before.before.before.before.before.before.before.before.before.before.before.before.before.before.before.before.before.before.before in
+    subst (λ (m : ℕ). Room m (second v).index) (sym (after-flags2.flags2-1.given ∙ second-flags d.before.before.before.before.before.before.before.before.before.before.before.before.before.before.before.before.before.before.before.before.before)) (second-index v.args.s v.args.g (first v) (second v) v.args.marks.now (passed d.before.before.before.before.before.before.before.before.before.before.before.before.before.before.before.before.before.before.before.before.before))
 
 pub shape_of-flags : goal.shape_of-flags
 shape_of-flags c = let after-flags : At-After-flags-1 = search in after-flags.flags-1.given
@@ -241,15 +241,15 @@ shape_of-marks c = let after-marks : At-After-marks-1 = search in after-marks.ma
 
 pub returns : goal.returns
 returns c =
-    let after-make2 : At-After-make-2 = search in let after-make = after-make2.before.before.before.before.before.before.before.before in let after-put-totals = after-make.before.before.before.before.before in
-    let after-put-totals-arg = after-put-totals.before.before.before in let after-put-carry = after-put-totals-arg.before.before in let after-put-carry-arg2 = after-put-carry.before.before in
-    let after-flags2 = after-put-carry-arg2.before.before.before.before.before.before.before.before.before in let after-flags = after-flags2.before.before.before.before.before.before.before in
-    let after-going = after-flags.before in let after-put-carry-arg = after-going.before.before.before.before.before.before.before.before.before.before.before in let d = after-put-carry-arg.before in
-    let v = w d in
+    let after-make2 : At-After-make-2 = search in let after-make = after-make2 in let after-put-totals = after-make in
+    let after-put-totals-arg = after-put-totals in let after-put-carry = after-put-totals-arg in let after-put-carry-arg2 = after-put-carry in
+    let after-flags2 = after-put-carry-arg2 in let after-flags = after-flags2 in
+    let after-going = after-flags in let after-put-carry-arg = after-going in let d = after-put-carry-arg in
+    let v = w d.before.before.before.before.before.before.before.before.before.before.before.before.before.before.before.before.before.before.before.before.before.before.before.before.before.before.before.before.before.before.before.before.before.before.before.before.before.before.before.before.before.before.before.before.before.before.before in
     let e = after-going.going-r.ensures in
     let p = rw (to_z-of_z (sfits_of {w = w64} after-put-carry-arg2.put_carry-arg-1.given)) at after-put-carry.put_carry.ensures in
     let q = rw (to_z-of_z (sfits_of {w = w64} after-put-totals-arg.put_totals-arg-1.given)) at after-put-totals.put_totals.ensures in
-    admitted-went v.args.s v.args.g (first v) (second v) v.args.marks.now v.args.steps _ _ _ _ _ (sym (admitted d))
-    (went-alone (first v).set (three d) (to_z-of_z (sfits_of {w = w64} after-put-carry-arg.one-1.given)) e)
-    (after-flags.flags-1.given ∙ (ready d).ready.sized.flags) (after-flags2.flags2-1.given ∙ second-flags d)
+    admitted-went v.args.s v.args.g (first v) (second v) v.args.marks.now v.args.steps _ _ _ _ _ (sym (admitted d.before.before.before.before.before.before.before.before.before.before.before.before.before.before.before.before.before.before.before.before.before.before.before.before.before.before.before.before.before.before.before.before.before.before.before.before.before.before.before.before.before.before.before.before.before.before.before))
+    (went-alone (first v).set (three d.before.before.before.before.before.before.before.before.before.before.before.before.before.before.before.before.before.before.before.before.before.before.before.before.before.before.before.before.before.before.before.before.before.before.before.before.before.before.before.before.before.before.before.before.before.before.before) (to_z-of_z (sfits_of {w = w64} after-put-carry-arg.one-1.given)) e)
+    (after-flags.flags-1.given ∙ (ready d.before.before.before.before.before.before.before.before.before.before.before.before.before.before.before.before.before.before.before.before.before.before.before.before.before.before.before.before.before.before.before.before.before.before.before.before.before.before.before.before.before.before.before.before.before.before.before).ready.sized.flags) (after-flags2.flags2-1.given ∙ second-flags d.before.before.before.before.before.before.before.before.before.before.before.before.before.before.before.before.before.before.before.before.before.before.before.before.before.before.before.before.before.before.before.before.before.before.before.before.before.before.before.before.before.before.before.before.before.before.before)
     p (q ∙ ap (carried_with _) p) after-make.make.ensures after-make2.make-2.ensures

@@ -43,22 +43,22 @@ pub first_bad_mark-marked-requires : goal.first_bad_mark-marked-requires
 first_bad_mark-marked-requires c = c.requires.0
 
 pub returns-then-marked-n : goal.returns-then-marked-n
-returns-then-marked-n c = let w = c.before.before.before.before.before.before in stops-at-mark w.args.s w.args.map.now (set w) _ c.first_bad_mark-marked.ensures (omega (arith, w.requires.0.map-size, c.if-marked-n.true))
+returns-then-marked-n c = let w = c in stops-at-mark w.args.s w.args.map.now (set w.before.before.before.before.before.before) _ c.first_bad_mark-marked.ensures (omega (arith, w.requires.0.map-size, c.if-marked-n.true))
 
 pub first_open-open-requires : goal.first_open-open-requires
-first_open-open-requires c = let w = c.before.before.before.before.before.before in marked w.args.s w.args.map.now (set w) _ c.first_bad_mark-marked.ensures (omega (arith, w.requires.0.map-size, c.if-marked-n.false)) w.requires.0
+first_open-open-requires c = let w = c in marked w.args.s w.args.map.now (set w.before.before.before.before.before.before) _ c.first_bad_mark-marked.ensures (omega (arith, w.requires.0.map-size, c.if-marked-n.false)) w.requires.0
 
 pub returns-then-open-n : goal.returns-then-open-n
-returns-then-open-n c = let w = c.before.before.before.before.before.before.before.before in
-    stops-at-open w.args.s w.args.map.now (set w) _ c.first_bad_mark-marked.ensures (omega (arith, w.requires.0.map-size, c.if-marked-n.false)) _ c.first_open-open.ensures
+returns-then-open-n c = let w = c in
+    stops-at-open w.args.s w.args.map.now (set w.before.before.before.before.before.before.before.before) _ c.first_bad_mark-marked.ensures (omega (arith, w.requires.0.map-size, c.if-marked-n.false)) _ c.first_open-open.ensures
     (omega (arith, w.requires.0.map-size, c.if-open-n.true))
 
 pub first_broken-broken-requires : goal.first_broken-broken-requires
 first_broken-broken-requires c = c.requires
 
 pub returns-then-broken-n : goal.returns-then-broken-n
-returns-then-broken-n c = let w = c.before.before.before.before.before.before.before.before.before.before in
-    stops-at-rule w.args.s w.args.map.now (set w) _ c.first_bad_mark-marked.ensures (omega (arith, w.requires.0.map-size, c.if-marked-n.false)) _ c.first_open-open.ensures
+returns-then-broken-n c = let w = c in
+    stops-at-rule w.args.s w.args.map.now (set w.before.before.before.before.before.before.before.before.before.before) _ c.first_bad_mark-marked.ensures (omega (arith, w.requires.0.map-size, c.if-marked-n.false)) _ c.first_open-open.ensures
     (omega (arith, w.requires.0.map-size, c.if-open-n.false)) _ c.first_broken-broken.ensures (omega (arith, w.requires.0.map-size, c.if-broken-n.true))
 
 pub bounds-carry-1 : goal.bounds-carry-1
@@ -69,16 +69,16 @@ bounds-carry-2 c = let w = start c.before.before in omega (arith, carry-three w.
 
 pub returns-then-not-good_totals : goal.returns-then-not-good_totals
 returns-then-not-good_totals c =
-    let d = c.before.before.before.before.before in
-    let w = start d in
+    let d = c in
+    let w = start d.before.before.before.before.before in
     stops-at-totals w.args.s w.args.map.now (set w) _ d.first_bad_mark-marked.ensures (omega (arith, w.requires.0.map-size, d.if-marked-n.false)) _ d.first_open-open.ensures
     (omega (arith, w.requires.0.map-size, d.if-open-n.false)) _ d.first_broken-broken.ensures (omega (arith, w.requires.0.map-size, d.if-broken-n.false))
     w.requires.0.map-size (sym (totals c.before.before) ∙ not-true _ c.if-not-good_totals.true-raw)
 
 pub returns : goal.returns
 returns c =
-    let d = c.before.before.before.before.before in
-    let w = start d in
+    let d = c in
+    let w = start d.before.before.before.before.before in
     goes_through w.args.s w.args.map.now (set w) _ d.first_bad_mark-marked.ensures (omega (arith, w.requires.0.map-size, d.if-marked-n.false)) _ d.first_open-open.ensures
     (omega (arith, w.requires.0.map-size, d.if-open-n.false)) _ d.first_broken-broken.ensures (omega (arith, w.requires.0.map-size, d.if-broken-n.false))
     (sym (totals c.before.before) ∙ not-false _ c.if-not-good_totals.false-raw)

@@ -20,28 +20,28 @@ abbrev set : At-Start → Lent
 set w = lent w.args.own.now w.args.parts.now w.args.masses.now w.args.fills.now w.args.carry.now
 
 pub returns-then-not-good_sides : goal.returns-then-not-good_sides
-returns-then-not-good_sides c = let w = c.before.before.before.before.before.before in refuses-sides w.args.s w.args.map.now (set w) w.args.more (sym c.good_sides.ensures ∙ not-true _ c.if-not-good_sides.true-raw)
+returns-then-not-good_sides c = let w = c in refuses-sides w.args.s w.args.map.now (set w.before.before.before.before.before.before) w.args.more (sym c.good_sides.ensures ∙ not-true _ c.if-not-good_sides.true-raw)
 
 pub cells-n-requires : goal.cells-n-requires
 cells-n-requires c = sym c.good_sides.ensures ∙ not-false _ c.if-not-good_sides.false-raw
 
 pub three_lengths-set-requires : goal.three_lengths-set-requires
 unfolding cells_of
-three_lengths-set-requires c = let w = c.before.before.before.before.before.before.before in omega (arith, c.cells-n.ensures, (good-sides w.args.s (sym c.good_sides.ensures ∙ not-false _ c.if-not-good_sides.false-raw)).all)
+three_lengths-set-requires c = let w = c in omega (arith, c.cells-n.ensures, (good-sides w.args.s (sym c.good_sides.ensures ∙ not-false _ c.if-not-good_sides.false-raw)).all)
 
 pub returns-then-not-set-map : goal.returns-then-not-set-map
-returns-then-not-set-map c = let w = c.before.before.before.before.before.before.before.before.before in
-    refuses-lengths w.args.s w.args.map.now (set w) w.args.more (sym c.good_sides.ensures ∙ not-false _ c.if-not-good_sides.false-raw)
-    (sym (lengths-told w.args.s w.args.map.now (set w) w.args.more c.cells-n.ensures c.three_lengths-set.ensures) ∙ not-true _ c.if-not-set-map.true-raw)
+returns-then-not-set-map c = let w = c in
+    refuses-lengths w.args.s w.args.map.now (set w.before.before.before.before.before.before.before.before.before) w.args.more (sym c.good_sides.ensures ∙ not-false _ c.if-not-good_sides.false-raw)
+    (sym (lengths-told w.args.s w.args.map.now (set w.before.before.before.before.before.before.before.before.before) w.args.more c.cells-n.ensures c.three_lengths-set.ensures) ∙ not-true _ c.if-not-set-map.true-raw)
 
 pub checked-requires : goal.checked-requires
-checked-requires c = let w = c.before.before.before.before.before.before.before.before.before in
+checked-requires c = let w = c in
     let g : sides_good w.args.s ≡ true = sym c.good_sides.ensures ∙ not-false _ c.if-not-good_sides.false-raw in
-    let l = sym (lengths-told w.args.s w.args.map.now (set w) w.args.more c.cells-n.ensures c.three_lengths-set.ensures) ∙ not-false _ c.if-not-set-map.false-raw in
-    (measured w.args.s w.args.map.now (set w) w.args.more g l, set-sized w.args.s w.args.map.now (set w) w.args.more g l)
+    let l = sym (lengths-told w.args.s w.args.map.now (set w.before.before.before.before.before.before.before.before.before) w.args.more c.cells-n.ensures c.three_lengths-set.ensures) ∙ not-false _ c.if-not-set-map.false-raw in
+    (measured w.args.s w.args.map.now (set w.before.before.before.before.before.before.before.before.before) w.args.more g l, set-sized w.args.s w.args.map.now (set w.before.before.before.before.before.before.before.before.before) w.args.more g l)
 
 pub returns : goal.returns
-returns c = let w = c.before.before.before.before.before.before.before.before.before.before in
+returns c = let w = c in
     c.checked.ensures
-    ∙ then-ruled w.args.s w.args.map.now (set w) w.args.more (sym c.good_sides.ensures ∙ not-false _ c.if-not-good_sides.false-raw)
-    (sym (lengths-told w.args.s w.args.map.now (set w) w.args.more c.cells-n.ensures c.three_lengths-set.ensures) ∙ not-false _ c.if-not-set-map.false-raw)
+    ∙ then-ruled w.args.s w.args.map.now (set w.before.before.before.before.before.before.before.before.before.before) w.args.more (sym c.good_sides.ensures ∙ not-false _ c.if-not-good_sides.false-raw)
+    (sym (lengths-told w.args.s w.args.map.now (set w.before.before.before.before.before.before.before.before.before.before) w.args.more c.cells-n.ensures c.three_lengths-set.ensures) ∙ not-false _ c.if-not-set-map.false-raw)

@@ -20,12 +20,12 @@ pub bad_mark-requires : goal.bad_mark-requires
 bad_mark-requires c = let m = c.requires in (m.sides, omega (arith, m.map-size, c.loop-c-test.true))
 
 pub returns-then-bad_mark : goal.returns-then-bad_mark
-returns-then-bad_mark c = let w = c.before.before.before.before.before.before.before.before.before in
+returns-then-bad_mark c = let w = c in
     mark-found w.requires c.loop-c.c c.loop-c.invariant.1 c.loop-c-test.true
     (sym (mark-here w.args.s w.args.map.now w.args.own.now c.loop-c.c c.loop-c-test.true) ∙ sym c.bad_mark.ensures ∙ c.if-bad_mark.true)
 
 pub loop-c-preserved : goal.loop-c-preserved
-loop-c-preserved c = let w = c.before.before.before.before.before.before.before.before.before in (
+loop-c-preserved c = let w = c in (
   omega (arith, c.loop-c-test.true),
   below_more _ _ c.loop-c.invariant.1
       (sym (mark-here w.args.s w.args.map.now w.args.own.now c.loop-c.c c.loop-c-test.true) ∙ sym c.bad_mark.ensures ∙ c.if-bad_mark.false),

@@ -20,7 +20,7 @@ pub loop-c-init : goal.loop-c-init
 loop-c-init c = (omega arith, λ j l. absurd (not-suc-le-zero l))
 
 pub open_at-requires : goal.open_at-requires
-open_at-requires c = let w = c.before.before.before.before.before.before.before.before in (
+open_at-requires c = let w = c in (
   record { marked = w.requires; table = c.offsets-off.ensures; lowest = c.low_of-low.ensures },
   omega (arith, w.requires.measured.own-size, c.loop-c-test.true),
 )

@@ -36,13 +36,13 @@ pub nonzero_div-z : goal.nonzero_div-z
 nonzero_div-z c = let s = c.args.s in let g = good-sides s c.requires.0 in omega (arith, plane s g)
 
 pub overflow_add-result : goal.overflow_add-result
-overflow_add-result c = let w = c.before.before.before.before in record { fits = omega (arith, mod-le w.args.c w.args.s.nx, few w.args.s w.requires.0, w.requires.1) }
+overflow_add-result c = let w = c in record { fits = omega (arith, mod-le w.args.c w.args.s.nx, few w.args.s w.requires.0, w.requires.1) }
 
 pub overflow_add-result-2 : goal.overflow_add-result-2
-overflow_add-result-2 c = let w = c.before.before.before.before.before in record { fits = omega (arith, mod-le (w.args.c / w.args.s.nx) w.args.s.ny, div-le_self w.args.c w.args.s.nx, few w.args.s w.requires.0, w.requires.1) }
+overflow_add-result-2 c = let w = c in record { fits = omega (arith, mod-le (w.args.c / w.args.s.nx) w.args.s.ny, div-le_self w.args.c w.args.s.nx, few w.args.s w.requires.0, w.requires.1) }
 
 pub overflow_add-result-3 : goal.overflow_add-result-3
-overflow_add-result-3 c = let w = c.before.before.before.before.before.before in record { fits = omega (arith, div-le_self w.args.c (w.args.s.nx * w.args.s.ny), few w.args.s w.requires.0, w.requires.1) }
+overflow_add-result-3 c = let w = c in record { fits = omega (arith, div-le_self w.args.c (w.args.s.nx * w.args.s.ny), few w.args.s w.requires.0, w.requires.1) }
 
 pub returns : goal.returns
 unfolding grid_of box

@@ -12,14 +12,14 @@ overflow_sub-i c = omega arith
 
 pub overflow_mul-i : goal.overflow_mul-i
 overflow_mul-i c =
-    let l = c.before.before.before in
-    let s = l.before.before.before in
+    let l = c in
+    let s = l in
     omega (arith, base-fits l.loop-i.i s.args.n s.args.m _ (omega arith) l.loop-i.invariant.few s.requires.n_in_bounds)
 
 pub row_walls-requires : goal.row_walls-requires
 row_walls-requires c =
-    let l = c.before.before.before in
-    let s = l.before.before.before in 
+    let l = c in
+    let s = l in 
     record { at_in_bounds = l.loop-i.invariant.inside; n_in_bounds = omega (arith, base-fits l.loop-i.i s.args.n s.args.m _ (omega arith) l.loop-i.invariant.few s.requires.n_in_bounds, stack-long l.loop-i.invariant); edge_bound = s.requires.edge_bound; nz_bound = s.requires.nz_bound }
 
 pub next_line-p-requires : goal.next_line-p-requires
@@ -30,7 +30,7 @@ loop-i-smaller c = omega arith
 
 pub loop-i-preserved : goal.loop-i-preserved
 loop-i-preserved c =
-    let l = c.before.before.before.before.before.before.before in
+    let l = c in
     stack-more _ (omega arith) l.loop-i.invariant c.row_walls.ensures c.next_line-p.ensures
 
 pub shape_of-flags : goal.shape_of-flags

@@ -23,7 +23,7 @@ next_word-w-requires c = c.loop-i.invariant.inside
 
 pub walls_at-k-requires : goal.walls_at-k-requires
 walls_at-k-requires c =
-    let s = c.before.before.before.before.before.before in 
+    let s = c in 
     record { from_le_to = (here c.before).ordered; to_in_bounds = (here c.before).inside; edge_bound = s.requires.edge_bound; nz_bound = s.requires.nz_bound }
 
 pub overflow_cast-flags : goal.overflow_cast-flags
@@ -31,12 +31,12 @@ overflow_cast-flags c = omega (arith, c.walls_at-k.ensures.upper_bound)
 
 pub overflow_add-flags : goal.overflow_add-flags
 overflow_add-flags c =
-    let s = c.before.before.before.before.before.before.before in
+    let s = c in
     omega (arith, s.requires.n_in_bounds, c.loop-i.invariant.few)
 
 pub bounds-flags-base : goal.bounds-flags-base
 bounds-flags-base c =
-    let s = c.before.before.before.before.before.before.before in
+    let s = c in
     omega (arith, s.requires.n_in_bounds, lay-long c.loop-i.invariant)
 
 pub overflow_add-i : goal.overflow_add-i

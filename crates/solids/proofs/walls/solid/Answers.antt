@@ -23,11 +23,11 @@ told : (c : At-After-is_no_data) → c.is_no_data.result ≡ is_no_data c.args.v
 told c = c.is_no_data.ensures ∙ ap is_no_data (to_z-of_z c.ranges.v)
 
 centre-told : (c : At-After-centre) → to_z w64 (of_z w64 c.centre.result) ≡ c.centre.result
-centre-told c = to_z-of_z (record { sfits = c.centre.type_inv })
+centre-told c = to_z-of_z {w = w64} (record { sfits = c.centre.type_inv })
 
 twice-told : (c : goal.After-twice) → to_z w64 (of_z w64 c.twice.result) ≡ pos 2 *ℤ quot_z c.args.v (pos 1000)
 twice-told c =
-    to_z-of_z (record { sfits = c.twice.type_inv }) ∙ c.twice.ensures
+    to_z-of_z {w = w64} (record { sfits = c.twice.type_inv }) ∙ c.twice.ensures
     ∙ ap (λ (x : ℤ). pos 2 *ℤ quot_z x (pos 1000)) (to_z-of_z c.ranges.v)
 
 pub returns-then-is_no_data : goal.returns-then-is_no_data

@@ -17,24 +17,24 @@ overflow_sub-i c = omega arith
 
 pub nonzero_rem-k : goal.nonzero_rem-k
 nonzero_rem-k c =
-    let s = c.before.before.before.before in
+    let s = c in
     omega (arith, (plane s.args.s s.requires.s_value).some)
 
 pub bounds-flags-i : goal.bounds-flags-i
 bounds-flags-i c =
-    let l = c.before.before.before in
-    let s = l.before.before.before in
+    let l = c in
+    let s = l in
     omega (arith, mod-le (l.loop-i.i - 1) (s.args.s.nx * s.args.s.ny), l.loop-i.invariant.few, l.loop-i.invariant.long, c.loop-i-test.true)
 
 pub cell_wall-requires : goal.cell_wall-requires
 cell_wall-requires c =
-    let l = c.before.before.before in
-    let s = l.before.before.before in 
+    let l = c in
+    let s = l in 
     record { s_value = s.requires.s_value; c_bound = omega (arith, l.loop-i.invariant.few, cells-few s.args.s _ s.requires.s_value s.requires.flags_len) }
 
 pub bounds-flags-i-in-loop-i : goal.bounds-flags-i-in-loop-i
 bounds-flags-i-in-loop-i c =
-    let l = c.before.before.before in
+    let l = c in
     omega (arith, l.loop-i.invariant.few, l.loop-i.invariant.long, c.loop-i-test.true)
 
 pub loop-i-smaller : goal.loop-i-smaller
@@ -42,7 +42,7 @@ loop-i-smaller c = omega arith
 
 pub loop-i-preserved : goal.loop-i-preserved
 loop-i-preserved c =
-    let l = c.before.before.before in
+    let l = c in
     spread-more _ c.loop-i-test.true l.loop-i.invariant c.cell_wall.ensures
 
 pub shape_of-flags : goal.shape_of-flags

@@ -11,7 +11,7 @@ use Rattle.solids.proofs.walls.twice.Goals as goal
 
 -- what the units are
 units-told : (c : goal.After-units) → to_z w64 (of_z w64 c.units.result) ≡ quot_z c.args.v (pos 1000)
-units-told c = to_z-of_z (record { sfits = c.units.type_inv }) ∙ c.units.ensures ∙ ap (λ (x : ℤ). quot_z x (pos 1000)) (to_z-of_z c.ranges.v)
+units-told c = to_z-of_z {w = w64} (record { sfits = c.units.type_inv }) ∙ c.units.ensures ∙ ap (λ (x : ℤ). quot_z x (pos 1000)) (to_z-of_z c.ranges.v)
 
 pub overflow_mul-result : goal.overflow_mul-result
 overflow_mul-result c = subst (λ (x : ℤ). SFits w64 (pos 2 *ℤ x)) (sym (units-told c)) (twice-fits _ c.ranges.v)

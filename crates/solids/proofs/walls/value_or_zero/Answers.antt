@@ -8,7 +8,7 @@ use borrow.Author.Rules.{rules}
 use Rattle.solids.proofs.walls.value_or_zero.Goals as goal
 
 held : (c : goal.In-Thousandths) → to_z w64 (of_z w64 c.in-Thousandths.z) ≡ c.in-Thousandths.z
-held c = to_z-of_z (record { sfits = c.in-Thousandths.known_told-1-own.given.0.1 })
+held c = to_z-of_z {w = w64} (record { sfits = c.in-Thousandths.known_told-1-own.given.0.1 })
 
 pub returns-in_default : goal.returns-in_default
 returns-in_default c = ap or_zero (sym c.in_default.is)

@@ -18,12 +18,12 @@ solid-requires c =  record { edge_bound = c.requires.edge_bound; z_bound = omega
 
 pub returns-then-not-solid : goal.returns-then-not-solid
 returns-then-not-solid c =
-    let l = c.before.before.before in
+    let l = c in
     rise-stop l.loop-z.invariant c.loop-z-test.true (sym c.solid.ensures ∙ not-true _ c.if-not-solid.true-raw) ∙ ap (height_of _ _) (to_z-of_z l.ranges.v)
 
 pub loop-z-preserved : goal.loop-z-preserved
 loop-z-preserved c =
-    let l = c.before.before.before in
+    let l = c in
     rise-more l.loop-z.invariant c.loop-z-test.true (sym c.solid.ensures ∙ not-false _ c.if-not-solid.false-raw)
 
 pub returns : goal.returns

@@ -36,7 +36,7 @@ loop-c-smaller c = omega arith
 
 pub loop-c-preserved : goal.loop-c-preserved
 loop-c-preserved c =
-    let l = c.before.before.before in
+    let l = c in
     let a = l.args in
     (omega arith, ap (λ (o : List ℕ). set o (a.at + l.loop-c.c) (get_or a.bytes.now l.loop-c.c 0)) l.loop-c.invariant.1 ∙ copy-turn a.room.now a.bytes.now a.at l.loop-c.c c.loop-c-test.true)
 

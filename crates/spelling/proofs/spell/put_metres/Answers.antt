@@ -29,34 +29,34 @@ sign c = sign-told c.put_sign-whole.ensures (to_z-of_z c.ranges.z)
 
 pub put_sign-whole-requires : goal.put_sign-whole-requires
 put_sign-whole-requires c =
-    let s = c.before.before.before in
+    let s = c in
     omega (arith, metres-long s.args.z, ap (λ (x : ℤ). length (sign_of x)) (to_z-of_z s.ranges.z))
 
 pub put_number-point-requires : goal.put_number-point-requires
 put_number-point-requires c =
-    let g = c.before.before.before in
-    let s = g.before.before.before.before in
-    omega (arith, metres-long s.args.z, (sign g).end, put-long (sign g), ap (λ (n : ℕ). length (spell_of (n / 1000))) (size g.before.before))
+    let g = c in
+    let s = g in
+    omega (arith, metres-long s.args.z, (sign g.before.before.before).end, put-long (sign g.before.before.before), ap (λ (n : ℕ). length (spell_of (n / 1000))) (size g.before.before.before.before.before))
 
 pub put_byte-decimals-requires : goal.put_byte-decimals-requires
 put_byte-decimals-requires c =
-    let n = c.before.before.before in
-    let g = n.before.before.before.before in
-    let s = g.before.before.before.before in
-    omega (arith, metres-long s.args.z, (sign g).end, put-long (sign g), ap (λ (n : ℕ). length (spell_of (n / 1000))) (size g.before.before), n.put_number-point.ensures.end, put-long n.put_number-point.ensures)
+    let n = c in
+    let g = n in
+    let s = g in
+    omega (arith, metres-long s.args.z, (sign g.before.before.before.before.before.before.before).end, put-long (sign g.before.before.before.before.before.before.before), ap (λ (n : ℕ). length (spell_of (n / 1000))) (size g.before.before.before.before.before.before.before.before.before), n.put_number-point.ensures.end, put-long n.put_number-point.ensures)
 
 pub put_digits-requires : goal.put_digits-requires
 put_digits-requires c =
-    let b = c.before.before.before in
-    let n = b.before.before.before.before in
-    let g = n.before.before.before.before in
-    let s = g.before.before.before.before in
-    omega (arith, metres-long s.args.z, (sign g).end, put-long (sign g), ap (λ (n : ℕ). length (spell_of (n / 1000))) (size g.before.before), n.put_number-point.ensures.end, put-long n.put_number-point.ensures, b.put_byte-decimals.ensures.end, put-long b.put_byte-decimals.ensures)
+    let b = c in
+    let n = b in
+    let g = n in
+    let s = g in
+    omega (arith, metres-long s.args.z, (sign g.before.before.before.before.before.before.before.before.before.before.before).end, put-long (sign g.before.before.before.before.before.before.before.before.before.before.before), ap (λ (n : ℕ). length (spell_of (n / 1000))) (size g.before.before.before.before.before.before.before.before.before.before.before.before.before), n.put_number-point.ensures.end, put-long n.put_number-point.ensures, b.put_byte-decimals.ensures.end, put-long b.put_byte-decimals.ensures)
 
 pub returns : goal.returns
 returns c =
-    let d = c.before.before.before in
-    let b = d.before.before.before.before in
-    let n = b.before.before.before.before in
-    let g = n.before.before.before.before in
-    metres-put _ (size g.before.before) (sign g) n.put_number-point.ensures b.put_byte-decimals.ensures d.put_digits.ensures
+    let d = c in
+    let b = d in
+    let n = b in
+    let g = n in
+    metres-put _ (size g.before.before.before.before.before.before.before.before.before.before.before.before.before.before.before.before.before) (sign g.before.before.before.before.before.before.before.before.before.before.before.before.before.before.before) n.put_number-point.ensures b.put_byte-decimals.ensures d.put_digits.ensures

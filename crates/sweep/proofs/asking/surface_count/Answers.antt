@@ -35,5 +35,5 @@ how_many-requires c = asked _ c.args.words.now (sides-good c.before.before.befor
 
 pub returns : goal.returns
 returns c =
-    let d = c.before.before in
-    count-told _ _ (sides-good d.before.before.before) _ d.cells-n.ensures _ d.words_of.ensures d.if-words-words_of.false _ c.how_many.ensures
+    let d = c in
+    count-told _ _ (sides-good d.before.before.before.before.before) _ d.cells-n.ensures _ d.words_of.ensures d.if-words-words_of.false _ c.how_many.ensures

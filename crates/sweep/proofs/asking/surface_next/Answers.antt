@@ -33,26 +33,26 @@ returns-then-words-words_of c = next-length _ _ _ (sides-good c.before.before.be
 
 pub returns-then-start-n : goal.returns-then-start-n
 returns-then-start-n c =
-    let d = c.before.before in
-    next-outside _ d.args.words.now _ (sides-good d.before.before.before) _ d.cells-n.ensures _ d.words_of.ensures d.if-words-words_of.false c.if-start-n.true
+    let d = c in
+    next-outside _ d.args.words.now _ (sides-good d.before.before.before.before.before) _ d.cells-n.ensures _ d.words_of.ensures d.if-words-words_of.false c.if-start-n.true
 
 pub returns-then-start-n-2 : goal.returns-then-start-n-2
 returns-then-start-n-2 c =
-    let d = c.before.before.before in
-    next-end _ d.args.words.now _ (sides-good d.before.before.before) _ d.cells-n.ensures _ d.words_of.ensures d.if-words-words_of.false c.if-start-n-2.true
+    let d = c in
+    next-end _ d.args.words.now _ (sides-good d.before.before.before.before.before.before) _ d.cells-n.ensures _ d.words_of.ensures d.if-words-words_of.false c.if-start-n-2.true
 
 pub seek-seen-requires : goal.seek-seen-requires
 seek-seen-requires c =
-    let d = c.before.before.before in
-    let q = asked _ d.args.words.now (sides-good d.before.before.before) _ d.cells-n.ensures _ d.words_of.ensures d.if-words-words_of.false in
+    let d = c in
+    let q = asked _ d.args.words.now (sides-good d.before.before.before.before.before.before) _ d.cells-n.ensures _ d.words_of.ensures d.if-words-words_of.false in
     (q.0, q.1, lt_of_le-ne c.if-start-n.false c.if-start-n-2.false)
 
 pub returns-then-cell-n : goal.returns-then-cell-n
 returns-then-cell-n c =
-    let d = c.before.before.before.before.before in
-    next-found _ d.args.words.now _ (sides-good d.before.before.before) _ d.cells-n.ensures _ d.words_of.ensures d.if-words-words_of.false _ _ c.if-start-n.false c.seek-seen.ensures c.if-cell-n.true
+    let d = c in
+    next-found _ d.args.words.now _ (sides-good d.before.before.before.before.before.before.before.before) _ d.cells-n.ensures _ d.words_of.ensures d.if-words-words_of.false _ _ c.if-start-n.false c.seek-seen.ensures c.if-cell-n.true
 
 pub returns : goal.returns
 returns c =
-    let d = c.before.before.before.before.before in
-    next-none _ d.args.words.now _ (sides-good d.before.before.before) _ d.cells-n.ensures _ d.words_of.ensures d.if-words-words_of.false _ _ c.if-start-n.false c.seek-seen.ensures c.if-cell-n.false
+    let d = c in
+    next-none _ d.args.words.now _ (sides-good d.before.before.before.before.before.before.before.before) _ d.cells-n.ensures _ d.words_of.ensures d.if-words-words_of.false _ _ c.if-start-n.false c.seek-seen.ensures c.if-cell-n.false

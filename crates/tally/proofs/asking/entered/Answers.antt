@@ -35,11 +35,11 @@ sides-good d = sym d.good_sides.ensures ∙ not-false _ d.if-not-good_sides.fals
 -- test 2 has passed
 lengths-good : (d : At-Else-not-set-marks) → lengths d.args.s (set d.before.before.before.before.before.before.before.before.before.before) (space d.before.before.before.before.before.before.before.before.before.before) ≡ true
 lengths-good d =
-    let w = d.before.before.before.before.before.before.before.before.before.before in
-    sym (lengths-told w.args.s (set w) (space w) d.cells-n.ensures d.three_lengths-set.ensures) ∙ not-false _ d.if-not-set-marks.false-raw
+    let w = d in
+    sym (lengths-told w.args.s (set w.before.before.before.before.before.before.before.before.before.before) (space w.before.before.before.before.before.before.before.before.before.before) d.cells-n.ensures d.three_lengths-set.ensures) ∙ not-false _ d.if-not-set-marks.false-raw
 
 pub returns-then-not-good_sides : goal.returns-then-not-good_sides
-returns-then-not-good_sides c = let w = c.before.before.before.before.before.before.before.before in refuses-sides w.args.s (set w) (space w) (sym c.good_sides.ensures ∙ not-true _ c.if-not-good_sides.true-raw)
+returns-then-not-good_sides c = let w = c in refuses-sides w.args.s (set w.before.before.before.before.before.before.before.before) (space w.before.before.before.before.before.before.before.before) (sym c.good_sides.ensures ∙ not-true _ c.if-not-good_sides.true-raw)
 
 pub cells-n-requires : goal.cells-n-requires
 cells-n-requires c = sides-good c.before
@@ -50,11 +50,11 @@ three_lengths-set-requires c = omega (arith, c.cells-n.ensures, (good-sides _ (s
 
 pub returns-then-not-set-marks : goal.returns-then-not-set-marks
 returns-then-not-set-marks c =
-    let w = c.before.before.before.before.before.before.before.before.before.before.before in
-    refuses-lengths w.args.s (set w) (space w) (sides-good c.before.before.before.before) (sym (lengths-told w.args.s (set w) (space w) c.cells-n.ensures c.three_lengths-set.ensures) ∙ not-true _ c.if-not-set-marks.true-raw)
+    let w = c in
+    refuses-lengths w.args.s (set w.before.before.before.before.before.before.before.before.before.before.before) (space w.before.before.before.before.before.before.before.before.before.before.before) (sides-good c.before.before.before.before) (sym (lengths-told w.args.s (set w.before.before.before.before.before.before.before.before.before.before.before) (space w.before.before.before.before.before.before.before.before.before.before.before) c.cells-n.ensures c.three_lengths-set.ensures) ∙ not-true _ c.if-not-set-marks.true-raw)
 
 pub checked-requires : goal.checked-requires
-checked-requires c = let w = c.before.before.before.before.before.before.before.before.before.before.before in (sides-good c.before.before.before.before, set-lengths w.args.s (set w) (space w) (lengths-good c.before))
+checked-requires c = let w = c in (sides-good c.before.before.before.before, set-lengths w.args.s (set w.before.before.before.before.before.before.before.before.before.before.before) (space w.before.before.before.before.before.before.before.before.before.before.before) (lengths-good c.before))
 
 pub returns : goal.returns
-returns c = let w = c.before.before.before.before.before.before.before.before.before.before.before.before in c.checked.ensures ∙ then-tested w.args.s (set w) (space w) (sides-good c.before.before.before.before.before) (lengths-good c.before.before)
+returns c = let w = c in c.checked.ensures ∙ then-tested w.args.s (set w.before.before.before.before.before.before.before.before.before.before.before.before) (space w.before.before.before.before.before.before.before.before.before.before.before.before) (sides-good c.before.before.before.before.before) (lengths-good c.before.before)

@@ -34,27 +34,27 @@ module _ (d : At-In_default) where
   pass = has-passed w.args.s (set w) (space w) ok
 
 pub returns-in-Refused : goal.returns-in-Refused
-returns-in-Refused c = let t = c.before.before.before.before.before.before.before.before.before.before.before.before.before.before in refused t.args.s (set t) (space t) (sym c.in-Refused.is ∙ c.entered-a.ensures)
+returns-in-Refused c = let t = c in refused t.args.s (set t.before.before.before.before.before.before.before.before) (space t.before.before.before.before.before.before.before.before) (sym c.in-Refused.is ∙ c.entered-a.ensures)
 
 pub flood-n-requires : goal.flood-n-requires
 flood-n-requires c =
-    let d = c.before.before.before in
-    (flagged (w d).args.s (set (w d)) (space (w d)) (pass d), (pass d).marks-1, (pass d).work-1)
+    let d = c in
+    (flagged (w d.before.before.before).args.s (set (w d.before.before.before)) (space (w d.before.before.before)) (pass d.before.before.before), (pass d.before.before.before).marks-1, (pass d.before.before.before).work-1)
 
 pub returns-then-counts-n : goal.returns-then-counts-n
 returns-then-counts-n c =
-    let d = c.before.before.before.before.before.before.before.before.before.before.before.before.before.before.before.before.before in
+    let d = c in
     let f = c.flood-n.ensures in
-    too_many (w d).args.s (set (w d)) (space (w d)) (pass d) (ok d) f.number_is c.if-counts-n.true
-    (cleared c.clear-then-counts-n.ensures (marks-size f)) (cleared c.clear.ensures (f.size ∙ (pass d).work-1))
+    too_many (w d.before.before.before.before.before.before.before.before.before.before.before.before.before.before.before.before.before).args.s (set (w d.before.before.before.before.before.before.before.before.before.before.before.before.before.before.before.before.before)) (space (w d.before.before.before.before.before.before.before.before.before.before.before.before.before.before.before.before.before)) (pass d.before.before.before.before.before.before.before.before.before.before.before.before.before.before.before.before.before) (ok d.before.before.before.before.before.before.before.before.before.before.before.before.before.before.before.before.before) f.number_is c.if-counts-n.true
+    (cleared c.clear-then-counts-n.ensures (marks-size f)) (cleared c.clear.ensures (f.size ∙ (pass d.before.before.before.before.before.before.before.before.before.before.before.before.before.before.before.before.before).work-1))
 
 pub tally-requires : goal.tally-requires
 tally-requires c =
-    let d = c.before.before.before.before.before.before.before.before.before.before.before.before.before.before.before.before in
-    may-list (w d).args.s (set (w d)) (space (w d)) (pass d) c.flood-n.ensures c.if-counts-n.false
+    let d = c in
+    may-list (w d.before.before.before.before.before.before.before.before.before.before.before.before.before.before.before).args.s (set (w d.before.before.before.before.before.before.before.before.before.before.before.before.before.before.before)) (space (w d.before.before.before.before.before.before.before.before.before.before.before.before.before.before.before)) (pass d.before.before.before.before.before.before.before.before.before.before.before.before.before.before.before) c.flood-n.ensures c.if-counts-n.false
 
 pub returns : goal.returns
 returns c =
-    let d = c.before.before.before.before.before.before.before.before.before.before.before.before.before.before.before.before.before.before.before.before in
+    let d = c in
     let f = c.flood-n.ensures in
-    accepted (w d).args.s (set (w d)) (space (w d)) (pass d) f c.if-counts-n.false (ok d) (cleared c.clear.ensures (f.size ∙ (pass d).work-1)) c.tally.ensures
+    accepted (w d.before.before.before.before.before.before.before.before.before.before.before.before.before.before.before.before.before.before.before).args.s (set (w d.before.before.before.before.before.before.before.before.before.before.before.before.before.before.before.before.before.before.before)) (space (w d.before.before.before.before.before.before.before.before.before.before.before.before.before.before.before.before.before.before.before)) (pass d.before.before.before.before.before.before.before.before.before.before.before.before.before.before.before.before.before.before.before) f c.if-counts-n.false (ok d.before.before.before.before.before.before.before.before.before.before.before.before.before.before.before.before.before.before.before) (cleared c.clear.ensures (f.size ∙ (pass d.before.before.before.before.before.before.before.before.before.before.before.before.before.before.before.before.before.before.before).work-1)) c.tally.ensures

@@ -40,6 +40,6 @@ shape_of-waters c = c.loop-k.invariant.1.waters-size
 
 pub returns : goal.returns
 returns c =
-    let l = c.before in
+    let l = c in
     let e : l.loop-k.k ≡ l.args.n = omega (arith, l.loop-k.invariant.0, c.loop-k-test.false) in
     subst (λ (k : ℕ). Emptied l.args.n k l.args.counts.now l.args.waters.now l.loop-k.counts l.loop-k.waters) e l.loop-k.invariant.1

@@ -22,11 +22,11 @@ At-After-number-k = lts.After-number tie.the-claims reads.Pre reads.Post
 -- the entry of the mark
 entry : (c : At-After-number-k) → Entry c.args.counts.now c.args.waters.now (c.number-k.result - 1)
 entry c =
-    let a = c.before.before.before in
+    let a = c in
     subst (λ (k : ℕ). Entry a.args.counts.now a.args.waters.now (k - 1)) (sym c.number-k.ensures) (a.requires.entry c.if-m-eq0.false)
 
 pub returns-then-m-eq0 : goal.returns-then-m-eq0
-returns-then-m-eq0 c = let a = c.before.before.before in join-none a.args.counts.now a.args.waters.now a.args.m a.args.mass c.if-m-eq0.true
+returns-then-m-eq0 c = let a = c in join-none a.args.counts.now a.args.waters.now a.args.m a.args.mass c.if-m-eq0.true
 
 pub bounds-counts-k : goal.bounds-counts-k
 bounds-counts-k c = (entry c.before.before).counted
@@ -48,8 +48,8 @@ bounds-waters-k c = (entry c.before.before.before).weighed
 
 pub returns : goal.returns
 returns c =
-    let n = c.before.before.before in
-    let a = n.before.before.before in
+    let n = c in
+    let a = n in
     let stored : to_z w64 (of_z w64 (get_or a.args.waters.now (n.number-k.result - 1) (pos 0))) ≡ get_or a.args.waters.now (n.number-k.result - 1) (pos 0)
     = to_z-of_z (sfits_of {w = w64} c.plus-arg-1.given) in
     join-at a.args.counts.now a.args.waters.now a.args.m a.args.mass (n.number-k.result - 1) _ n.if-m-eq0.false (ap (λ (k : ℕ). k - 1) n.number-k.ensures)

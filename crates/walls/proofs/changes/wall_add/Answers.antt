@@ -22,12 +22,12 @@ abbrev other : At-Start → Lent
 other w = lent w.args.own2.now w.args.parts2.now w.args.masses2.now w.args.fills2.now w.args.carry2.now
 
 pub returns-in-Refused : goal.returns-in-Refused
-returns-in-Refused c = let w = c.before.before.before.before.before.before.before.before.before.before.before in change-refused w.args.s w.args.map.now (asker w) (other w) true w.args.c (sym c.in-Refused.is ∙ c.answered-a.ensures)
+returns-in-Refused c = let w = c in change-refused w.args.s w.args.map.now (asker w.before.before.before.before.before.before.before.before) (other w.before.before.before.before.before.before.before.before) true w.args.c (sym c.in-Refused.is ∙ c.answered-a.ensures)
 
 pub bounds-map-c : goal.bounds-map-c
-bounds-map-c c = let w = c.before.before.before.before.before.before.before.before.before.before in
-    let g = granted w.args.s w.args.map.now (asker w) (other w) true w.args.c (sym c.answered-a.ensures ∙ c.in_default.is) in
-    omega (arith, (tells w.args.s w.args.map.now (asker w) true g.own).0.map-size, g.cell)
+bounds-map-c c = let w = c in
+    let g = granted w.args.s w.args.map.now (asker w.before.before.before.before.before.before.before.before) (other w.before.before.before.before.before.before.before.before) true w.args.c (sym c.answered-a.ensures ∙ c.in_default.is) in
+    omega (arith, (tells w.args.s w.args.map.now (asker w.before.before.before.before.before.before.before.before) true g.own).0.map-size, g.cell)
 
 pub returns : goal.returns
-returns c = let w = c.before.before.before.before.before.before.before.before.before.before in change-done w.args.s w.args.map.now (asker w) (other w) true w.args.c (sym c.answered-a.ensures ∙ c.in_default.is)
+returns c = let w = c in change-done w.args.s w.args.map.now (asker w.before.before.before.before.before.before.before.before) (other w.before.before.before.before.before.before.before.before) true w.args.c (sym c.answered-a.ensures ∙ c.in_default.is)

@@ -19,7 +19,7 @@ At-After-liquid_cells = lts.After-liquid_cells tie.the-claims reads.Pre reads.Po
 
 few : (c : At-After-liquid_cells) → c.args.w * c.liquid_cells.result ≤ 19 * 262144
 few c =
-    let d = c.before.before.before.before in
+    let d = c in
     let s = d.args.flags.now in
     let most : c.liquid_cells.result ≤ 262144 = omega (arith, c.liquid_cells.ensures, liquids-most (length s) (flag_of s), d.requires.flags_len_bound) in
     mul-le-mul d.requires.w_bound most
@@ -29,7 +29,7 @@ overflow_mul-w c = record { fits = omega (arith, few c.before) }
 
 pub put_count-requires : goal.put_count-requires
 put_count-requires c =
-    let d = c.before.before.before.before.before in 
+    let d = c in 
     record { at_in_bounds = omega (arith, d.requires.flags_in_bounds); n_bound = omega (arith, few c.before) }
 
 pub returns : goal.returns

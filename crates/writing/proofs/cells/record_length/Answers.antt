@@ -28,7 +28,7 @@ few-interfaces c =
 
 few-parts : (c : At-After-liquid_cells) → c.args.w * c.liquid_cells.result ≤ 19 * 262144
 few-parts c =
-    let d = c.before.before.before in
+    let d = c in
     let s = d.args.flags.now in
     let most : c.liquid_cells.result ≤ 262144 = omega (arith, c.liquid_cells.ensures, liquids-most (length s) (flag_of s), d.requires.flags_len_bound) in
     mul-le-mul d.requires.w_bound most

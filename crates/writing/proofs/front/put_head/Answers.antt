@@ -15,11 +15,11 @@ use Rattle.writing.proofs.front.put_head.Goals as goal
 pub returns : goal.returns
 unfolding bytes_of join site_bytes totals_bytes head_bytes
 returns c =
-    let put_four = c.before.before.before in
-    let put_three = put_four.before.before.before.before in
-    let put_two = put_three.before.before.before.before in
-    let put_one = put_two.before.before.before.before in
-    let d = put_one.before.before.before in
+    let put_four = c in
+    let put_three = put_four in
+    let put_two = put_three in
+    let put_one = put_two in
+    let d = put_one in
     let a = d.args in
     let l = a.room.now in
     let one = section 3 (u32_of a.s.nx ∷ u32_of a.s.ny ∷ u32_of a.s.nz ∷ []) in

@@ -14,7 +14,7 @@ overflow_cast-x c = does-fit (search (machine, w64-in) depth 30 fits 5000) tt
 
 pub returns : goal.returns
 returns c =
-    let d = c.before.before.before.before.before.before in
+    let d = c in
     let a = d.args in
     c.put_i32.ensures
     ∙ ap (λ (z : ℤ). sets a.room.now a.at (i32_of z)) (to_z-of_z w32 _ (overflow_cast-x c.before.before.before.before) ∙ to_z-of_z w64 a.x d.ranges.x)

@@ -13,7 +13,7 @@ use Rattle.writing.proofs.front.put_settings.Goals as goal
 
 pub put_setting-requires-5 : goal.put_setting-requires-5
 put_setting-requires-5 c =
-    let d = c.before.before.before.before.before.before.before.before.before.before.before.before.before.before.before.before.before.before.before.before.before.before.before.before.before.before.before.before in  record { at_in_bounds = omega (
+    let d = c in  record { at_in_bounds = omega (
         arith,
         d.requires.in_bounds,
         c.put_setting-4.auto.0,

@@ -11,11 +11,11 @@ use Rattle.writing.proofs.front.put_totals.Goals as goal
 pub returns : goal.returns
 unfolding bytes_of join totals_bytes
 returns c =
-    let third = c.before.before.before in
-    let second = third.before.before.before.before in
-    let first = second.before.before.before.before in
-    let counted = first.before.before.before.before in
-    let d = counted.before.before.before in
+    let third = c in
+    let second = third in
+    let first = second in
+    let counted = first in
+    let d = counted in
     let a = d.args in
     let l = a.room.now in
     let one = then-signed 8 w64 w64 l 68 72 (u32_of 3) a.carry counted.put_count.ensures first.put_i64.ensures d.ranges.carry.sfits refl in

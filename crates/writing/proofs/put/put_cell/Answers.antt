@@ -53,7 +53,7 @@ loop-k-smaller c = omega arith
 
 pub loop-k-preserved : goal.loop-k-preserved
 loop-k-preserved c =
-    let l = c.before.before.before.before.before.before.before in
+    let l = c in
     let a = l.args in
     let k = l.loop-k.k in (
       omega arith,

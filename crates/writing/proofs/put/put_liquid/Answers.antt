@@ -41,7 +41,7 @@ returns-then-one_liquid-eq0 c =
 
 pub put_cell-requires : goal.put_cell-requires
 put_cell-requires c =
-    let d = c.before.before.before.before in
+    let d = c in
     let a = d.args in
     let is = one a.flag (λ e. c.if-one_liquid-eq0.false (c.one_liquid.ensures ∙ e)) in
     let room : a.at + 4 * a.w * 1 ≤ length a.room.now = subst (λ (k : ℕ). a.at + 4 * a.w * k ≤ length a.room.now) is d.requires.flag_in_bounds in 
@@ -49,7 +49,7 @@ put_cell-requires c =
 
 pub returns : goal.returns
 returns c =
-    let d = c.before.before.before.before.before.before in
+    let d = c in
     let a = d.args in
     c.put_cell.ensures
     ∙ sym (ap (sets a.room.now a.at) (some a.flag (bytes a.w a.parts.now a.from) (λ e. c.if-one_liquid-eq0.false (d.one_liquid.ensures ∙ e))))

@@ -39,7 +39,7 @@ long c =
 inside : (c : At-In-loop-c)
     → c.loop-c.at + 4 * cond (eqb (get_or c.args.flags.now c.loop-c.c 0) 1) 1 0 ≤ length c.args.room.now
 inside c =
-    let l = c.before in
+    let l = c in
     let s = l.args.flags.now in
     omega (arith, interfaces-more s l.loop-c.c c.loop-c-test.true, interfaces-le (l.loop-c.c + 1) (length s) (flag_of s) (omega arith), l.requires.flags_in_bounds)
 
@@ -73,7 +73,7 @@ loop-c-smaller c = omega arith
 
 pub loop-c-preserved : goal.loop-c-preserved
 loop-c-preserved c =
-    let l = c.before.before.before.before.before.before.before.before.before in
+    let l = c in
     let a = l.args in
     let s = a.flags.now in
     let k = l.loop-c.c in

@@ -38,7 +38,7 @@ long c =
 inside : (c : At-In-loop-c)
     → c.loop-c.at + 4 * c.args.w * cond (liquid (get_or c.args.flags.now c.loop-c.c 0)) 1 0 ≤ length c.args.room.now
 inside c =
-    let l = c.before in
+    let l = c in
     let a = l.args in
     let s = a.flags.now in
     let most : 4 * a.w * liquids (l.loop-c.c + 1) (flag_of s) ≤ 4 * a.w * liquids (length s) (flag_of s) =
@@ -52,10 +52,10 @@ among c = mul-le-mul (let w = c.args.w in let z : w ≤ w = omega arith in z) (l
 
 -- the place of the next cell's parts
 next : (c : At-After-one_liquid)
-    → let l = c.before.before.before.before.before.before.before in let a = l.args in
+    → let l = c in let a = l.args in
     l.loop-c.at + 4 * a.w * c.one_liquid.result ≤ length a.room.now
 next c =
-    let l = c.before.before.before.before.before.before.before in
+    let l = c in
     let a = l.args in
     subst (λ (k : ℕ). l.loop-c.at + 4 * a.w * k ≤ length a.room.now) (sym c.one_liquid.ensures) (inside c.before.before.before.before.before.before)
 
@@ -90,7 +90,7 @@ loop-c-smaller c = omega arith
 
 pub loop-c-preserved : goal.loop-c-preserved
 loop-c-preserved c =
-    let l = c.before.before.before.before.before.before.before.before in
+    let l = c in
     let a = l.args in
     let s = a.flags.now in
     let k = l.loop-c.c in

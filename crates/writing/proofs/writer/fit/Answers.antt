@@ -45,29 +45,29 @@ two d = or_refuse (three_lengths (cells_of d.args.s) (set d)) 2 0 (three d)
 sided : (c : At-Else-not-good_sides) → sides_good c.args.s ≡ true
 sided c = sym c.good_sides.ensures ∙ not-false _ c.if-not-good_sides.false-raw
 
-lengths-are : (c : At-After-three_lengths) → let d = c.before.before.before.before.before.before in c.three_lengths.result ≡ three_lengths (cells_of d.args.s) (set d)
+lengths-are : (c : At-After-three_lengths) → let d = c in c.three_lengths.result ≡ three_lengths (cells_of d.args.s) (set d.before.before.before.before.before.before)
 unfolding three_lengths
-lengths-are c = let d = c.before.before.before.before.before.before in c.three_lengths.ensures ∙ ap (λ (n : ℕ). three_lengths n (set d)) c.cells-n.ensures
+lengths-are c = let d = c in c.three_lengths.ensures ∙ ap (λ (n : ℕ). three_lengths n (set d.before.before.before.before.before.before)) c.cells-n.ensures
 
 pub returns-then-not-good_sides : goal.returns-then-not-good_sides
-returns-then-not-good_sides c = let d = c.before.before.before.before.before in sym (or-fail 1 0 (two d) (sym c.good_sides.ensures ∙ not-true _ c.if-not-good_sides.true-raw))
+returns-then-not-good_sides c = let d = c in sym (or-fail 1 0 (two d.before.before.before.before.before) (sym c.good_sides.ensures ∙ not-true _ c.if-not-good_sides.true-raw))
 
 pub cells-n-requires : goal.cells-n-requires
 cells-n-requires c = sided c.before
 
 pub three_lengths-requires : goal.three_lengths-requires
 unfolding cells_of
-three_lengths-requires c = let d = c.before.before.before.before.before.before in omega (arith, c.cells-n.ensures, (good-sides d.args.s (sided c.before.before)).all)
+three_lengths-requires c = let d = c in omega (arith, c.cells-n.ensures, (good-sides d.args.s (sided c.before.before)).all)
 
 pub returns-then-not-three_lengths : goal.returns-then-not-three_lengths
-returns-then-not-three_lengths c = let d = c.before.before.before.before.before.before.before.before in sym (or-pass 1 0 (two d) (sided c.before.before.before.before) ∙ or-fail 2 0 (three d) (sym (lengths-are c.before.before) ∙ not-true _ c.if-not-three_lengths.true-raw))
+returns-then-not-three_lengths c = let d = c in sym (or-pass 1 0 (two d.before.before.before.before.before.before.before.before) (sided c.before.before.before.before) ∙ or-fail 2 0 (three d.before.before.before.before.before.before.before.before) (sym (lengths-are c.before.before) ∙ not-true _ c.if-not-three_lengths.true-raw))
 
 pub returns-then-not-good_site : goal.returns-then-not-good_site
 returns-then-not-good_site c =
-    let d = c.before.before.before.before.before.before.before.before.before.before in
-    sym (or-pass 1 0 (two d) (sided c.before.before.before.before.before.before)
-    ∙ or-pass 2 0 (three d) (sym (lengths-are c.before.before.before.before) ∙ not-false _ c.if-not-three_lengths.false-raw)
-    ∙ or-fail 3 0 (good d) (sym c.good_site.ensures ∙ not-true _ c.if-not-good_site.true-raw))
+    let d = c in
+    sym (or-pass 1 0 (two d.before.before.before.before.before.before.before.before.before.before) (sided c.before.before.before.before.before.before)
+    ∙ or-pass 2 0 (three d.before.before.before.before.before.before.before.before.before.before) (sym (lengths-are c.before.before.before.before) ∙ not-false _ c.if-not-three_lengths.false-raw)
+    ∙ or-fail 3 0 (good d.before.before.before.before.before.before.before.before.before.before) (sym c.good_site.ensures ∙ not-true _ c.if-not-good_site.true-raw))
 
 pub checked-requires : goal.checked-requires
 checked-requires c =
@@ -75,8 +75,8 @@ checked-requires c =
 
 pub returns : goal.returns
 returns c =
-    let d = c.before.before.before.before.before.before.before.before.before.before.before in
+    let d = c in
     c.checked.ensures
-    ∙ sym (or-pass 1 0 (two d) (sided c.before.before.before.before.before.before.before)
-    ∙ or-pass 2 0 (three d) (sym (lengths-are c.before.before.before.before.before) ∙ not-false _ c.if-not-three_lengths.false-raw)
-    ∙ or-pass 3 0 (good d) (sym c.good_site.ensures ∙ not-false _ c.if-not-good_site.false-raw))
+    ∙ sym (or-pass 1 0 (two d.before.before.before.before.before.before.before.before.before.before.before) (sided c.before.before.before.before.before.before.before)
+    ∙ or-pass 2 0 (three d.before.before.before.before.before.before.before.before.before.before.before) (sym (lengths-are c.before.before.before.before.before) ∙ not-false _ c.if-not-three_lengths.false-raw)
+    ∙ or-pass 3 0 (good d.before.before.before.before.before.before.before.before.before.before.before) (sym c.good_site.ensures ∙ not-false _ c.if-not-good_site.false-raw))
