@@ -67,8 +67,8 @@ cells-preserved c =
     let low = s.args.low in (
       omega arith,
       below_more (λ j. open_at f off low j ≡ false) l.cells.c l.cells.invariant.1
-          (⊎_elim (λ w. shut f off low l.cells.c (λ j h. w.1.inv.2 j (omega (arith, w.2.left))))
-          (λ w. dry f off low l.cells.c w.left) c.if-flags-c-eq2.branch),
+          (⊎_elim (λ w. shut f off low l.cells.c (λ j h. w.loop-i.invariant.2 j (omega (arith, w.loop-i-test.false))))
+          (λ w. dry f off low l.cells.c w.if-flags-c-eq2.false) c.if-flags-c-eq2.branch-raw),
     )
 
 pub returns-after-cells : goal.returns-after-cells

@@ -19,7 +19,7 @@ use Rattle.depths.proofs.long.row_length.Tie as tie
 use Rattle.depths.proofs.long.row_length.Goals as goal
 
 abbrev At-After-whole_length : Type 0
-At-After-whole_length = lts.After-whole_length tie.the-claims reads.Pre reads.Post tie.handed_clauses goal.the-invariant-loop-x goal.the-decreases-loop-x
+At-After-whole_length = lts.After-whole_length tie.the-claims reads.Pre reads.Post goal.the-invariant-loop-x goal.the-decreases-loop-x tie.handed_clauses
 
 value-is : (c : At-After-whole_length)
     → (let l = c in c.whole_length.result ≡ length (whole_of (row l.before.before.before.before.before.before l.loop-x.x)))

@@ -12,10 +12,10 @@ use Rattle.depths.proofs.long.rows_length.Tie as tie
 use Rattle.depths.proofs.long.rows_length.Goals as goal
 
 abbrev At-Start : Type 0
-At-Start = lts.Start tie.the-claims reads.Pre reads.Post tie.handed_clauses goal.the-invariant-loop-y goal.the-decreases-loop-y
+At-Start = lts.Start tie.the-claims reads.Pre reads.Post goal.the-invariant-loop-y goal.the-decreases-loop-y tie.handed_clauses
 
 abbrev At-After-row_length-long : Type 0
-At-After-row_length-long = lts.After-row_length tie.the-claims reads.Pre reads.Post tie.handed_clauses goal.the-invariant-loop-y goal.the-decreases-loop-y
+At-After-row_length-long = lts.After-row_length tie.the-claims reads.Pre reads.Post goal.the-invariant-loop-y goal.the-decreases-loop-y tie.handed_clauses
 
 abbrev map : At-Start → ℕ → ℕ → ℤ
 map w = let a = w.args in depth_at a.s a.edge a.flags.now a.fills.now

@@ -22,7 +22,7 @@ use Rattle.depths.proofs.put.put_row.Tie as tie
 use Rattle.depths.proofs.put.put_row.Goals as goal
 
 abbrev At-After-depth-v : Type 0
-At-After-depth-v = lts.After-depth tie.the-claims reads.Pre reads.Post tie.handed_clauses goal.the-invariant-loop-x goal.the-decreases-loop-x
+At-After-depth-v = lts.After-depth tie.the-claims reads.Pre reads.Post goal.the-invariant-loop-x goal.the-decreases-loop-x tie.handed_clauses
 
 -- the value that is stored, and what stands behind it
 abbrev piece : ℤ → ℕ → List ℕ

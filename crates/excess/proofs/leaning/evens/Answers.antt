@@ -11,7 +11,7 @@ use Rattle.excess.proofs.Readings.{told64}
 use Rattle.excess.proofs.leaning.evens.Goals as goal
 
 pub loop-i-init : goal.loop-i-init
-loop-i-init c = (omega arith, omega arith, refl, none_yet _)
+loop-i-init c = (omega arith, omega arith, refl, none_yet (by_flags c.args.flags.now c.args.off.now c.args.k))
 
 pub overflow_add-k : goal.overflow_add-k
 overflow_add-k c = record { fits = omega (arith, c.requires c.loop-i.i c.loop-i-test.true) }

@@ -24,7 +24,7 @@ dots-d-requires c =
     (looser p.1, looser p.2, looser p.3)
 
 pub loop-i-init : goal.loop-i-init
-loop-i-init c = (omega arith, omega arith, refl, none_yet _)
+loop-i-init c = (omega arith, omega arith, refl, none_yet (by_dots c.args.flags.now c.args.off.now c.args.k c.dots-d.result))
 
 pub overflow_add-k : goal.overflow_add-k
 overflow_add-k c = record { fits = omega (arith, c.requires.0 c.loop-i.i c.loop-i-test.true) }

@@ -109,12 +109,12 @@ loop-c-preserved c =
           (λ j h i e. e ∙ strays-keep a.flags.now (part_of a.parts.now) a.masses.now a.marks.now off low k j (n.before j h i))
           (⊎_elim
           (λ w.
-          let d : At-After-lost-t = record { before = record { before = record { before = b.before.before; if1 = w.0 }; off = w.1 }; lost = w.2 } in
-          ap (to_z w64) w.3 ∙ reads_as (v64 (both d)) tt
+          let d : At-After-lost-t = record { before = record { before = record { before = b.before.before.before; if-m-ne0 = w.if-m-ne0 }; off-1 = w.off-1 }; lost-t = w.lost-t } in
+          ap (to_z w64) w.t-is-bits ∙ reads_as (v64 (both d)) tt
           ∙ strays-more a.flags.now (part_of a.parts.now) a.masses.now a.marks.now off low k l.loop-c.c)
-          (λ w. ap (to_z w64) w.1 ∙ l.loop-c.invariant.1
-          ∙ strays-keep a.flags.now (part_of a.parts.now) a.masses.now a.marks.now off low k l.loop-c.c w.0.left)
-          b.if-m-ne0.branch),
+          (λ w. ap (to_z w64) w.t-is-bits ∙ l.loop-c.invariant.1
+          ∙ strays-keep a.flags.now (part_of a.parts.now) a.masses.now a.marks.now off low k l.loop-c.c w.if-m-ne0.false)
+          b.if-m-ne0.branch-raw),
     )
 
 pub returns : goal.returns

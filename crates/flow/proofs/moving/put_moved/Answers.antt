@@ -110,5 +110,5 @@ returns c flags parts fills off low l e =
     (subst (λ (p : ℤ). k.collided-r.result ≡ tab 19 (collided_part d3q19 after-pulled.pulled-v.result.rho (vec after-pulled.pulled-v.result) p (parts_of s.args.f))) (handed (search) ∙ after-relaxation.relaxation.ensures.0) k.collided-r.ensures.0)
     _ _ _ s.requires.2 after-paste.paste.ensures refl
     (sym a.steady.ensures ∙ not-false _ else1.if-not-steady.false-raw)
-    (to_z-of_z {w = w64} (record { sfits = c.struct_told-1.given.0.1 }))
+    (to_z-of_z {w = w32} (record { sfits = c.struct_told-1.given.0.1 }))
     after-fair.fair.ensures

@@ -99,7 +99,7 @@ gas-same w p q o t = gas_pair w (p t) (q t) (dot (o t) (o t))
 -- what is rebuilt, and the own part
 whole-gas : (c : At-After-gas_pair) →
     let s = c in
-    c.gas_pair.result ≡ gas_pair (spread_lattice.weight s.args.i) (ρ s) (dot (d3q19.e s.args.i) (j s)) (dot (j s) (j s))
+    c.gas_pair.result ≡ gas_pair (spread_lattice.weight s.args.i) (ρ s.before.before.before.before.before.before) (dot (d3q19.e s.args.i) (j s.before.before.before.before.before.before)) (dot (j s.before.before.before.before.before.before) (j s.before.before.before.before.before.before))
 whole-gas c =
     let after-weight9 : At-After-weight9 = search in let s : At-Start = search in
     c.gas_pair.ensures
@@ -109,7 +109,7 @@ whole-gas c =
 
 own-part : (c : At-After-wide) →
     let s = c in
-    c.wide.result ≡ own s s.args.i
+    c.wide.result ≡ own s.before.before.before.before.before.before.before.before s.args.i
 own-part c =
     let after-wide-arg : At-After-wide-arg-1 = search in let s : At-Start = search in
     c.wide.ensures ∙ to_z-of_z (sfits_of {w = w32} after-wide-arg.wide-arg-1.given) ∙ own_is s

@@ -81,14 +81,14 @@ shape_of-marks-then-fair-a c = let after-marks : At-After-marks-1 = search in af
 pub returns-then-fair-a : goal.returns-then-fair-a
 returns-then-fair-a c =
     let d : At-After-slice_known-6-1 = search in
-    let w = turned-level (flat d).level.ensures (turn d).turned9.ensures in
-    finished-fair (start d).pre w (fill d).new-fills9.ensures c.if-fair-a.true
+    let w = turned-level (flat d).level-h.ensures (turn d).turned9-a.ensures in
+    finished-fair (start d).requires w (fill d).new_fills9-b.ensures c.if-fair-a.true
 
 pub judged-requires : goal.judged-requires
 judged-requires c =
     let d : At-After-slice_known-6-1 = search in
-    let w = turned-level (flat d).level.ensures (turn d).turned9.ensures in
-    set-lengths (start d).pre w (fill d).new-fills9.ensures
+    let w = turned-level (flat d).level-h.ensures (turn d).turned9-a.ensures in
+    set-lengths (start d).requires w (fill d).new_fills9-b.ensures
 
 pub shape_of-flags2 : goal.shape_of-flags2
 shape_of-flags2 c = let after-flags2 : At-After-flags2-1 = search in after-flags2.flags2-1.given
@@ -111,5 +111,5 @@ shape_of-marks c = let after-marks : At-After-marks-1 = search in after-marks.ma
 pub returns : goal.returns
 returns c =
     let d : At-After-slice_known-6-1 = search in
-    let w = turned-level (flat d).level.ensures (turn d).turned9.ensures in
-    finished-judged (start d).pre w (fill d).new-fills9.ensures c.judged.ensures
+    let w = turned-level (flat d).level-h.ensures (turn d).turned9-a.ensures in
+    finished-judged (start d).requires w (fill d).new_fills9-b.ensures c.judged.ensures

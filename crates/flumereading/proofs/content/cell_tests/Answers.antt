@@ -71,7 +71,7 @@ abbrev start : At-After-cells-n → At-Start
 start c = c.before.before
 
 there : (c : At-After-cells-n) → let r = (start c).args.rec.now in 68 + flume_cells_in r ≤ length r
-there c = omega (arith, (start c).requires.0.flags.inside)
+there c = omega (arith, (start c).requires.flume_sound.flags.inside)
 
 -- test 5 of its flags
 abbrev before-open : At-After-first_open-open → At-After-cells-n

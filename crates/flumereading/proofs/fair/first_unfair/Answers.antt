@@ -22,10 +22,10 @@ use Rattle.flumereading.proofs.fair.first_unfair.Tie as tie
 use Rattle.flumereading.proofs.fair.first_unfair.Goals as goal
 
 abbrev At-In-loop-c : Type 0
-At-In-loop-c = lts.In-loop tie.the-claims reads.Pre reads.Post tie.handed_clauses goal.the-invariant-loop-c goal.the-decreases-loop-c
+At-In-loop-c = lts.In-loop tie.the-claims reads.Pre reads.Post goal.the-invariant-loop-c goal.the-decreases-loop-c tie.handed_clauses
 
 abbrev At-After-fair_cell : Type 0
-At-After-fair_cell = lts.After-fair_cell tie.the-claims reads.Pre reads.Post tie.handed_clauses goal.the-invariant-loop-c goal.the-decreases-loop-c
+At-After-fair_cell = lts.After-fair_cell tie.the-claims reads.Pre reads.Post goal.the-invariant-loop-c goal.the-decreases-loop-c tie.handed_clauses
 
 -- this cell's numbers are in the record
 masses-inside : (c : At-In-loop-c)

@@ -24,7 +24,7 @@ use Rattle.flumereading.proofs.load.load_parts.Tie as tie
 use Rattle.flumereading.proofs.load.load_parts.Goals as goal
 
 abbrev At-After-shared_slice_known-in-loop-m-1 : Type 0
-At-After-shared_slice_known-in-loop-m-1 = lts.After-shared_slice_known3 tie.the-claims reads.Pre reads.Post goal.the-invariant-loop-m goal.the-decreases-loop-m
+At-After-shared_slice_known-in-loop-m-1 = lts.After-shared_slice_known3 tie.the-claims reads.Pre reads.Post goal.the-invariant-loop-m goal.the-decreases-loop-m tie.handed_clauses
 
 -- the parts up to this cell, this one's too, are in the record
 here : (c : At-After-shared_slice_known-in-loop-m-1) → c.loop-m.m / 9 < length c.args.flags.now

@@ -65,7 +65,7 @@ pub tried-a-requires : goal.tried-a-requires
 tried-a-requires c = let the-start : At-Start = search in the-start.requires
 
 pub copied-requires : goal.copied-requires
-copied-requires c = let d : At-After-tried-a = search in alike-sized (start d).pre.entered.ready.sized d.tried-a.ensures.sized
+copied-requires c = let d : At-After-tried-a = search in alike-sized (start d).requires.entered.ready.sized d.tried-a.ensures.sized
 
 pub shape_of-flags2-in-Refused : goal.shape_of-flags2-in-Refused
 shape_of-flags2-in-Refused c = let after-flags22 : At-After-flags2-in-Refused-1 = search in let after-flags2 : At-After-flags2-1 = search in after-flags22.flags2-in-Refused-1.given ∙ after-flags2.flags2-1.given

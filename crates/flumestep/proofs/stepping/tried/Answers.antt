@@ -74,7 +74,7 @@ flowing9-a-requires c = let after-level : At-After-level-h = search in let after
 pub finished-requires : goal.finished-requires
 finished-requires c =
     let after-a2 : At-In-Through-2 = search in let after-flowing9 : At-After-flowing9-a = search in
-    finishing (entry after-flowing9).pre.entered (levelled after-flowing9).level.ensures after-flowing9.flowing9-a.ensures _ _ after-a2.in-Through.is
+    finishing (entry after-flowing9).requires.entered (levelled after-flowing9).level-h.ensures after-flowing9.flowing9-a.ensures _ _ after-a2.in-Through.is
 
 pub shape_of-flags2-in-Stopped : goal.shape_of-flags2-in-Stopped
 shape_of-flags2-in-Stopped c = refl

@@ -72,7 +72,7 @@ module _ (d : At-At-loop-k) where
   first-same = alike-sized (entry d).requires.ready.sized d.loop-k.invariant.1.first
 
   second-same : Alike (lent (entry d).args.flags2.now (entry d).args.parts2.now (entry d).args.masses2.now (entry d).args.fills2.now (entry d).args.carry2.now) (lent d.loop-k.flags2 d.loop-k.parts2 d.loop-k.masses2 d.loop-k.fills2 d.loop-k.carry2)
-  second-same = alike-sized (entry d).pre.second d.loop-k.invariant.1.second
+  second-same = alike-sized (entry d).requires.second d.loop-k.invariant.1.second
 
 pub loop-k-init : goal.loop-k-init
 loop-k-init c =

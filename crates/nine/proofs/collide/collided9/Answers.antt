@@ -62,7 +62,7 @@ module _ (c : At-After-settled-n) where
   at = c.loop-i.i
 
   abbrev want : ℕ → ℤ
-  want = aimed c.ends9-e.result start.args.f (of_z w32 (to_z w64 (of_z w64 (pos 1024 -ℤ to_z w64 (of_z w64 start.args.p)))))
+  want = aimed c.ends9-e.result start.args.f (to_z w32 (of_z w32 (to_z w64 (of_z w64 (pos 1024 -ℤ to_z w64 (of_z w64 start.args.p))))))
 
   first : c.settled-m.result ≡ want at
   first =
@@ -87,7 +87,7 @@ module _ (c : goal.Else-highest-gt4293918719) where
   first_of = c.before.before.before.before.before.before
 
   abbrev forms : ℕ → ℤ
-  forms = aimed c.ends9-e.result first_of.args.f (of_z w32 (to_z w64 (of_z w64 (pos 1024 -ℤ to_z w64 (of_z w64 first_of.args.p)))))
+  forms = aimed c.ends9-e.result first_of.args.f (to_z w32 (of_z w32 (to_z w64 (of_z w64 (pos 1024 -ℤ to_z w64 (of_z w64 first_of.args.p))))))
 
   abbrev wanted : ℕ → ℤ
   wanted = relaxed_dir spread_lattice first_of.args.v.rho (vec first_of.args.v) first_of.args.p (parts_of first_of.args.f)

@@ -25,8 +25,8 @@ use Rattle.nine.proofs.Lands.{lands}
 use Rattle.nine.proofs.collide.collided9.Given as goal
 
 -- where part j lands, by the ends e
-abbrev pub aimed : List ℕ → List ℤ → ℕ → ℕ → ℤ
-aimed e f c j = landed (get_or e (j - 1) 0) (parts_of f j) (to_z w32 c)
+abbrev pub aimed : List ℕ → List ℤ → ℤ → ℕ → ℤ
+aimed e f c j = landed (get_or e (j - 1) 0) (parts_of f j) c
 
 abbrev pub invariant-loop-i : goal.invariant-loop-i
 invariant-loop-i l = Done (aimed l.e l.f l.c) l.initial.r l.a l.r l.i

@@ -66,7 +66,7 @@ abbrev zx-shared : goal.After-slack-4 → At-After-shared_of-k
 zx-shared c = xz-shared (zx-xz c)
 
 x-is : (c : At-After-slack)
-    → (c.slack.result ≡ both (beyond spread_lattice (x-shared c).before.args.v.rho (vec (x-shared c).before.args.v) (parts_of (x-shared c).before.args.f)) 0) × Within c.slack.result 8388608
+    → (c.slack.result ≡ both (beyond spread_lattice (x-shared c).args.v.rho (vec (x-shared c).args.v) (parts_of (x-shared c).args.f)) 0) × Within c.slack.result 8388608
 x-is c =
     let u = x-shared c in
     let t = tame u.before in let x = t.x in let y = t.y in let z = t.z in
@@ -78,7 +78,7 @@ x-is c =
     )
 
 z-is : (c : At-After-slack-2)
-    → (c.slack-2.result ≡ both (beyond spread_lattice (z-shared c).before.args.v.rho (vec (z-shared c).before.args.v) (parts_of (z-shared c).before.args.f)) 2) × Within c.slack-2.result 8388608
+    → (c.slack-2.result ≡ both (beyond spread_lattice (z-shared c).args.v.rho (vec (z-shared c).args.v) (parts_of (z-shared c).args.f)) 2) × Within c.slack-2.result 8388608
 z-is c =
     let u = z-shared c in
     let t = tame u.before in let x = t.x in let y = t.y in let z = t.z in
@@ -90,7 +90,7 @@ z-is c =
     )
 
 xz-is : (c : At-After-slack-3)
-    → (c.slack-3.result ≡ both (beyond spread_lattice (xz-shared c).before.args.v.rho (vec (xz-shared c).before.args.v) (parts_of (xz-shared c).before.args.f)) 7) × Within c.slack-3.result 8388608
+    → (c.slack-3.result ≡ both (beyond spread_lattice (xz-shared c).args.v.rho (vec (xz-shared c).args.v) (parts_of (xz-shared c).args.f)) 7) × Within c.slack-3.result 8388608
 xz-is c =
     let u = xz-shared c in
     let t = tame u.before in let x = t.x in let y = t.y in let z = t.z in
@@ -102,7 +102,7 @@ xz-is c =
     )
 
 zx-is : (c : goal.After-slack-4)
-    → (c.slack-4.result ≡ both (beyond spread_lattice (zx-shared c).before.args.v.rho (vec (zx-shared c).before.args.v) (parts_of (zx-shared c).before.args.f)) 8) × Within c.slack-4.result 8388608
+    → (c.slack-4.result ≡ both (beyond spread_lattice (zx-shared c).args.v.rho (vec (zx-shared c).args.v) (parts_of (zx-shared c).args.f)) 8) × Within c.slack-4.result 8388608
 zx-is c =
     let u = zx-shared c in
     let t = tame u.before in let x = t.x in let y = t.y in let z = t.z in

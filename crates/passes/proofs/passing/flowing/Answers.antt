@@ -173,7 +173,7 @@ pub either_liquid-requires : goal.either_liquid-requires
 either_liquid-requires c = let h = c.loop-c-test.true in (h, omega (arith, is-cell c.before, (start c.before).requires.flags-room))
 
 pub bounds-marks-c : goal.bounds-marks-c
-bounds-marks-c c = let d : At-In-loop-c = search in let h = is-cell d in omega (arith, d.loop-c.invariant.3, (start d).pre.marks-room)
+bounds-marks-c c = let d : At-In-loop-c = search in let h = is-cell d in omega (arith, d.loop-c.invariant.3, (start d).requires.marks-room)
 
 pub put_parts-o-requires : goal.put_parts-o-requires
 put_parts-o-requires c = putting (search)
@@ -213,10 +213,10 @@ pub offset_bounds-masses2-c : goal.offset_bounds-masses2-c
 offset_bounds-masses2-c c = let h = is-cell (search) in record { fits = omega (arith, few (start (search)).args.s (poise (search)).sides) }
 
 pub bounds-masses2-c : goal.bounds-masses2-c
-bounds-masses2-c c = let d : At-In-loop-c = search in let h = is-cell d in omega (arith, d.loop-c.invariant.2, (start d).pre.masses-room)
+bounds-masses2-c c = let d : At-In-loop-c = search in let h = is-cell d in omega (arith, d.loop-c.invariant.2, (start d).requires.masses-room)
 
 pub bounds-marks-c-then-either_liquid : goal.bounds-marks-c-then-either_liquid
-bounds-marks-c-then-either_liquid c = let d : At-In-loop-c = search in let h = is-cell d in omega (arith, d.loop-c.invariant.3, (start d).pre.marks-room)
+bounds-marks-c-then-either_liquid c = let d : At-In-loop-c = search in let h = is-cell d in omega (arith, d.loop-c.invariant.3, (start d).requires.marks-room)
 
 pub overflow_add-c : goal.overflow_add-c
 overflow_add-c c = let h = is-cell (search) in record { fits = omega (arith, few (start (search)).args.s (poise (search)).sides) }
@@ -256,7 +256,7 @@ loop-c-preserved-then-either_liquid c =
 pub skip_dry-c-requires : goal.skip_dry-c-requires
 skip_dry-c-requires c =
     let d : At-In-loop-c = search in let after-either-liquid : At-After-either_liquid = search in let else1 : At-Else-either_liquid = search in
-    let p = (start d).pre in
+    let p = (start d).requires in
     record {
       is-cell = d.loop-c-test.true;
       dry = sym after-either-liquid.either_liquid.ensures ∙ else1.if-either_liquid.false;

@@ -34,7 +34,7 @@ set w = lent w.args.flags.now w.args.parts.now w.args.masses.now w.args.fills.no
 -- the base has passed
 module _ (d : At-In_default) where
   abbrev w : At-Start
-  w = d.before.before.before.before.before.before
+  w = d.before.before.before.before
 
   ok : good_answer d3q19 (grid_of w.args.s) (state_of 18 (head_of (set w))) Done ≡ Done
   ok = sym d.checked-a.ensures ∙ d.in_default.is

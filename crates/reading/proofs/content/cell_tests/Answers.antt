@@ -81,7 +81,7 @@ low : (c : At-After-flags_at-at) → c.flags_at-at.result ≤ 100
 low c = omega (arith, c.flags_at-at.ensures, totals-few (start c).args.rec.now)
 
 there : (c : At-After-flags_at-at) → let r = (start c).args.rec.now in flags_at r + cells_in r ≤ length r
-there c = omega (arith, (start c).requires.0.flags.inside)
+there c = omega (arith, (start c).requires.sound.flags.inside)
 
 -- test 5 of its flags
 abbrev before-open : At-After-first_open-open → At-After-flags_at-at

@@ -31,10 +31,10 @@ use Rattle.reading.proofs.fair.fair_cell.Tie as tie
 use Rattle.reading.proofs.fair.fair_cell.Goals as goal
 
 abbrev At-After-good_body : Type 0
-At-After-good_body = lts.After-good_body tie.the-claims reads.Pre reads.Post
+At-After-good_body = lts.After-good_body tie.the-claims reads.Pre reads.Post tie.handed_clauses
 
 abbrev At-Else-flag-ne1 : Type 0
-At-Else-flag-ne1 = lts.Else3 tie.the-claims reads.Pre reads.Post
+At-Else-flag-ne1 = lts.Else3 tie.the-claims reads.Pre reads.Post tie.handed_clauses
 
 -- the parts, tested in the array that they were read into
 body : (c : At-After-good_body) → c.good_body.result ≡ body_good d3q19 (λ k. i32_at c.args.rec.now (c.args.p + 4 * k))

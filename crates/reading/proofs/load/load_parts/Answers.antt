@@ -26,7 +26,7 @@ use Rattle.reading.proofs.load.load_parts.Tie as tie
 use Rattle.reading.proofs.load.load_parts.Goals as goal
 
 abbrev At-In-loop-c : Type 0
-At-In-loop-c = lts.In-loop tie.the-claims reads.Pre reads.Post goal.the-invariant-loop-c goal.the-decreases-loop-c
+At-In-loop-c = lts.In-loop tie.the-claims reads.Pre reads.Post goal.the-invariant-loop-c goal.the-decreases-loop-c tie.handed_clauses
 
 -- the parts up to this cell, this one's too, are in the record
 inside : (c : At-In-loop-c)

@@ -19,7 +19,7 @@ use Rattle.reading.proofs.weigh.cell_density.Tie as tie
 use Rattle.reading.proofs.weigh.cell_density.Goals as goal
 
 abbrev At-Else-one_liquid-eq0 : Type 0
-At-Else-one_liquid-eq0 = lts.Else1 tie.the-claims reads.Pre reads.Post
+At-Else-one_liquid-eq0 = lts.Else1 tie.the-claims reads.Pre reads.Post tie.handed_clauses
 
 wet-here : (c : At-Else-one_liquid-eq0) → Dry c.args.flag → ⊥
 wet-here c e = c.if-one_liquid-eq0.false (c.one_liquid.ensures ∙ e)

@@ -34,13 +34,13 @@ use Rattle.reading.proofs.weigh.load_masses.Tie as tie
 use Rattle.reading.proofs.weigh.load_masses.Goals as goal
 
 abbrev At-In-loop-c : Type 0
-At-In-loop-c = lts.In-loop tie.the-claims reads.Pre reads.Post tie.handed_clauses goal.the-invariant-loop-c goal.the-decreases-loop-c
+At-In-loop-c = lts.In-loop tie.the-claims reads.Pre reads.Post goal.the-invariant-loop-c goal.the-decreases-loop-c tie.handed_clauses
 
 abbrev At-After-cell_density-rho : Type 0
-At-After-cell_density-rho = lts.After-cell_density tie.the-claims reads.Pre reads.Post tie.handed_clauses goal.the-invariant-loop-c goal.the-decreases-loop-c
+At-After-cell_density-rho = lts.After-cell_density tie.the-claims reads.Pre reads.Post goal.the-invariant-loop-c goal.the-decreases-loop-c tie.handed_clauses
 
 abbrev At-After-cell_mass-m : Type 0
-At-After-cell_mass-m = lts.After-cell_mass tie.the-claims reads.Pre reads.Post tie.handed_clauses goal.the-invariant-loop-c goal.the-decreases-loop-c
+At-After-cell_mass-m = lts.After-cell_mass tie.the-claims reads.Pre reads.Post goal.the-invariant-loop-c goal.the-decreases-loop-c tie.handed_clauses
 
 abbrev ρ-of : List ℤ → ℕ → ℤ
 ρ-of parts c = density d3q19 (λ k. get_or parts (19 * c + k) (pos 0))

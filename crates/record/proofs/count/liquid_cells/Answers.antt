@@ -22,10 +22,10 @@ abbrev at-loop : At-After-one_liquid-found → At-At-loop-c
 at-loop c = c.before.before.before
 
 one_more : (c : At-After-one_liquid-found)
-    → (at-loop c).loop.found + c.one_liquid-found.result ≡ liquids ((at-loop c).loop.c + 1) (flag_of (at-loop c).before.before.args.flags.now)
+    → (at-loop c).loop-c.found + c.one_liquid-found.result ≡ liquids ((at-loop c).loop-c.c + 1) (flag_of (at-loop c).args.flags.now)
 one_more c =
-    ap₂ (λ (x y : ℕ). x + y) (at-loop c).loop.invariant.1 c.one_liquid-found.ensures
-    ∙ liquids-more (at-loop c).before.before.args.flags.now (at-loop c).loop.c c.loop-c-test.true
+    ap₂ (λ (x y : ℕ). x + y) (at-loop c).loop-c.invariant.1 c.one_liquid-found.ensures
+    ∙ liquids-more (at-loop c).args.flags.now (at-loop c).loop-c.c c.loop-c-test.true
 
 pub loop-c-init : goal.loop-c-init
 unfolding count liquids

@@ -16,7 +16,7 @@ use Rattle.record.proofs.places.later_in.Tie as tie
 use Rattle.record.proofs.places.later_in.Goals as goal
 
 abbrev At-Else-totals_in-ne3 : Type 0
-At-Else-totals_in-ne3 = lts.Else1 tie.the-claims reads.Pre reads.Post
+At-Else-totals_in-ne3 = lts.Else1 tie.the-claims reads.Pre reads.Post tie.handed_clauses
 
 three : (c : At-Else-totals_in-ne3) → totals_in c.args.rec.now ≡ 3
 three c = let e : c.totals_in.result ≡ 3 = omega (arith, c.if-totals_in-ne3.false) in sym c.totals_in.ensures ∙ e

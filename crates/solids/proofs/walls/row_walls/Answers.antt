@@ -9,7 +9,7 @@ use Rattle.solids.proofs.walls.row_walls.Tie as tie
 use Rattle.solids.proofs.walls.row_walls.Goals as goal
 
 abbrev At-After-next_word-w : Type 0
-At-After-next_word-w = lts.After-next_word tie.the-claims reads.Pre reads.Post tie.handed_clauses goal.the-invariant-loop-i goal.the-decreases-loop-i
+At-After-next_word-w = lts.After-next_word tie.the-claims reads.Pre reads.Post goal.the-invariant-loop-i goal.the-decreases-loop-i tie.handed_clauses
 
 -- the word at this turn
 here : (c : At-After-next_word-w) → Found c.args.s.now c.loop-i.p c.next_word-w.result

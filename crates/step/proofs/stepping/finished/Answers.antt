@@ -66,10 +66,10 @@ pub shape_of-marks-then-fair-a : goal.shape_of-marks-then-fair-a
 shape_of-marks-then-fair-a c = let after-marks : At-After-marks-1 = search in after-marks.marks-1.given
 
 pub returns-then-fair-a : goal.returns-then-fair-a
-returns-then-fair-a c = let d : At-After-new_fills-b = search in finished-fair (start d).pre (turn d).turned.ensures d.new_fills-b.ensures c.if-fair-a.true
+returns-then-fair-a c = let d : At-After-new_fills-b = search in finished-fair (start d).requires (turn d).turned-a.ensures d.new_fills-b.ensures c.if-fair-a.true
 
 pub judged-requires : goal.judged-requires
-judged-requires c = let d : At-After-new_fills-b = search in set-lengths (start d).pre (turn d).turned.ensures d.new_fills-b.ensures
+judged-requires c = let d : At-After-new_fills-b = search in set-lengths (start d).requires (turn d).turned-a.ensures d.new_fills-b.ensures
 
 pub shape_of-flags2 : goal.shape_of-flags2
 shape_of-flags2 c = let after-flags2 : At-After-flags2-1 = search in after-flags2.flags2-1.given
@@ -90,4 +90,4 @@ pub shape_of-marks : goal.shape_of-marks
 shape_of-marks c = let after-marks : At-After-marks-1 = search in after-marks.marks-1.given
 
 pub returns : goal.returns
-returns c = let d : At-After-new_fills-b = search in finished-judged (start d).pre (turn d).turned.ensures d.new_fills-b.ensures c.judged.ensures
+returns c = let d : At-After-new_fills-b = search in finished-judged (start d).requires (turn d).turned-a.ensures d.new_fills-b.ensures c.judged.ensures

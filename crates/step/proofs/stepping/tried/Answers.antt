@@ -125,4 +125,4 @@ pub returns-in-Through : goal.returns-in-Through
 returns-in-Through c =
     let after-finished : At-After-finished = search in
     let after-flowing : At-After-flowing-a = search in
-    tried-finished (entry after-flowing).pre.stepping.ready after-finished.finished.ensures
+    tried-finished (entry after-flowing).requires.stepping.ready after-finished.finished.ensures

@@ -13,10 +13,10 @@ use Rattle.writing.proofs.cells.record_length.Tie as tie
 use Rattle.writing.proofs.cells.record_length.Goals as goal
 
 abbrev At-After-interface_cells : Type 0
-At-After-interface_cells = lts.After-interface_cells tie.the-claims reads.Pre reads.Post
+At-After-interface_cells = lts.After-interface_cells tie.the-claims reads.Pre reads.Post tie.handed_clauses
 
 abbrev At-After-liquid_cells : Type 0
-At-After-liquid_cells = lts.After-liquid_cells tie.the-claims reads.Pre reads.Post
+At-After-liquid_cells = lts.After-liquid_cells tie.the-claims reads.Pre reads.Post tie.handed_clauses
 
 few-interfaces : (c : At-After-interface_cells) → c.interface_cells.result ≤ 262144
 few-interfaces c =

@@ -15,7 +15,7 @@ use Rattle.writing.proofs.put.put_cell.Tie as tie
 use Rattle.writing.proofs.put.put_cell.Goals as goal
 
 abbrev At-At-loop-k : Type 0
-At-At-loop-k = lts.At-loop tie.the-claims reads.Pre reads.Post goal.the-invariant-loop-k goal.the-decreases-loop-k
+At-At-loop-k = lts.At-loop tie.the-claims reads.Pre reads.Post goal.the-invariant-loop-k goal.the-decreases-loop-k tie.handed_clauses
 
 -- the room keeps its length
 long : (c : At-At-loop-k) → length c.loop-k.room ≡ length c.args.room.now

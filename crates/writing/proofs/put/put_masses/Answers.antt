@@ -21,10 +21,10 @@ use Rattle.writing.proofs.put.put_masses.Tie as tie
 use Rattle.writing.proofs.put.put_masses.Goals as goal
 
 abbrev At-At-loop-c : Type 0
-At-At-loop-c = lts.At-loop tie.the-claims reads.Pre reads.Post goal.the-invariant-loop-c goal.the-decreases-loop-c
+At-At-loop-c = lts.At-loop tie.the-claims reads.Pre reads.Post goal.the-invariant-loop-c goal.the-decreases-loop-c tie.handed_clauses
 
 abbrev At-In-loop-c : Type 0
-At-In-loop-c = lts.In-loop tie.the-claims reads.Pre reads.Post goal.the-invariant-loop-c goal.the-decreases-loop-c
+At-In-loop-c = lts.In-loop tie.the-claims reads.Pre reads.Post goal.the-invariant-loop-c goal.the-decreases-loop-c tie.handed_clauses
 
 abbrev mass-at : List ℤ → ℕ → ℤ
 mass-at masses c = get_or masses c (pos 0)

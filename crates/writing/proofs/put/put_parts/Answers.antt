@@ -20,13 +20,13 @@ use Rattle.writing.proofs.put.put_parts.Tie as tie
 use Rattle.writing.proofs.put.put_parts.Goals as goal
 
 abbrev At-At-loop-c : Type 0
-At-At-loop-c = lts.At-loop tie.the-claims reads.Pre reads.Post tie.handed_clauses goal.the-invariant-loop-c goal.the-decreases-loop-c
+At-At-loop-c = lts.At-loop tie.the-claims reads.Pre reads.Post goal.the-invariant-loop-c goal.the-decreases-loop-c tie.handed_clauses
 
 abbrev At-In-loop-c : Type 0
-At-In-loop-c = lts.In-loop tie.the-claims reads.Pre reads.Post tie.handed_clauses goal.the-invariant-loop-c goal.the-decreases-loop-c
+At-In-loop-c = lts.In-loop tie.the-claims reads.Pre reads.Post goal.the-invariant-loop-c goal.the-decreases-loop-c tie.handed_clauses
 
 abbrev At-After-one_liquid : Type 0
-At-After-one_liquid = lts.After-one_liquid tie.the-claims reads.Pre reads.Post tie.handed_clauses goal.the-invariant-loop-c goal.the-decreases-loop-c
+At-After-one_liquid = lts.After-one_liquid tie.the-claims reads.Pre reads.Post goal.the-invariant-loop-c goal.the-decreases-loop-c tie.handed_clauses
 
 -- the room keeps its length
 long : (c : At-At-loop-c) → length c.loop-c.room ≡ length c.args.room.now
