@@ -30,7 +30,7 @@ set w = lent w.args.flags.now w.args.parts.now w.args.masses.now w.args.fills.no
 -- the set has passed
 module _ (d : At-In_default) where
   abbrev w : At-Start
-  w = d.before.before.before.before.before.before.before.before
+  w = d.before.before.before.before
 
   ok : three_answer w.args.s (set w) ≡ Done
   ok = sym d.check-a.ensures ∙ d.in_default.is

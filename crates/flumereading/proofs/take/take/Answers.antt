@@ -91,7 +91,7 @@ parts-so c =
 
 -- the carry
 abbrev loaded : At-After-i64_at-kept → At-After-load_parts
-loaded c = c.before.before.before.before.before.before.before.before.before
+loaded c = c.before.before.before.before.before.before.before.before
 
 abbrev first : At-After-i64_at-kept → At-After-slice_known-1
 first c = f (counted (loaded c))

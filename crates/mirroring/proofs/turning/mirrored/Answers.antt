@@ -29,7 +29,7 @@ second w = held (lent w.args.flags2.now w.args.parts2.now w.args.masses2.now w.a
 -- the tests have passed
 module _ (d : At-In_default) where
   abbrev w : At-Start
-  w = d.before.before.before.before.before.before.before.before.before.before.before.before.before.before.before.before
+  w = d.before.before.before.before.before.before.before.before
 
   passed : mirror_answer w.args.s w.args.axis (first w) (second w) ≡ Done
   passed = sym d.entered-a.ensures ∙ d.in_default.is

@@ -102,7 +102,7 @@ parts-so c =
 
 -- the three totals
 abbrev loaded : At-After-i64_at-kept → At-After-load_parts
-loaded c = c.before.before.before.before.before.before.before.before.before
+loaded c = c.before.before.before.before.before.before.before.before
 
 abbrev first : At-After-i64_at-kept → At-After-flags_at-at
 first c = f (counted (loaded c))

@@ -1,4 +1,5 @@
 -- `solids::walls::walls_at`: the number there, and its column. Assumes nothing.
+use mir.Syntax.{w64}
 use Prim.Native.Nat.{◌-◌, ◌≤◌}
 use lib.ListN.{take, drop}
 use Rattle.numerals.specs.Number.{number_of}

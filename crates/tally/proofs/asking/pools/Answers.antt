@@ -25,7 +25,7 @@ space w = room w.args.marks.now w.args.work.now w.args.counts.now w.args.waters.
 -- tests 1 to 6 have passed
 module _ (d : At-In_default) where
   abbrev w : At-Start
-  w = d.before.before.before.before.before.before.before.before.before.before.before.before
+  w = d.before.before.before.before.before.before.before
 
   ok : tested w.args.s (set w) (space w) ≡ Done
   ok = sym d.entered-a.ensures ∙ d.in_default.is
