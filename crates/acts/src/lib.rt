@@ -1,5 +1,6 @@
 // Layer 2, pumps and hoses: the two calls, pour and take, for every input. Knows the promises of grid and pumps.
 #![tactic(auto)]
+
 pub mod answers;
 
 ghost use Rattle.std.specs.Prelude.{◌≡◌, true, false};

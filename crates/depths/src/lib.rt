@@ -1,5 +1,6 @@
 // Layer 2, the depth map: the depths of a grid's water as the text of a height grid. Knows the promises of pumps, columns and spelling.
 #![tactic(auto)]
+
 mod depth;
 mod long;
 mod put;

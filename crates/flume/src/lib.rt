@@ -1,5 +1,6 @@
 // The flume: document 02's second lattice, a section in two dimensions, x along and z up. Knows the promises of lattice and grid.
 #![tactic(auto)]
+
 pub mod extent;
 
 // The sides of a flume, in cells.

@@ -1,5 +1,6 @@
 // Layer 2 of the flume: where its neighbours lie, the tests of a state, and the tests with which a step begins. Knows the promises of grid, flume and nine.
 #![tactic(auto)]
+
 pub mod checking;
 pub mod entry;
 pub mod fill;

@@ -1,5 +1,6 @@
 // The reader of a flume's records. Knows the promises of flumegrid, flumerecord and reading.
 #![tactic(auto)]
+
 mod content;
 mod fair;
 mod load;

@@ -1,5 +1,6 @@
 // The flume's record: what its head gives, and its flags, for reader and writer. Knows the promises of flume and record.
 #![tactic(auto)]
+
 pub mod flags;
 pub mod given;
 

@@ -1,5 +1,6 @@
 // Layer 2, the grid: states, neighbours, the normal. Knows the promises of lattice.
 #![tactic(auto)]
+
 pub mod cells;
 pub mod extent;
 pub mod fill;

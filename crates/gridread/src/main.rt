@@ -11,6 +11,7 @@
 //
 // All requests are read before the record is: if one cannot be, or there is none, standard error says so and nothing else is written.
 #![tactic(auto)]
+
 mod asking;
 mod playing;
 mod telling;

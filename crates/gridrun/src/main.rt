@@ -1,5 +1,6 @@
 // gridrun K: reads one record from standard input, runs K steps, and writes a line and the record of the state reached.
 #![tactic(auto)]
+
 mod asking;
 mod playing;
 

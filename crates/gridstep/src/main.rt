@@ -1,5 +1,6 @@
 // gridstep: reads one record from standard input, makes one step, and prints what the grid held before and after it.
 #![tactic(auto)]
+
 mod telling;
 
 use libc::STDIN_FILENO;

@@ -1,5 +1,6 @@
 // Layer 2, the index: one bit for each cell, set for interface cells, in words of 64. Knows the promises of grid and pumps.
 #![tactic(auto)]
+
 pub mod bits;
 pub mod counting;
 pub mod keeping;

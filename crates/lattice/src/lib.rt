@@ -1,5 +1,6 @@
 // Layer 1, lattice arithmetic: the table of directions, density and momentum, and the rules and fill of one cell. Knows no grid.
 #![tactic(auto)]
+
 pub mod directions;
 pub mod fill;
 pub mod limits;

@@ -1,5 +1,6 @@
 // Layer 2, the reader of grid records. Knows the promises of record.
 #![tactic(auto)]
+
 mod content;
 pub mod fair;
 mod load;

@@ -1,5 +1,6 @@
 // Layer 2, the grid record: its numbers, counts, sections and flags, for reader and writer. Knows the promises of grid.
 #![tactic(auto)]
+
 pub mod count;
 pub mod flags;
 pub mod given;

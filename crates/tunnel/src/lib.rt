@@ -1,5 +1,6 @@
 // Layer 3, tunnel readings: placing and cell point. Knows the promises of grid and lattice.
 #![tactic(auto)]
+
 pub mod answers;
 pub mod cell;
 pub mod exact;

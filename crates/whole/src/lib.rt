@@ -1,5 +1,6 @@
 // Tiny helpers that every layer may call. What this crate is for stands in specs/: the laws of whole numbers.
 #![tactic(auto)]
+
 ghost use Rattle.std.specs.Prelude.{◌≡◌, nat_abs};
 
 // A number in twice its width.

@@ -1,5 +1,4 @@
 -- `acts::pour`: one of the two acts. Assumes nothing.
-use borrow.Author.Rules.{rules}
 use mir.Facts.{to_z-of_z}
 use Rattle.acts.proofs.pour.Goals as goal
 

@@ -1,5 +1,4 @@
 -- `acts::take`: one of the two acts. Assumes nothing.
-use borrow.Author.Rules.{rules}
 use mir.Facts.{to_z-of_z}
 use Rattle.acts.proofs.take.Goals as goal
 

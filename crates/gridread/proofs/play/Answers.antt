@@ -1,5 +1,4 @@
 -- `gridread::play` lends the parts of its room that the record asks for. Assumes nothing.
-use borrow.Author.Rules.{rules}
 use mathlib.Core.Path.{sym}
 use native.Mathlib.Omega.{arith}
 use lib.Seq.{length-take-le}

@@ -1,5 +1,4 @@
 -- `acts::answers::acted_moved`: what the answer holds, 0 beside a refusal. Assumes nothing.
-use borrow.Author.Rules.{rules}
 use mathlib.Core.Path.{sym, ap, ◌∙◌}
 use mir.Syntax.{w64}
 use mir.Facts.{to_z-of_z}

@@ -1,9 +1,8 @@
 -- `arrivals::streaming::leaning` is n·e of an interface cell's directions, and 0 of a fluid one's. Assumes nothing.
 use mathlib.Core.Path.{◌≡◌, sym, ap, ◌∙◌}
-use Prim.Native.Nat.{◌+◌, ◌-◌, ◌<◌}
+use Prim.Native.Nat.{◌-◌}
 use lib.IntN.{pos}
 use lib.ListN.{get_or}
-use borrow.Author.Rules.{rules}
 use Rattle.whole.specs.laws.Tab.{tab-cong}
 use Rattle.lattice.specs.Lattice.{dot, d3q19}
 use Rattle.grid.specs.inner.Passes.{Sloping}

@@ -1,5 +1,4 @@
 -- `arrivals::streaming::source`: the one place or the other, by the neighbour's flag. Assumes nothing.
-use borrow.Author.Rules.{rules}
 use borrow.Author.Tests.{lt-ltb, le-ltb}
 use mathlib.Core.Path.{◌≡◌, sym, subst}
 use Prim.Native.Nat.{ℕ, ◌≤◌, ◌<◌}

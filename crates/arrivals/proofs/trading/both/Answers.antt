@@ -1,5 +1,4 @@
 -- `arrivals::trading::both`: two numbers of 32 bits and their sum fit 64. Assumes nothing.
-use borrow.Author.Rules.{rules}
 use Prim.Native.Nat.{◌≤◌}
 use native.Mathlib.Omega.{arith}
 use Rattle.whole.specs.laws.Machine.{machine, does-fit, reads_as}

@@ -1,5 +1,4 @@
 -- `arrivals::trading::difference`: a difference of two numbers of 32 bits fits 64. Assumes nothing.
-use borrow.Author.Rules.{rules}
 use mir.Syntax.{w32}
 use Rattle.whole.specs.laws.Machine.{machine, any, same, does-fit, reads_as}
 use Rattle.arrivals.proofs.trading.difference.Lts as lts

@@ -1,5 +1,4 @@
 -- `arrivals::trading::traded`: nothing from a dry neighbour, from any other the difference of the two parts, by its flag. Assumes nothing.
-use borrow.Author.Rules.{rules}
 use borrow.Author.Tests.{not-true, not-false}
 use mathlib.Core.Path.{◌≡◌, sym, ◌∙◌, ap, ap₂}
 use Prim.Native.Nat.{◌+◌, ◌*◌}

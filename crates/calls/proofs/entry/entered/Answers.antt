@@ -1,6 +1,6 @@
 -- `calls::entry::entered`: sides, the indexes' lengths and the totals' number, the base's tests of the heads, the totals, then 14, as the outcome's chain has
 -- them. Assumes nothing.
-use borrow.Author.Rules.{rules, sfits_of}
+use borrow.Author.Rules.{sfits_of}
 use borrow.Author.Tests.{not-true, not-false}
 use mathlib.Core.Path.{◌≡◌, sym, ap, ap₂, ◌∙◌}
 use mathlib.Core.Bool.{Bool, true, ◌&&◌}

@@ -1,5 +1,4 @@
 -- `calls::totals::put_carry`: the first of three numbers. Assumes nothing.
-use borrow.Author.Rules.{rules}
 use mathlib.Core.Path.{ap, ◌∙◌}
 use lib.IntN.{ℤ}
 use lib.ListN.{set}

@@ -1,5 +1,5 @@
 -- `checks::checking::checked` goes through tests 4 to 6 as the outcome's chain has them. Assumes nothing.
-use borrow.Author.Rules.{rules, sfits_of}
+use borrow.Author.Rules.{sfits_of}
 use mathlib.Core.Path.{◌≡◌, ap, ◌∙◌}
 use Prim.Native.Nat.{ℕ}
 use native.Mathlib.Omega.{arith}
@@ -10,7 +10,6 @@ use Rattle.grid.specs.Grid.{cells_of}
 use Rattle.grid.specs.State.{Lent, lent, state_of}
 use Rattle.grid.specs.Good.{bad_rule}
 use Rattle.grid.proofs.Checks.{stops-at-flag, stops-at-fluid, stops-at-rule, goes_through, one-carry}
-use borrow.Author.Rules.{rules}
 use Rattle.checks.proofs.checking.checked.Lts as lts
 use Rattle.checks.proofs.checking.checked.Reads as reads
 use Rattle.checks.proofs.checking.checked.Tie as tie

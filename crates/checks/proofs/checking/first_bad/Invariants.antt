@@ -1,22 +1,13 @@
 -- `checks::checking::first_bad` is test 6's place: every cell passed keeps the rules. Assumes nothing.
-use borrow.Author.Rules.{rules}
-use borrow.Author.Count.{below_more}
-use borrow.Author.Tests.{not-true, not-false}
-use mathlib.Core.Path.{◌≡◌, refl, sym, ap, ◌∙◌}
-use mir.Syntax.{w64}
-use mir.Facts.{to_z-of_z}
-use Rattle.lattice.specs.Cell.{carry_good}
+use mathlib.Core.Path.{◌≡◌}
 use mathlib.Core.Bool.{true}
-use mathlib.Core.List.{[], ◌∷◌}
+use mathlib.Core.List.{◌∷◌}
 use Prim.Native.Nat.{ℕ, ◌-◌, ◌≤◌, ◌<◌}
-use native.Mathlib.Nat.{not-suc-le-zero}
-use native.Mathlib.Omega.{arith}
 use lib.IntN.{pos}
 use lib.ListN.{length}
 use Rattle.lattice.specs.Lattice.{d3q19}
 use Rattle.grid.specs.State.{lent, state_of}
 use Rattle.grid.specs.Good.{cell_good}
-use Rattle.grid.proofs.Rules.{bad-cell, bad-carry, none-bad}
 use Rattle.checks.proofs.checking.first_bad.Given as goal
 
 abbrev pub invariant-loop-c : goal.invariant-loop-c

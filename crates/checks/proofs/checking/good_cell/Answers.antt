@@ -1,5 +1,5 @@
 -- `checks::checking::good_cell` keeps a cell to test 6's rules, liquid or dry. Assumes nothing.
-use borrow.Author.Rules.{rules, sfits_of}
+use borrow.Author.Rules.{sfits_of}
 use mathlib.Core.Path.{sym, ap, ◌∙◌}
 use mathlib.Core.Bool.{Bool, ◌&&◌}
 use lib.Dec.{eqb}
@@ -9,7 +9,6 @@ use mir.Syntax.{w32}
 use mir.Val.{of_z}
 use mir.Facts.{to_z-of_z}
 use Rattle.grid.proofs.Rules.{wet-cell, dry-cell}
-use borrow.Author.Rules.{rules}
 use Rattle.checks.proofs.checking.good_cell.Goals as goal
 
 pub returns-then-is_liquid : goal.returns-then-is_liquid

@@ -1,5 +1,4 @@
 -- `checks::fluid::first_open_by`: where none may be open, test 5's place is N. Assumes nothing.
-use borrow.Author.Rules.{rules}
 use Rattle.checks.proofs.fluid.first_open_by.Goals as goal
 
 pub returns : goal.returns

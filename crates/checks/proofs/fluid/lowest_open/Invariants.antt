@@ -1,20 +1,11 @@
 -- `checks::fluid::lowest_open` is test 5's place: no cell passed is a fluid cell beside an empty one, and the label is left at the first that is. The
 -- loops look by offsets; a fluid cell has all its neighbours, so these lead to cells. Assumes nothing.
-use borrow.Author.Rules.{rules}
-use borrow.Author.Count.{below_more}
-use borrow.Author.Tests.{ne_eqb}
 use mathlib.Core.Path.{◌≡◌}
-use mathlib.Core.Logic.{⊎_elim}
 use mathlib.Core.Bool.{false}
-use mathlib.Core.List.{List}
 use Prim.Native.Nat.{ℕ, suc, ◌+◌, ◌-◌, ◌≤◌, ◌<◌}
-use native.Mathlib.Omega.{arith}
-use native.Mathlib.Decide.{dec_lt}
-use native.Mathlib.Nat.{not-suc-le-zero}
 use lib.Dec.{eqb}
 use lib.ListN.{length, get_or}
-use Rattle.grid.specs.inner.Passes.{Amid, open_at}
-use Rattle.grid.proofs.Open.{dry, shut, wet, found, none_found}
+use Rattle.grid.specs.inner.Passes.{open_at}
 use Rattle.checks.proofs.fluid.lowest_open.Given as goal
 
 abbrev pub invariant-loop-i : goal.invariant-loop-i

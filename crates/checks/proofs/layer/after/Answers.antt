@@ -1,5 +1,4 @@
 -- `checks::layer::after` is the next place: along the row, then to the next row, then to the next plane. Assumes nothing.
-use borrow.Author.Rules.{rules}
 use borrow.Author.Tests.{lt-ltb, le-ltb}
 use Rattle.grid.specs.inner.Passes.{place_after}
 use Rattle.checks.proofs.layer.after.Goals as goal

@@ -1,4 +1,4 @@
-use mathlib.Core.Path.{◌≡◌, refl}
+use mathlib.Core.Path.{refl}
 use mathlib.Core.Bool.{false}
 use Prim.Native.Nat.{ℕ, ◌+◌, ◌-◌, ◌≤◌, ◌<◌}
 use native.Mathlib.Omega.{arith}
@@ -9,7 +9,7 @@ use Rattle.grid.specs.Grid.{cells_of}
 use Rattle.grid.specs.inner.Passes.{RowAt}
 use Rattle.grid.proofs.GoodSides.{good-sides}
 use Rattle.grid.proofs.Coordinates.{stands-first}
-use Rattle.grid.proofs.Rows.{bad, found, none_found, row-place, row_room, row_next, passed}
+use Rattle.grid.proofs.Rows.{found, none_found, row-place, row_room, row_next, passed}
 use Rattle.checks.proofs.layer.first_bad_flag.Lts as lts
 use Rattle.checks.proofs.layer.first_bad_flag.Reads as reads
 use Rattle.checks.proofs.layer.first_bad_flag.Tie as tie

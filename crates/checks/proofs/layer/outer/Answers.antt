@@ -1,5 +1,4 @@
 -- `checks::layer::outer` asks whether a coordinate is at either end. Assumes nothing.
-use borrow.Author.Rules.{rules}
 use native.Mathlib.Numerals.{add-one}
 use Rattle.grid.specs.inner.Passes.{outer_at}
 use Rattle.checks.proofs.layer.outer.Goals as goal

@@ -1,10 +1,8 @@
 use mathlib.Core.Path.{◌≡◌, refl, sym, ◌∙◌, ap, ap₂, subst}
 use mathlib.Core.Bool.{true}
-use mathlib.Core.List.{List}
 use mathlib.Core.Logic.{inl}
 use Prim.Native.Nat.{ℕ, suc, ◌+◌, ◌-◌, ◌<◌}
 use native.Mathlib.Omega.{arith}
-use borrow.Author.Rules.{rules}
 use borrow.Author.Tests.{not-false}
 use lib.ListN.{get_or}
 use lib.IntN.{ℤ, pos, ◌+ℤ◌, ◌-ℤ◌}
@@ -21,7 +19,7 @@ use Rattle.lattice.proofs.Reading.{reading, inside}
 use Rattle.lattice.proofs.Tame.{steady-tame}
 use Rattle.landings.specs.inner.Estimate.{landed, EndsNear, Mixes, tells_at}
 use Rattle.landings.proofs.Landed.{room, slack, landed-part}
-use Rattle.collision.proofs.Turns.{Done, eighteen, begun, more, all_done}
+use Rattle.collision.proofs.Turns.{eighteen, begun, more, all_done}
 use Rattle.collision.proofs.collide.collided.Invariants.{aimed}
 use Rattle.collision.proofs.collide.collided.Lts as lts
 use Rattle.collision.proofs.collide.collided.Reads as reads

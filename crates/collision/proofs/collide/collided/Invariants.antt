@@ -1,29 +1,12 @@
 -- `collision::collide::collided`: pair by pair each part lands by its end, what the pairs leave of the density is part 0, and where every end
 -- tells, each landing is the definition's. Assumes nothing.
-use mathlib.Core.Path.{◌≡◌, refl, sym, ◌∙◌, ap, ap₂, subst}
-use mathlib.Core.Bool.{true}
 use mathlib.Core.List.{List}
-use mathlib.Core.Logic.{inl}
-use Prim.Native.Nat.{ℕ, suc, ◌+◌, ◌-◌, ◌<◌}
-use native.Mathlib.Omega.{arith}
-use borrow.Author.Rules.{rules}
-use borrow.Author.Tests.{not-false}
+use Prim.Native.Nat.{ℕ, ◌-◌}
 use lib.ListN.{get_or}
-use lib.IntN.{ℤ, pos, ◌+ℤ◌, ◌-ℤ◌}
-use mir.Syntax.{w32, w64}
-use mir.Val.{to_z, of_z}
-use mir.Facts.{to_z-of_z}
-use Rattle.whole.specs.laws.Machine.{Within, known, v32, within_by, does-fit, reads_as}
-use Rattle.whole.specs.laws.Search.{all-at}
-use Rattle.lattice.specs.Lattice.{d3q19}
-use Rattle.lattice.specs.inner.Held.{parts_of, vec}
-use Rattle.lattice.specs.Body.{relaxed_dir}
-use Rattle.lattice.proofs.Ranges.{relaxation-in}
-use Rattle.lattice.proofs.Reading.{reading, inside}
-use Rattle.lattice.proofs.Tame.{steady-tame}
-use Rattle.landings.specs.inner.Estimate.{landed, EndsNear, Mixes, tells_at}
-use Rattle.landings.proofs.Landed.{room, slack, landed-part}
-use Rattle.collision.proofs.Turns.{Done, eighteen, begun, more, all_done}
+use lib.IntN.{ℤ}
+use Rattle.lattice.specs.inner.Held.{parts_of}
+use Rattle.landings.specs.inner.Estimate.{landed}
+use Rattle.collision.proofs.Turns.{Done}
 use Rattle.collision.proofs.collide.collided.Given as goal
 
 -- where part j lands, by the ends e

@@ -3,7 +3,6 @@ use lib.Dec.{lit<}
 use Rattle.whole.specs.laws.Machine.{same, does-fit, reads_as}
 use Rattle.lattice.specs.Cell.{pull}
 use Rattle.lattice.proofs.Reading.{reading}
-use borrow.Author.Rules.{rules}
 use Rattle.collision.proofs.gravity.pull.Goals as goal
 
 pub overflow_mul-result : goal.overflow_mul-result

@@ -3,7 +3,6 @@ use Prim.Native.Nat.{◌%◌, ◌≤◌}
 use native.Mathlib.Nat.{le_trans}
 use lib.ListN.{get_or}
 use Rattle.landings.proofs.Each.{each18}
-use borrow.Author.Rules.{rules}
 use Rattle.collision.proofs.landing.highest.Goals as goal
 
 pub returns : goal.returns

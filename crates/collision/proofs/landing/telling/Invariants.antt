@@ -1,21 +1,8 @@
 -- `collision::landing::telling`: pair by pair. Assumes nothing.
-use mathlib.Core.Path.{◌≡◌, refl, sym, ◌∙◌, ap, ap₂}
-use mathlib.Core.Bool.{Bool, ◌&&◌}
-use Prim.Native.Nat.{ℕ, suc, ◌+◌, ◌-◌, ◌%◌, ◌<◌, ◌≤◌}
-use native.Mathlib.Omega.{arith}
-use borrow.Author.Rules.{rules}
-use lib.ListN.{get_or}
-use lib.IntN.{ℤ}
-use mir.Syntax.{w32}
-use mir.Val.{to_z, of_z}
-use mir.Facts.{to_z-of_z}
+use mathlib.Core.Path.{◌≡◌}
+use Prim.Native.Nat.{◌-◌, ◌%◌, ◌≤◌}
 use Rattle.whole.specs.Fold.{all}
-use Rattle.whole.specs.laws.Machine.{v32, reads_as}
-use Rattle.whole.specs.laws.Search.{all_none}
-use Rattle.lattice.specs.inner.Held.{parts_of}
-use Rattle.lattice.proofs.Pairs.{all-pair}
-use Rattle.lattice.proofs.Reading.{inside}
-use Rattle.landings.specs.inner.Estimate.{tells, tells_at}
+use Rattle.landings.specs.inner.Estimate.{tells_at}
 use Rattle.collision.proofs.landing.telling.Given as goal
 
 abbrev pub invariant-loop-i : goal.invariant-loop-i

@@ -1,16 +1,8 @@
 -- `columns::column::bad_flag`: the invariant is that no flag below height z is bad. Assumes nothing.
-use borrow.Author.Count.{below_more}
-use borrow.Author.Tests.{lt-ltb, le-ltb}
-use mathlib.Core.Path.{◌≡◌, sym, subst}
-use mathlib.Core.Bool.{Bool, true, false}
+use mathlib.Core.Path.{◌≡◌}
+use mathlib.Core.Bool.{false}
 use Prim.Native.Nat.{ℕ, ◌≤◌, ◌<◌, ◌-◌}
-use native.Mathlib.Nat.{not-suc-le-zero}
-use native.Mathlib.Omega.{arith}
-use lib.Dec.{ltb}
-use lib.ListN.{length, get_or}
-use Rattle.whole.specs.laws.Search.{first-is, first-all}
 use Rattle.tunnel.specs.Depth.{flag_bad}
-use Rattle.tunnel.proofs.Columns.{in-column, below_length, high}
 use Rattle.columns.proofs.column.bad_flag.Given as goal
 
 abbrev pub invariant-loop-z : goal.invariant-loop-z

@@ -1,5 +1,4 @@
 -- `columns::column::column_depth`: each return is the definition with the tests that led there. Assumes nothing.
-use borrow.Author.Rules.{rules}
 use borrow.Author.Tests.{not-true, not-false, eq-eqb, ne_eqb, lt-ltb, le-ltb}
 use mathlib.Core.Path.{◌≡◌, sym, ◌∙◌}
 use mathlib.Core.Bool.{true}
@@ -81,7 +80,7 @@ returns-then-s-y c =
 
 pub measured-requires : goal.measured-requires
 measured-requires c =
-    let d = c in 
+    let d = c in
     record { in_column = column c.before _ (flags-whole d.before.before.before.before.before.before); in_column_2 = column c.before _ (fills-whole d.before.before.before.before.before) }
 
 pub returns : goal.returns

@@ -1,5 +1,4 @@
 -- `columns::column::measured`: tests 4 and 6 by their searches, then the reading of the sums. Assumes nothing.
-use borrow.Author.Rules.{rules}
 use borrow.Author.Tests.{le-leb, lt-leb}
 use mathlib.Core.Path.{subst}
 use Prim.Native.Nat.{ℕ, ◌≤◌}
@@ -20,7 +19,7 @@ returns-then-g-nz c =
 
 pub summed-c-requires : goal.summed-c-requires
 summed-c-requires c =
-    let s = c in 
+    let s = c in
     record { in_column = s.requires.in_column; in_column_2 = s.requires.in_column_2; nz_bound = subst (λ (n : ℕ). s.args.s.nz ≤ n) c.bad_fill-g.ensures c.if-g-nz.false }
 
 pub returns : goal.returns

@@ -1,5 +1,4 @@
 -- `columns::sum::reading`: solid, dry, or the exact share of the sum. Assumes nothing.
-use borrow.Author.Rules.{rules}
 use borrow.Author.Tests.{eq-eqb, ne_eqb}
 use Rattle.tunnel.specs.Depth.{reading_of}
 use Rattle.tunnel.proofs.Cases.{is-solid, is-dry, is-deep}

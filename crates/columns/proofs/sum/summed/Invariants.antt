@@ -1,14 +1,9 @@
 -- `columns::sum::summed`: the invariant is that both accumulators are the definitions' up to height z, and the sum at most 65,536 a cell.
 -- Assumes nothing.
-use mathlib.Core.Path.{◌≡◌, refl, sym, ap, ap₂, ◌∙◌, subst}
-use mathlib.Core.Bool.{Bool, ◌&&◌, cond}
-use Prim.Native.Nat.{ℕ, ◌+◌, ◌*◌, ◌≤◌, ◌<◌, ◌-◌}
-use native.Mathlib.Omega.{arith}
-use lib.Dec.{eqb}
-use lib.ListN.{length, get_or}
+use mathlib.Core.Path.{◌≡◌}
+use Prim.Native.Nat.{◌*◌, ◌≤◌, ◌-◌}
 use Rattle.whole.specs.Fold.{all, total}
 use Rattle.tunnel.specs.Depth.{is_wall, open_fill}
-use Rattle.tunnel.proofs.Columns.{in-column, below_length, high, few, all_more, total-more, open-le}
 use Rattle.columns.proofs.sum.summed.Given as goal
 
 abbrev pub invariant-loop-z : goal.invariant-loop-z

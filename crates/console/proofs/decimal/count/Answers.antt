@@ -1,9 +1,7 @@
-use borrow.Author.Rules.{rules}
 use mathlib.Core.Path.{sym, ◌∙◌}
 use Prim.Native.Nat.{◌-◌}
 use native.Mathlib.Omega.{arith}
-use lib.ListN.{length}
-use Rattle.console.proofs.Decimals.{Reading, none, begins, goes_on, stops, ends}
+use Rattle.console.proofs.Decimals.{none, begins, goes_on, stops, ends}
 use Rattle.console.proofs.decimal.count.Goals as goal
 
 pub returns-then-text-eq0 : goal.returns-then-text-eq0

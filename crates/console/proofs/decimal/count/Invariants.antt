@@ -1,10 +1,7 @@
 -- `console::decimal::count`: what is left spells, after what was read, what the whole text spells. Assumes nothing.
-use borrow.Author.Rules.{rules}
-use mathlib.Core.Path.{sym, ◌∙◌}
 use Prim.Native.Nat.{◌-◌}
-use native.Mathlib.Omega.{arith}
 use lib.ListN.{length}
-use Rattle.console.proofs.Decimals.{Reading, none, begins, goes_on, stops, ends}
+use Rattle.console.proofs.Decimals.{Reading}
 use Rattle.console.proofs.decimal.count.Given as goal
 
 abbrev pub invariant-loop-i : goal.invariant-loop-i

@@ -1,6 +1,5 @@
 -- `console::decimal::one_more`: ten times n and the digit is above `most` exactly where n is above a tenth of it, or the digit above what is left.
 -- Assumes nothing.
-use borrow.Author.Rules.{rules}
 use borrow.Author.Tests.{le-leb, lt-leb}
 use Prim.Native.Nat.{◌+◌, ◌-◌, ◌*◌, ◌≤◌, ◌<◌}
 use native.Mathlib.Omega.{arith}

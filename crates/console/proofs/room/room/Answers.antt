@@ -1,17 +1,16 @@
 -- `console::room::room` finds the room by three bytes. Assumes nothing.
-use borrow.Author.Rules.{rules}
 use native.Mathlib.Omega.{arith}
 use Rattle.console.specs.Room.{low_cells}
 use Rattle.console.proofs.Rooms.{room-short, room-over, room-enough}
 use Rattle.console.proofs.room.room.Goals as goal
 
 pub returns-then-rec-lt16 : goal.returns-then-rec-lt16
-returns-then-rec-lt16 c =  record { value = room-short _ _ c.if-rec-lt16.true; upper_bound = omega arith }
+returns-then-rec-lt16 c = record { value = room-short _ _ c.if-rec-lt16.true; upper_bound = omega arith }
 
 pub returns-then-n-most : goal.returns-then-n-most
 unfolding low_cells
-returns-then-n-most c =  record { value = room-over _ _ c.product-n.result (omega arith) c.product-n.ensures c.if-n-most.true; upper_bound = omega arith }
+returns-then-n-most c = record { value = room-over _ _ c.product-n.result (omega arith) c.product-n.ensures c.if-n-most.true; upper_bound = omega arith }
 
 pub returns : goal.returns
 unfolding low_cells
-returns c =  record { value = room-enough _ _ c.product-n.result (omega arith) c.product-n.ensures (omega arith); upper_bound = omega arith }
+returns c = record { value = room-enough _ _ c.product-n.result (omega arith) c.product-n.ensures (omega arith); upper_bound = omega arith }

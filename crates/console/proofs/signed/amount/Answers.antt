@@ -1,5 +1,4 @@
 -- `console::signed::amount`: the first byte tells whether a minus stands before the digits. Assumes nothing.
-use borrow.Author.Rules.{rules}
 use mathlib.Core.Path.{◌∙◌}
 use native.Mathlib.Omega.{arith}
 use Rattle.console.proofs.Amounts.{signed-none, signed-minus, signed-plain}

@@ -1,5 +1,4 @@
 -- `console::signed::negative`: a magnitude up to 2^63 by its complement, which fits. Assumes nothing.
-use borrow.Author.Rules.{rules}
 use mathlib.Core.Path.{◌≡◌, sym, ap, ◌∙◌}
 use native.Mathlib.Omega.{arith}
 use Prim.Native.Nat.{ℕ}

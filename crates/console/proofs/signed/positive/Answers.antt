@@ -1,5 +1,4 @@
 -- `console::signed::positive`: a magnitude below 2^63, cast. Assumes nothing.
-use borrow.Author.Rules.{rules}
 use mathlib.Core.Path.{◌≡◌, sym, ap, ◌∙◌}
 use Rattle.console.specs.declared.decimal.Spelled.TheVariants.{Number}
 use Rattle.console.specs.declared.signed.Signed.TheVariants.{Amount}

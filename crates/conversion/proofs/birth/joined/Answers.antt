@@ -1,5 +1,4 @@
 -- `conversion::birth::joined`: five sums. Assumes nothing.
-use borrow.Author.Rules.{rules}
 use mathlib.Core.Path.{◌∙◌, ap, ap₂}
 use lib.IntN.{ℤ, pos, ◌+ℤ◌}
 use Rattle.arrivals.proofs.Held.{held32, held64}

@@ -1,5 +1,4 @@
 -- `conversion::birth::mean`: four cut means. Assumes nothing.
-use borrow.Author.Rules.{rules}
 use mathlib.Core.Path.{◌∙◌, ap₂}
 use lib.Signed.{quot_z}
 use Rattle.arrivals.proofs.Held.{held32, held64}

@@ -1,12 +1,8 @@
 -- `conversion::birth::mean_flow`: the sums over the directions passed, and their means. Assumes nothing.
-use borrow.Author.Rules.{rules}
-use mathlib.Core.Path.{◌≡◌, subst}
-use Prim.Native.Nat.{ℕ, ◌-◌, ◌≤◌}
-use native.Mathlib.Omega.{arith}
+use Prim.Native.Nat.{◌-◌, ◌≤◌}
 use Rattle.lattice.specs.Lattice.{d3q19}
 use Rattle.grid.specs.State.{part_of}
-use Rattle.conversion.specs.inner.Born.{tested_of}
-use Rattle.conversion.proofs.Means.{Summed, summed-none, summed-more, roomy, countable-all, begins}
+use Rattle.conversion.proofs.Means.{Summed}
 use Rattle.conversion.proofs.birth.mean_flow.Given as goal
 
 abbrev pub invariant-loop-i : goal.invariant-loop-i

@@ -1,18 +1,12 @@
 -- `conversion::birth::newborn`: visit after visit; the cells passed have their parts, the others are as they were. Assumes nothing.
-use borrow.Author.Rules.{rules}
-use mathlib.Core.Path.{◌≡◌, refl, ◌∙◌, ap, ap₂, subst}
-use mathlib.Core.Bool.{Bool, ◌&&◌}
-use mathlib.Core.List.{List, []}
-use Prim.Native.Nat.{ℕ, ◌+◌, ◌*◌, ◌-◌, ◌≤◌, ◌<◌}
-use native.Mathlib.Omega.{arith}
+use mathlib.Core.Path.{◌≡◌}
+use Prim.Native.Nat.{◌-◌, ◌≤◌}
 use lib.ListN.{length}
 use Rattle.whole.specs.Fold.{all}
 use Rattle.grid.specs.State.{part_of}
-use Rattle.grid.specs.inner.Passes.{low_of}
 use Rattle.grid.specs.inner.Sight.{box_sight}
-use Rattle.conversion.specs.inner.Born.{newly_born, later_fair, Peopled}
-use Rattle.whole.specs.laws.Search.{all_none, all_more}
-use Rattle.conversion.proofs.Newborns.{Reached, reached-zero, reached-more, reached-past, unborn, visited-fair, visited-size, visited-list, peopled}
+use Rattle.conversion.specs.inner.Born.{newly_born, later_fair}
+use Rattle.conversion.proofs.Newborns.{Reached}
 use Rattle.conversion.proofs.birth.newborn.Given as goal
 
 abbrev pub invariant-loop-c : goal.invariant-loop-c

@@ -1,5 +1,4 @@
 -- `conversion::birth::plus`: a sum with room takes one number of 32 bits more. Assumes nothing.
-use borrow.Author.Rules.{rules}
 use mir.Syntax.{w32}
 use Rattle.whole.specs.laws.Machine.{machine, any, same, w64-in, does-fit, reads_as}
 use Rattle.conversion.proofs.birth.plus.Lts as lts

@@ -1,5 +1,4 @@
 -- `conversion::birth::put_born`: the equilibrium of the mean flow is what the cell begins with. Assumes nothing.
-use borrow.Author.Rules.{rules}
 use mathlib.Core.Path.{◌∙◌, ap}
 use mathlib.Core.List.{List}
 use Prim.Native.Nat.{◌*◌}

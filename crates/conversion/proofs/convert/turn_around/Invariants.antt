@@ -1,12 +1,8 @@
 -- `conversion::convert::turn_around`: the cell is written first, then the neighbours that the directions 1 to i − 1 lead to. Assumes nothing.
-use borrow.Author.Rules.{rules}
-use mathlib.Core.Path.{◌≡◌, sym, ap, ◌∙◌}
-use mathlib.Core.List.{List}
-use mathlib.Core.Logic.{⊎_elim}
-use Prim.Native.Nat.{ℕ, ◌+◌, ◌-◌, ◌≤◌, ◌<◌}
-use native.Mathlib.Omega.{arith}
-use lib.ListN.{length, get_or, set, length-set}
-use Rattle.conversion.proofs.Around.{partly, partly-first, partly-all, partly-write, partly-keep}
+use mathlib.Core.Path.{◌≡◌}
+use Prim.Native.Nat.{ℕ, ◌-◌, ◌≤◌, ◌<◌}
+use lib.ListN.{length, get_or}
+use Rattle.conversion.proofs.Around.{partly}
 use Rattle.conversion.proofs.convert.turn_around.Given as goal
 
 abbrev pub invariant-loop-i : goal.invariant-loop-i

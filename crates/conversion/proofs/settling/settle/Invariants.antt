@@ -1,13 +1,9 @@
 -- `conversion::settling::settle` is pass 7: the cells before c are settled and have no mark, the others are as they were. Assumes nothing.
-use borrow.Author.Rules.{rules}
-use mathlib.Core.Path.{◌≡◌, refl, ap, ◌∙◌}
-use mathlib.Core.Logic.{⊎_elim}
-use Prim.Native.Nat.{◌+◌, ◌*◌, ◌-◌, ◌≤◌, ◌<◌}
-use native.Mathlib.Omega.{arith}
+use mathlib.Core.Path.{◌≡◌}
+use Prim.Native.Nat.{◌-◌}
 use lib.ListN.{length}
 use Rattle.grid.specs.State.{part_of}
-use Rattle.grid.proofs.Ranges.{over-gap}
-use Rattle.conversion.proofs.Settles.{Upon, upon-as, upon-first, upon-keep, upon-settle, upon-all, parts-still, settled-size, settled-list}
+use Rattle.conversion.proofs.Settles.{Upon}
 use Rattle.conversion.proofs.settling.settle.Given as goal
 
 abbrev pub invariant-loop-c : goal.invariant-loop-c

@@ -1,4 +1,4 @@
-use borrow.Author.Rules.{rules, sfits_of}
+use borrow.Author.Rules.{sfits_of}
 use mathlib.Core.Path.{◌≡◌, refl, sym, ap, ◌∙◌}
 use Prim.Native.Nat.{◌+◌, ◌*◌, ◌-◌, ◌≤◌}
 use native.Mathlib.Omega.{arith}
@@ -62,4 +62,4 @@ unfolding mass_sum
 returns c =
     let l = c in
     let m = l.args.masses.now in
-    let e : l.loop-c.c ≡ length m = omega (arith, l.loop-c.invariant.0, c.loop-c-test.false) in  record { value = l.loop-c.invariant.1 ∙ ap (mass_in m) e; result_bound = rw l.loop-c.invariant.1 (omega (arith, l.loop-c.invariant.2, l.loop-c.invariant.0, l.requires)) }
+    let e : l.loop-c.c ≡ length m = omega (arith, l.loop-c.invariant.0, c.loop-c-test.false) in record { value = l.loop-c.invariant.1 ∙ ap (mass_in m) e; result_bound = rw l.loop-c.invariant.1 (omega (arith, l.loop-c.invariant.2, l.loop-c.invariant.0, l.requires)) }

@@ -1,18 +1,10 @@
 -- `counts::counting::mass_sum` adds up the masses passed. Assumes nothing.
-use borrow.Author.Rules.{rules, sfits_of}
-use mathlib.Core.Path.{◌≡◌, refl, sym, ap, ◌∙◌}
-use Prim.Native.Nat.{◌+◌, ◌*◌, ◌-◌, ◌≤◌}
-use native.Mathlib.Omega.{arith}
-use lib.IntN.{ℤ, pos, nat_abs, ◌+ℤ◌}
-use lib.ListN.{length, get_or}
-use mir.Syntax.{w32, w64}
-use mir.Val.{to_z, of_z}
-use mir.Facts.{to_z-of_z}
-use Rattle.whole.specs.laws.Bounds.{abs-add}
+use mathlib.Core.Path.{◌≡◌}
+use Prim.Native.Nat.{◌*◌, ◌-◌, ◌≤◌}
+use lib.IntN.{nat_abs}
+use lib.ListN.{length}
 use Rattle.whole.specs.Fold.{sum}
-use Rattle.whole.specs.laws.Machine.{Val, known, does-fit, reads_as, same, v+, v64}
-use Rattle.counts.specs.Counts.{mass_sum}
-use Rattle.counts.proofs.Addends.{mass_in, mass-more, abs_mag}
+use Rattle.counts.proofs.Addends.{mass_in}
 use Rattle.counts.proofs.counting.mass_sum.Given as goal
 
 abbrev pub invariant-loop-c : goal.invariant-loop-c

@@ -1,5 +1,5 @@
 -- `depths::depth::depth`: a column's sum, in millimetres. Assumes nothing.
-use mathlib.Core.Path.{◌≡◌, ap₂, ◌∙◌}
+use mathlib.Core.Path.{ap₂, ◌∙◌}
 use mathlib.Core.Bool.{Bool, cond}
 use Prim.Native.Nat.{ℕ, ◌*◌, ◌/◌}
 use lib.IntN.{pos, negsuc}
@@ -12,11 +12,11 @@ use Rattle.depths.proofs.depth.depth.Goals as goal
 
 pub summed-c-requires : goal.summed-c-requires
 summed-c-requires c =
-    let p = c.requires in 
+    let p = c.requires in
     record { in_column = flags-column p.0 p.1.0 p.1.1; in_column_2 = fills-column p.0 p.1.0 p.1.1; nz_bound = none-bad p.0 p.1.0 p.1.1 }
 
 pub millimetres-requires : goal.millimetres-requires
-millimetres-requires c =  record { sum_bound = c.summed-c.ensures.few; edge_bound = c.requires.measured.short }
+millimetres-requires c = record { sum_bound = c.summed-c.ensures.few; edge_bound = c.requires.measured.short }
 
 pub returns : goal.returns
 unfolding depth_at

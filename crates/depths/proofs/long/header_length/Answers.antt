@@ -1,5 +1,4 @@
 -- `depths::long::header_length`: the lines' own bytes, and the five numbers. Assumes nothing.
-use borrow.Author.Rules.{rules}
 use mathlib.Core.Path.{◌≡◌, ap, ◌∙◌}
 use native.Mathlib.Omega.{arith}
 use lib.IntN.{ℤ}

@@ -1,18 +1,16 @@
 use borrow.Author.Rules.{sfits_of}
 use mathlib.Core.Path.{◌≡◌, ap, ◌∙◌}
-use mathlib.Core.List.{List}
-use Prim.Native.Nat.{ℕ, ◌+◌, ◌-◌, ◌≤◌, ◌<◌}
+use Prim.Native.Nat.{◌+◌, ◌-◌}
 use native.Mathlib.Omega.{arith}
 use lib.IntN.{ℤ}
 use lib.ListN.{length}
 use mir.Syntax.{w64}
 use mir.Facts.{to_z-of_z}
-use Rattle.grid.specs.declared.Sides.{Sides}
 use Rattle.grid.proofs.GoodSides.{good-sides}
 use Rattle.spelling.specs.Spelling.{whole_of}
-use Rattle.depths.specs.Map.{depth_at, row_text}
+use Rattle.depths.specs.Map.{row_text}
 use Rattle.depths.proofs.Texts.{row-begin, row-step-long, row-none, row-most, whole-most}
-use Rattle.depths.proofs.long.row_length.Invariants.{values, row}
+use Rattle.depths.proofs.long.row_length.Invariants.{row}
 use Rattle.depths.proofs.long.row_length.Lts as lts
 use Rattle.depths.proofs.long.row_length.Reads as reads
 use Rattle.depths.proofs.long.row_length.Tie as tie
@@ -37,7 +35,7 @@ pub loop-x-init : goal.loop-x-init
 loop-x-init c = (omega arith, omega (arith, ap length (row-begin (row c.before.before.before) c.args.s.nx)))
 
 pub depth-requires : goal.depth-requires
-depth-requires c = let w = c in  record { measured = w.requires.measured; x_lt_nx = c.loop-x-test.true; y_lt_ny = w.requires.y_lt_ny }
+depth-requires c = let w = c in record { measured = w.requires.measured; x_lt_nx = c.loop-x-test.true; y_lt_ny = w.requires.y_lt_ny }
 
 pub overflow_add-long : goal.overflow_add-long
 overflow_add-long c =

@@ -1,18 +1,11 @@
 -- `depths::long::row_length`: what is counted, and the rest of the row, are the whole. Assumes nothing.
-use borrow.Author.Rules.{sfits_of}
-use mathlib.Core.Path.{◌≡◌, ap, ◌∙◌}
+use mathlib.Core.Path.{◌≡◌}
 use mathlib.Core.List.{List}
-use Prim.Native.Nat.{ℕ, ◌+◌, ◌-◌, ◌≤◌, ◌<◌}
-use native.Mathlib.Omega.{arith}
+use Prim.Native.Nat.{ℕ, ◌+◌, ◌-◌, ◌≤◌}
 use lib.IntN.{ℤ}
 use lib.ListN.{length}
-use mir.Syntax.{w64}
-use mir.Facts.{to_z-of_z}
 use Rattle.grid.specs.declared.Sides.{Sides}
-use Rattle.grid.proofs.GoodSides.{good-sides}
-use Rattle.spelling.specs.Spelling.{whole_of}
 use Rattle.depths.specs.Map.{depth_at, row_text}
-use Rattle.depths.proofs.Texts.{row-begin, row-step-long, row-none, row-most, whole-most}
 use Rattle.depths.proofs.long.row_length.Given as goal
 
 -- the values of a row

@@ -1,5 +1,5 @@
 use mathlib.Core.Path.{◌≡◌, ap}
-use Prim.Native.Nat.{ℕ, ◌+◌, ◌-◌, ◌≤◌, ◌<◌}
+use Prim.Native.Nat.{ℕ, ◌+◌, ◌-◌}
 use native.Mathlib.Omega.{arith}
 use lib.IntN.{ℤ}
 use lib.ListN.{length}
@@ -35,7 +35,7 @@ pub overflow_sub-y : goal.overflow_sub-y
 overflow_sub-y c = omega (arith, c.loop-y-test.true)
 
 pub row_length-long-requires : goal.row_length-long-requires
-row_length-long-requires c =  record { measured = c.requires; y_lt_ny = omega (arith, c.loop-y.invariant.0, c.loop-y-test.true) }
+row_length-long-requires c = record { measured = c.requires; y_lt_ny = omega (arith, c.loop-y.invariant.0, c.loop-y-test.true) }
 
 pub overflow_add-long : goal.overflow_add-long
 overflow_add-long c =

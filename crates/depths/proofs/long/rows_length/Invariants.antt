@@ -1,12 +1,8 @@
 -- `depths::long::rows_length`: what is counted, and the rows south of it, are the whole. Assumes nothing.
-use mathlib.Core.Path.{◌≡◌, ap}
-use Prim.Native.Nat.{ℕ, ◌+◌, ◌-◌, ◌≤◌, ◌<◌}
-use native.Mathlib.Omega.{arith}
-use lib.IntN.{ℤ}
+use mathlib.Core.Path.{◌≡◌}
+use Prim.Native.Nat.{◌+◌, ◌-◌, ◌≤◌}
 use lib.ListN.{length}
-use Rattle.grid.proofs.GoodSides.{good-sides}
 use Rattle.depths.specs.Map.{depth_at, rows_text}
-use Rattle.depths.proofs.Texts.{rows-step-long, rows_none, rows-most}
 use Rattle.depths.proofs.long.rows_length.Given as goal
 
 abbrev pub invariant-loop-y : goal.invariant-loop-y

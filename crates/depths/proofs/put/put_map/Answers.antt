@@ -1,8 +1,7 @@
 -- `depths::put::put_map`: the header, and behind it the rows. Assumes nothing.
-use borrow.Author.Rules.{rules}
 use mathlib.Core.Path.{◌≡◌, sym, ap, ◌∙◌, subst}
-use mathlib.Core.List.{List, [], ◌++◌}
-use Prim.Native.Nat.{ℕ, ◌+◌, ◌≤◌}
+use mathlib.Core.List.{List}
+use Prim.Native.Nat.{ℕ}
 use native.Mathlib.Omega.{arith}
 use lib.IntN.{nat_abs}
 use lib.ListN.{length}
@@ -45,7 +44,7 @@ put_rows-requires c =
     let m = c in
     let h = m in
     let w = h in
-    let a = w.args in  record { measured = subst (λ (e : ℕ). Measured a.s e a.flags.now a.fills.now) (sym (edge-is m.before.before)) w.requires.measured; ny_in_bounds = omega (arith, w.requires.fills_in_bounds, map-long a.s a.t a.flags.now a.fills.now, h.put_header-p.ensures.end, put-long h.put_header-p.ensures, ap (λ (e : ℕ). length (rows w.before.before.before.before.before.before.before.before.before.before.before e)) (edge-is m.before.before)) }
+    let a = w.args in record { measured = subst (λ (e : ℕ). Measured a.s e a.flags.now a.fills.now) (sym (edge-is m.before.before)) w.requires.measured; ny_in_bounds = omega (arith, w.requires.fills_in_bounds, map-long a.s a.t a.flags.now a.fills.now, h.put_header-p.ensures.end, put-long h.put_header-p.ensures, ap (λ (e : ℕ). length (rows w.before.before.before.before.before.before.before.before.before.before.before e)) (edge-is m.before.before)) }
 
 pub returns : goal.returns
 returns c =

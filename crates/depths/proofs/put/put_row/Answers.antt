@@ -1,21 +1,20 @@
 use borrow.Author.Rules.{sfits_of}
 use mathlib.Core.Path.{◌≡◌, sym, ap, ◌∙◌, subst}
-use mathlib.Core.List.{List, [], ◌∷◌, ◌++◌}
-use Prim.Native.Nat.{ℕ, ◌+◌, ◌-◌, ◌≤◌, ◌<◌}
+use mathlib.Core.List.{List, ◌∷◌, ◌++◌}
+use Prim.Native.Nat.{ℕ, ◌+◌, ◌-◌, ◌≤◌}
 use native.Mathlib.Omega.{arith}
 use lib.IntN.{ℤ}
 use lib.ListN.{length}
 use mir.Syntax.{w64}
 use mir.Val.{to_z, of_z}
 use mir.Facts.{to_z-of_z}
-use Rattle.grid.specs.declared.Sides.{Sides}
 use Rattle.grid.proofs.GoodSides.{good-sides}
 use Rattle.spelling.specs.Spelling.{whole_of}
 use Rattle.spelling.proofs.Putting.{put_as}
-use Rattle.depths.specs.Map.{depth_at, behind, row_text}
+use Rattle.depths.specs.Map.{behind, row_text}
 use Rattle.depths.proofs.Texts.{row-begin, row_step, row-none}
-use Rattle.depths.proofs.Storing.{Under, under-begin, under-as, under_more, under-end, under-long, under-room}
-use Rattle.depths.proofs.put.put_row.Invariants.{values, row}
+use Rattle.depths.proofs.Storing.{under-begin, under-as, under_more, under-end, under-long, under-room}
+use Rattle.depths.proofs.put.put_row.Invariants.{row}
 use Rattle.depths.proofs.put.put_row.Lts as lts
 use Rattle.depths.proofs.put.put_row.Reads as reads
 use Rattle.depths.proofs.put.put_row.Tie as tie
@@ -35,7 +34,7 @@ pub loop-x-init : goal.loop-x-init
 loop-x-init c = let w = c in (omega arith, under-as under-begin (sym (row-begin (row w.before.before.before.before) w.args.s.nx)))
 
 pub depth-v-requires : goal.depth-v-requires
-depth-v-requires c = let w = c in  record { measured = w.requires.measured; x_lt_nx = c.loop-x-test.true; y_lt_ny = w.requires.y_lt_ny }
+depth-v-requires c = let w = c in record { measured = w.requires.measured; x_lt_nx = c.loop-x-test.true; y_lt_ny = w.requires.y_lt_ny }
 
 pub overflow_add-x : goal.overflow_add-x
 overflow_add-x c =

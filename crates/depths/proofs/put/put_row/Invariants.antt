@@ -1,21 +1,10 @@
 -- `depths::put::put_row`: what is stored, and the rest of the row, are the whole. Assumes nothing.
-use borrow.Author.Rules.{sfits_of}
-use mathlib.Core.Path.{◌≡◌, sym, ap, ◌∙◌, subst}
-use mathlib.Core.List.{List, [], ◌∷◌, ◌++◌}
-use Prim.Native.Nat.{ℕ, ◌+◌, ◌-◌, ◌≤◌, ◌<◌}
-use native.Mathlib.Omega.{arith}
+use mathlib.Core.List.{List}
+use Prim.Native.Nat.{ℕ, ◌-◌, ◌≤◌}
 use lib.IntN.{ℤ}
-use lib.ListN.{length}
-use mir.Syntax.{w64}
-use mir.Val.{to_z, of_z}
-use mir.Facts.{to_z-of_z}
 use Rattle.grid.specs.declared.Sides.{Sides}
-use Rattle.grid.proofs.GoodSides.{good-sides}
-use Rattle.spelling.specs.Spelling.{whole_of}
-use Rattle.spelling.proofs.Putting.{put_as}
-use Rattle.depths.specs.Map.{depth_at, behind, row_text}
-use Rattle.depths.proofs.Texts.{row-begin, row_step, row-none}
-use Rattle.depths.proofs.Storing.{Under, under-begin, under-as, under_more, under-end, under-long, under-room}
+use Rattle.depths.specs.Map.{depth_at, row_text}
+use Rattle.depths.proofs.Storing.{Under}
 use Rattle.depths.proofs.put.put_row.Given as goal
 
 -- the values of a row

@@ -1,10 +1,9 @@
-use mathlib.Core.Path.{◌≡◌}
-use Prim.Native.Nat.{ℕ, ◌+◌, ◌-◌, ◌≤◌, ◌<◌}
+use Prim.Native.Nat.{ℕ, ◌-◌}
 use native.Mathlib.Omega.{arith}
 use lib.IntN.{ℤ}
 use Rattle.depths.specs.Map.{depth_at, row_text, rows_text}
 use Rattle.depths.proofs.Texts.{rows_step, rows_none}
-use Rattle.depths.proofs.Storing.{Under, under-begin, under_more, under-end, under-long, under-room}
+use Rattle.depths.proofs.Storing.{under-begin, under_more, under-end, under-long, under-room}
 use Rattle.depths.proofs.put.put_rows.Lts as lts
 use Rattle.depths.proofs.put.put_rows.Reads as reads
 use Rattle.depths.proofs.put.put_rows.Tie as tie
@@ -26,7 +25,7 @@ pub put_row-p-requires : goal.put_row-p-requires
 put_row-p-requires c =
     let l = c in
     let w = l in
-    let y = l.loop-y.y in  record { measured = w.requires.measured; y_lt_ny = omega (arith, l.loop-y.invariant.0, c.loop-y-test.true); nx_in_bounds = under-room (row_text (λ (x : ℕ). map w.before.before.before.before.before.before.before x (y - 1)) 0 w.args.s.nx) (rows_text (map w.before.before.before.before.before.before.before) w.args.s.nx (y - 1)) l.loop-y.invariant.1 (rows_step (map w.before.before.before.before.before.before.before) w.args.s.nx y c.loop-y-test.true) w.requires.ny_in_bounds }
+    let y = l.loop-y.y in record { measured = w.requires.measured; y_lt_ny = omega (arith, l.loop-y.invariant.0, c.loop-y-test.true); nx_in_bounds = under-room (row_text (λ (x : ℕ). map w.before.before.before.before.before.before.before x (y - 1)) 0 w.args.s.nx) (rows_text (map w.before.before.before.before.before.before.before) w.args.s.nx (y - 1)) l.loop-y.invariant.1 (rows_step (map w.before.before.before.before.before.before.before) w.args.s.nx y c.loop-y-test.true) w.requires.ny_in_bounds }
 
 pub loop-y-smaller : goal.loop-y-smaller
 loop-y-smaller c = omega (arith, c.loop-y-test.true)

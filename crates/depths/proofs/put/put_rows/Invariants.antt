@@ -1,11 +1,7 @@
 -- `depths::put::put_rows`: what is stored, and the rows south of it, are the whole. Assumes nothing.
-use mathlib.Core.Path.{◌≡◌}
-use Prim.Native.Nat.{ℕ, ◌+◌, ◌-◌, ◌≤◌, ◌<◌}
-use native.Mathlib.Omega.{arith}
-use lib.IntN.{ℤ}
-use Rattle.depths.specs.Map.{depth_at, row_text, rows_text}
-use Rattle.depths.proofs.Texts.{rows_step, rows_none}
-use Rattle.depths.proofs.Storing.{Under, under-begin, under_more, under-end, under-long, under-room}
+use Prim.Native.Nat.{◌-◌, ◌≤◌}
+use Rattle.depths.specs.Map.{depth_at, rows_text}
+use Rattle.depths.proofs.Storing.{Under}
 use Rattle.depths.proofs.put.put_rows.Given as goal
 
 abbrev pub invariant-loop-y : goal.invariant-loop-y

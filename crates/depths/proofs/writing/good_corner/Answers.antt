@@ -1,5 +1,4 @@
 -- `depths::writing::good_corner` joins the tests of edge and corner. Assumes nothing.
-use borrow.Author.Rules.{rules}
 use mathlib.Core.Path.{ap₂}
 use mathlib.Core.Bool.{◌&&◌}
 use mir.Syntax.{w64}

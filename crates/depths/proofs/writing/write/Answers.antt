@@ -1,8 +1,6 @@
 -- `depths::writing::write`: tests, the room, and then the text from the front. Assumes nothing.
-use borrow.Author.Rules.{rules}
 use mathlib.Core.Path.{◌≡◌, sym, ◌∙◌}
 use mathlib.Core.Bool.{true}
-use Prim.Native.Nat.{◌≤◌}
 use native.Mathlib.Omega.{arith}
 use borrow.Author.Tests.{not-true}
 use Rattle.grid.specs.declared.Answer.TheVariants.{Done}
@@ -48,7 +46,7 @@ returns-then-room-long c =
 pub put_map-requires : goal.put_map-requires
 put_map-requires c =
     let e = c in
-    let d = c in 
+    let d = c in
     record { measured = fit-measured d.args.s d.args.t (set d.before.before.before.before.before.before.before.before.before.before) (is-fit e.before.before.before.before); fills_in_bounds = omega (arith, e.map_length-long.ensures, e.if-room-long.false) }
 
 pub returns : goal.returns

@@ -1,5 +1,4 @@
 -- `excess::giving::excess`: the mass, less the density of the cell's own parts where it is filled. Assumes nothing.
-use borrow.Author.Rules.{rules}
 use borrow.Author.Tests.{eq-eqb, ne_eqb}
 use mathlib.Core.Path.{◌≡◌, refl, sym, ◌∙◌}
 use lib.IntN.{pos}

@@ -1,5 +1,4 @@
 -- `excess::giving::gift_from`: a cell with no mark gives nothing. Assumes nothing.
-use borrow.Author.Rules.{rules}
 use mathlib.Core.Path.{◌∙◌}
 use Rattle.grid.specs.State.{part_of}
 use Rattle.excess.proofs.Sent.{from-none, from_some}

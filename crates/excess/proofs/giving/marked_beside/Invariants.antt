@@ -1,11 +1,8 @@
 -- `excess::giving::marked_beside` asks all eighteen, two at a time: after the turn at i it has asked the directions 1 to i + 1. Assumes nothing.
-use borrow.Author.Rules.{rules}
-use mathlib.Core.Path.{◌≡◌, refl, sym, ap, ap₂, ◌∙◌}
-use mathlib.Core.Bool.{Bool, ◌||◌}
+use mathlib.Core.Path.{◌≡◌}
+use mathlib.Core.Bool.{Bool}
 use mathlib.Core.List.{List}
-use Prim.Native.Nat.{ℕ, suc, ◌+◌, ◌-◌, ◌%◌, ◌≤◌}
-use native.Mathlib.Omega.{arith}
-use lib.ListN.{get_or}
+use Prim.Native.Nat.{ℕ, suc, ◌-◌, ◌%◌, ◌≤◌}
 use Rattle.whole.specs.Fold.{any}
 use Rattle.excess.specs.inner.Gifts.{marked_at}
 use Rattle.excess.proofs.giving.marked_beside.Given as goal

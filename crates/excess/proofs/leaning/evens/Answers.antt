@@ -1,10 +1,9 @@
-use borrow.Author.Rules.{rules}
 use mathlib.Core.Path.{◌≡◌, refl, sym, ◌∙◌}
-use Prim.Native.Nat.{◌-◌, ◌≤◌}
+use Prim.Native.Nat.{◌-◌}
 use native.Mathlib.Omega.{arith}
 use lib.IntN.{pos}
-use lib.ListN.{length, length-set}
-use Rattle.whole.specs.laws.Tab.{Upto, upto-more, upto_all}
+use lib.ListN.{length-set}
+use Rattle.whole.specs.laws.Tab.{upto-more, upto_all}
 use Rattle.excess.specs.inner.Gifts.{of_dir}
 use Rattle.excess.proofs.Leans.{of-dir, none_yet, by_flags, by_flags_lem}
 use Rattle.excess.proofs.Readings.{told64}

@@ -1,14 +1,11 @@
 -- `excess::leaning::evens`: 1 at each target, stored direction by direction. Assumes nothing.
-use borrow.Author.Rules.{rules}
-use mathlib.Core.Path.{◌≡◌, refl, sym, ◌∙◌}
+use mathlib.Core.Path.{◌≡◌}
 use Prim.Native.Nat.{◌-◌, ◌≤◌}
-use native.Mathlib.Omega.{arith}
 use lib.IntN.{pos}
-use lib.ListN.{length, length-set}
-use Rattle.whole.specs.laws.Tab.{Upto, upto-more, upto_all}
+use lib.ListN.{length}
+use Rattle.whole.specs.laws.Tab.{Upto}
 use Rattle.excess.specs.inner.Gifts.{of_dir}
-use Rattle.excess.proofs.Leans.{of-dir, none_yet, by_flags, by_flags_lem}
-use Rattle.excess.proofs.Readings.{told64}
+use Rattle.excess.proofs.Leans.{by_flags}
 use Rattle.excess.proofs.leaning.evens.Given as goal
 
 abbrev pub invariant-loop-i : goal.invariant-loop-i

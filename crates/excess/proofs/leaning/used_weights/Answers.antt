@@ -4,7 +4,6 @@ use Rattle.lattice.specs.inner.Held.{vec}
 use Rattle.excess.specs.inner.Gifts.{lean_weight_at}
 use Rattle.excess.proofs.Leans.{Leaning, leaning-in, lean-in, weights-fit, used-even, used-lean}
 use Rattle.excess.proofs.Readings.{bits-zero, zero_bits}
-use borrow.Author.Rules.{rules}
 use Rattle.excess.proofs.leaning.used_weights.Lts as lts
 use Rattle.excess.proofs.leaning.used_weights.Reads as reads
 use Rattle.excess.proofs.leaning.used_weights.Tie as tie

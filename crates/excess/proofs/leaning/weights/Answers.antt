@@ -1,14 +1,13 @@
-use borrow.Author.Rules.{rules}
 use mathlib.Core.Path.{◌≡◌, refl, sym, ap, ◌∙◌}
-use Prim.Native.Nat.{◌+◌, ◌-◌, ◌≤◌}
+use Prim.Native.Nat.{◌+◌, ◌-◌}
 use native.Mathlib.Omega.{arith}
 use lib.IntN.{ℤ, pos}
 use lib.Dec.{eqb}
 use mathlib.Core.Bool.{cond}
 use Rattle.lattice.specs.Cell.{positive}
-use lib.ListN.{length, get_or, length-set}
+use lib.ListN.{get_or, length-set}
 use Rattle.whole.specs.laws.Machine.{Within}
-use Rattle.whole.specs.laws.Tab.{Upto, upto-more, upto_all}
+use Rattle.whole.specs.laws.Tab.{upto-more, upto_all}
 use Rattle.lattice.specs.inner.Held.{vec}
 use Rattle.excess.specs.inner.Gifts.{of_dir}
 use Rattle.excess.proofs.Leans.{of-dir, none_yet, by_dots, by-dots}

@@ -1,19 +1,11 @@
 -- `excess::leaning::weights`: e·n of each direction, where positive and a target, stored direction by direction. Assumes nothing.
-use borrow.Author.Rules.{rules}
-use mathlib.Core.Path.{◌≡◌, refl, sym, ap, ◌∙◌}
-use Prim.Native.Nat.{◌+◌, ◌-◌, ◌≤◌}
-use native.Mathlib.Omega.{arith}
-use lib.IntN.{ℤ, pos}
-use lib.Dec.{eqb}
-use mathlib.Core.Bool.{cond}
-use Rattle.lattice.specs.Cell.{positive}
-use lib.ListN.{length, get_or, length-set}
-use Rattle.whole.specs.laws.Machine.{Within}
-use Rattle.whole.specs.laws.Tab.{Upto, upto-more, upto_all}
-use Rattle.lattice.specs.inner.Held.{vec}
+use mathlib.Core.Path.{◌≡◌}
+use Prim.Native.Nat.{◌-◌, ◌≤◌}
+use lib.IntN.{pos}
+use lib.ListN.{length}
+use Rattle.whole.specs.laws.Tab.{Upto}
 use Rattle.excess.specs.inner.Gifts.{of_dir}
-use Rattle.excess.proofs.Leans.{of-dir, none_yet, by_dots, by-dots}
-use Rattle.excess.proofs.Readings.{told, told64}
+use Rattle.excess.proofs.Leans.{by_dots}
 use Rattle.excess.proofs.leaning.weights.Given as goal
 
 abbrev pub invariant-loop-i : goal.invariant-loop-i

@@ -1,10 +1,8 @@
 -- `fills::filling::plain_fills` stores what each flag says: cell by cell. Assumes nothing.
-use borrow.Author.Rules.{rules}
-use mathlib.Core.Path.{◌≡◌, refl, ◌∙◌, subst}
-use Prim.Native.Nat.{ℕ, ◌-◌, ◌<◌, ◌≤◌}
-use native.Mathlib.Omega.{arith}
-use lib.ListN.{length, length-set}
-use Rattle.whole.specs.laws.Tab.{Upto, upto_zero, upto-more, upto_all}
+use mathlib.Core.Path.{◌≡◌}
+use Prim.Native.Nat.{◌-◌, ◌≤◌}
+use lib.ListN.{length}
+use Rattle.whole.specs.laws.Tab.{Upto}
 use Rattle.fills.specs.inner.Filled.{plain_at}
 use Rattle.fills.proofs.filling.plain_fills.Given as goal
 

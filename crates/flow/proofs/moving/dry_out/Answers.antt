@@ -14,7 +14,6 @@ use Rattle.grid.specs.inner.Pasted.{pasted}
 use Rattle.lattice.proofs.Equal.{eq_z-true}
 use Rattle.grid.proofs.Blocks.{pasted-same}
 use borrow.Author.Tests.{not-false}
-use borrow.Author.Rules.{rules}
 use Rattle.flow.proofs.moving.dry_out.Lts as lts
 use Rattle.flow.proofs.moving.dry_out.Reads as reads
 use Rattle.flow.proofs.moving.dry_out.Tie as tie

@@ -4,7 +4,6 @@ use mathlib.Core.Bool.{◌&&◌}
 use Rattle.lattice.proofs.Bodies.{flow-x, flow-y, flow-z, body_is}
 use Rattle.lattice.proofs.Tame.{steady-tame}
 use Rattle.flow.proofs.Gentle.{body_kept}
-use borrow.Author.Rules.{rules}
 use Rattle.flow.proofs.moving.fair.Lts as lts
 use Rattle.flow.proofs.moving.fair.Reads as reads
 use Rattle.flow.proofs.moving.fair.Tie as tie

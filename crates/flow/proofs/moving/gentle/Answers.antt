@@ -3,7 +3,6 @@ use Rattle.whole.specs.laws.Machine.{same, does-fit}
 use Rattle.whole.specs.laws.Tests.{flags, flag-as}
 use Rattle.lattice.proofs.Reading.{reading}
 use Rattle.lattice.proofs.Tame.{wider}
-use borrow.Author.Rules.{rules}
 use Rattle.flow.specs.inner.Gentle.{gentle}
 use Rattle.flow.proofs.moving.gentle.Goals as goal
 

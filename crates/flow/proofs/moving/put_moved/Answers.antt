@@ -1,7 +1,5 @@
 -- `flow::moving::put_moved` does stages 3 and 4 of a liquid cell: it refuses as the definition does, and else pastes the collided parts. Assumes nothing.
 use mathlib.Core.Path.{◌≡◌, refl, sym, ap, ◌∙◌, subst}
-use mathlib.Core.Bool.{false≢true}
-use Prim.Native.Nat.{◌+◌, ◌*◌, ◌<◌, ◌≤◌}
 use native.Mathlib.Omega.{arith}
 use lib.IntN.{ℤ}
 use mir.Syntax.{w32, w64}
@@ -16,7 +14,6 @@ use Rattle.lattice.specs.inner.Held.{parts_of, Bounded, vec}
 use Rattle.lattice.specs.Body.{collided_part}
 use Rattle.flow.proofs.Collisions.{loosened, gravity-of, flow-rho, flow-x, flow-y, flow-z, pulled-x, pulled-y, pulled-z, put_refused, put-accepted}
 use Rattle.flow.proofs.Gentle.{follows}
-use borrow.Author.Rules.{rules}
 use Rattle.flow.proofs.moving.put_moved.Lts as lts
 use Rattle.flow.proofs.moving.put_moved.Reads as reads
 use Rattle.flow.proofs.moving.put_moved.Tie as tie

@@ -1,7 +1,7 @@
 -- `flow::moving::put_parts` does stages 1 to 4 of any cell: what is not liquid gets zeros. Assumes nothing.
 use mathlib.Core.Path.{◌≡◌, sym, ap, ◌∙◌}
 use mathlib.Core.Bool.{true}
-use Prim.Native.Nat.{◌+◌, ◌*◌, ◌<◌, ◌≤◌}
+use Prim.Native.Nat.{◌+◌, ◌*◌, ◌≤◌}
 use native.Mathlib.Omega.{arith}
 use lib.ListN.{length, get_or}
 use Rattle.grid.specs.State.{liquid}
@@ -9,7 +9,6 @@ use Rattle.grid.specs.inner.Sight.{bodies_of}
 use Rattle.grid.proofs.Lists.{get_or-there}
 use Rattle.flow.proofs.Collisions.{put-dry}
 use Rattle.arrivals.proofs.Spans.{light19, bounded-streamed}
-use borrow.Author.Rules.{rules}
 use Rattle.flow.proofs.moving.put_parts.Lts as lts
 use Rattle.flow.proofs.moving.put_parts.Reads as reads
 use Rattle.flow.proofs.moving.put_parts.Tie as tie

@@ -1,5 +1,5 @@
 -- `flow::relaxing::keeping`: the tension that the turbulent mode asks for, or none, which keeps every p. Assumes nothing.
-use mathlib.Core.Path.{◌≡◌, ◌∙◌}
+use mathlib.Core.Path.{◌≡◌}
 use mathlib.Core.Bool.{true}
 use lib.Signed.{◌≤ℤ◌}
 use mir.Syntax.{w64}

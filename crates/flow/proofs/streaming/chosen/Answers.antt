@@ -10,7 +10,6 @@ use Rattle.lattice.specs.Lattice.{d3q19}
 use Rattle.grid.specs.State.{part_of}
 use Rattle.arrivals.specs.inner.Sources.{source_of}
 use Rattle.arrivals.proofs.Arrivals.{source-low, at_source, streamed-straight}
-use borrow.Author.Rules.{rules}
 use Rattle.flow.proofs.streaming.chosen.Lts as lts
 use Rattle.flow.proofs.streaming.chosen.Reads as reads
 use Rattle.flow.proofs.streaming.chosen.Tie as tie

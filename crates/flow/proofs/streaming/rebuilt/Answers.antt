@@ -1,14 +1,14 @@
 use mathlib.Core.Path.{◌≡◌, refl, sym, ap, ◌∙◌}
-use mathlib.Core.List.{List, []}
-use Prim.Native.Nat.{ℕ, ◌+◌, ◌*◌, ◌-◌, ◌%◌, ◌≤◌, ◌<◌}
+use mathlib.Core.List.{List}
+use Prim.Native.Nat.{ℕ, ◌+◌, ◌*◌, ◌-◌, ◌<◌}
 use native.Mathlib.Nat.{add-zero}
 use native.Mathlib.Omega.{arith}
 use lib.IntN.{ℤ, pos}
-use lib.ListN.{length, get_or, replicate, length-set}
-use borrow.Author.Rules.{sfits_of, rules}
+use lib.ListN.{get_or, replicate, length-set}
+use borrow.Author.Rules.{sfits_of}
 use mir.Syntax.{w32}
 use mir.Facts.{to_z-of_z}
-use Rattle.whole.specs.laws.Tab.{Upto, upto_zero, upto-more, upto_all, get_or-tab}
+use Rattle.whole.specs.laws.Tab.{upto_zero, upto-more, upto_all, get_or-tab}
 use Rattle.lattice.specs.Lattice.{dot, d3q19}
 use Rattle.lattice.specs.inner.Held.{vec}
 use Rattle.lattice.specs.Cell.{is_positive}

@@ -1,27 +1,12 @@
 -- `flow::streaming::rebuilt` is what streams into a liquid cell. Each turn stores a pair: i is odd, so that its opposite is i + 1. Assumes nothing.
-use mathlib.Core.Path.{◌≡◌, refl, sym, ap, ◌∙◌}
-use mathlib.Core.List.{List, []}
-use Prim.Native.Nat.{ℕ, ◌+◌, ◌*◌, ◌-◌, ◌%◌, ◌≤◌, ◌<◌}
-use native.Mathlib.Nat.{add-zero}
-use native.Mathlib.Omega.{arith}
-use lib.IntN.{ℤ, pos}
-use lib.ListN.{length, get_or, replicate, length-set}
-use borrow.Author.Rules.{sfits_of, rules}
-use mir.Syntax.{w32}
-use mir.Facts.{to_z-of_z}
-use Rattle.whole.specs.laws.Tab.{Upto, upto_zero, upto-more, upto_all, get_or-tab}
-use Rattle.lattice.specs.Lattice.{dot, d3q19}
-use Rattle.lattice.specs.inner.Held.{vec}
-use Rattle.lattice.specs.Cell.{is_positive}
+use mathlib.Core.Path.{◌≡◌}
+use Prim.Native.Nat.{◌-◌, ◌%◌, ◌≤◌}
+use lib.IntN.{pos}
+use lib.ListN.{length}
+use Rattle.whole.specs.laws.Tab.{Upto}
 use Rattle.lattice.specs.declared.Settings.{Settings}
-use Rattle.grid.specs.State.{part_of, Scene}
-use Rattle.grid.specs.Step.{leans_to, streamed}
-use Rattle.grid.specs.inner.Sight.{Body, box_sight}
-use Rattle.arrivals.specs.inner.Sources.{Flows}
-use Rattle.arrivals.proofs.Arrivals.{streamed-rest, streamed-odd, streamed-even}
-use Rattle.arrivals.proofs.Leans.{leans-is}
-use Rattle.arrivals.proofs.Spans.{bounded-own, density-own, momentum-own, tame-body}
-use Rattle.flow.proofs.Stores.{upto-pair}
+use Rattle.grid.specs.Step.{streamed}
+use Rattle.grid.specs.inner.Sight.{box_sight}
 use Rattle.flow.proofs.streaming.rebuilt.Given as goal
 
 abbrev pub invariant-loop-i : goal.invariant-loop-i

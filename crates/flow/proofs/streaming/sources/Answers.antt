@@ -1,9 +1,8 @@
 use mathlib.Core.Path.{◌≡◌, refl}
-use Prim.Native.Nat.{◌+◌, ◌*◌, ◌-◌, ◌≤◌, ◌<◌}
+use Prim.Native.Nat.{◌-◌, ◌<◌}
 use native.Mathlib.Omega.{arith}
 use lib.ListN.{length, replicate, length-set}
-use borrow.Author.Rules.{rules}
-use Rattle.whole.specs.laws.Tab.{Upto, upto_zero, upto-more, upto_all}
+use Rattle.whole.specs.laws.Tab.{upto_zero, upto-more, upto_all}
 use Rattle.arrivals.specs.inner.Sources.{source_of}
 use Rattle.arrivals.proofs.Arrivals.{source_is}
 use Rattle.flow.proofs.streaming.sources.Lts as lts

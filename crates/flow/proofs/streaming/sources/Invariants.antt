@@ -1,12 +1,9 @@
 -- `flow::streaming::sources` gives where each part that streams straight in lies: the mirrored offset is the opposite neighbour's. Assumes nothing.
-use mathlib.Core.Path.{◌≡◌, refl}
-use Prim.Native.Nat.{◌+◌, ◌*◌, ◌-◌, ◌≤◌, ◌<◌}
-use native.Mathlib.Omega.{arith}
-use lib.ListN.{length, replicate, length-set}
-use borrow.Author.Rules.{rules}
-use Rattle.whole.specs.laws.Tab.{Upto, upto_zero, upto-more, upto_all}
+use mathlib.Core.Path.{◌≡◌}
+use Prim.Native.Nat.{◌-◌, ◌≤◌}
+use lib.ListN.{length}
+use Rattle.whole.specs.laws.Tab.{Upto}
 use Rattle.arrivals.specs.inner.Sources.{source_of}
-use Rattle.arrivals.proofs.Arrivals.{source_is}
 use Rattle.flow.proofs.streaming.sources.Given as goal
 
 abbrev pub invariant-loop-i : goal.invariant-loop-i

@@ -1,7 +1,5 @@
 -- `flow::streaming::streamed`: a fluid cell has no empty neighbour, and any other liquid cell goes by whatever lies beside it. Assumes nothing.
-use borrow.Author.Rules.{rules}
-use mathlib.Core.Path.{◌≡◌, ◌∙◌, sym}
-use lib.ListN.{get_or}
+use mathlib.Core.Path.{◌∙◌, sym}
 use Rattle.grid.proofs.Lists.{get_or-there}
 use Rattle.flow.proofs.streaming.streamed.Lts as lts
 use Rattle.flow.proofs.streaming.streamed.Reads as reads

@@ -8,7 +8,7 @@ use lib.Seq.{take_all, get_or-drop}
 use borrow.Author.Rules.{sfits_of, rules}
 use mir.Syntax.{w32}
 use mir.Facts.{to_z-of_z}
-use Rattle.whole.specs.laws.Tab.{Upto, upto_zero, upto-more, upto_all, tab-cong}
+use Rattle.whole.specs.laws.Tab.{upto_zero, upto-more, upto_all, tab-cong}
 use Rattle.flow.proofs.streaming.streamed_open.Lts as lts
 use Rattle.flow.proofs.streaming.streamed_open.Reads as reads
 use Rattle.flow.proofs.streaming.streamed_open.Goals as goal

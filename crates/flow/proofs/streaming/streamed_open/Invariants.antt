@@ -1,15 +1,9 @@
 -- `flow::streaming::streamed_open` reads nineteen parts at given places of a part of the list: each turn stores one more. Assumes nothing.
-use mathlib.Core.Path.{◌≡◌, refl, sym, ap, subst, ◌∙◌}
-use mathlib.Core.List.{List}
-use Prim.Native.Nat.{ℕ, ◌+◌, ◌-◌, ◌≤◌, ◌<◌}
-use native.Mathlib.Omega.{arith}
-use lib.IntN.{ℤ, pos}
-use lib.ListN.{length, get_or, take, drop, replicate, length-set, length-drop}
-use lib.Seq.{take_all, get_or-drop}
-use borrow.Author.Rules.{sfits_of, rules}
-use mir.Syntax.{w32}
-use mir.Facts.{to_z-of_z}
-use Rattle.whole.specs.laws.Tab.{Upto, upto_zero, upto-more, upto_all, tab-cong}
+use mathlib.Core.Path.{◌≡◌}
+use Prim.Native.Nat.{◌-◌, ◌≤◌}
+use lib.IntN.{pos}
+use lib.ListN.{length, get_or}
+use Rattle.whole.specs.laws.Tab.{Upto}
 use Rattle.flow.proofs.streaming.streamed_open.Given as goal
 
 abbrev pub invariant-loop-i : goal.invariant-loop-i

@@ -1,5 +1,4 @@
 -- `flow::trading::new_mark`: lattice's marks for an interface cell, 0 for any other. Assumes nothing.
-use borrow.Author.Rules.{rules}
 use mathlib.Core.Path.{sym, ◌∙◌, ap₂}
 use mathlib.Core.Bool.{cond}
 use lib.IntN.{ℤ}

@@ -1,5 +1,4 @@
 -- `flow::trading::new_mass`: the traded mass of an interface cell fits 32 bits; any other cell's is the density. Assumes nothing.
-use borrow.Author.Rules.{rules}
 use mathlib.Core.Path.{◌≡◌, sym, ◌∙◌}
 use lib.ListN.{get_or}
 use mir.Facts.{to_z-of_z}

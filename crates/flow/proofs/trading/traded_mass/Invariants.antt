@@ -1,18 +1,8 @@
 -- `flow::trading::traded_mass`: the mass and what is gained from the directions passed, two a turn. Assumes nothing.
-use borrow.Author.Rules.{rules}
-use mathlib.Core.Path.{◌≡◌, refl, ◌∙◌, ap}
-use Prim.Native.Nat.{◌+◌, ◌-◌, ◌%◌, ◌≤◌}
-use native.Mathlib.Omega.{arith}
-use lib.IntN.{pos}
-use lib.ListN.{get_or}
-use mir.Syntax.{w64}
-use mir.Val.{to_z}
-use Rattle.whole.specs.laws.Machine.{Val, machine, known, same, does-fit, reads_as}
-use Rattle.lattice.specs.Lattice.{d3q19}
+use mathlib.Core.Path.{◌≡◌}
+use Prim.Native.Nat.{◌-◌, ◌%◌, ◌≤◌}
 use Rattle.grid.specs.State.{part_of}
-use Rattle.flow.specs.inner.Trade.{trading_of}
-use Rattle.arrivals.proofs.Held.{held32, held64}
-use Rattle.arrivals.proofs.Trades.{gain, gained, gained-none, gained-all, first-is, second_is, gained-pair, gain-within, gained-within}
+use Rattle.arrivals.proofs.Trades.{gained}
 use Rattle.flow.proofs.trading.traded_mass.Given as goal
 
 abbrev pub invariant-loop-i : goal.invariant-loop-i

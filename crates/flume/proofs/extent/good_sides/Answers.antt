@@ -1,5 +1,4 @@
 -- `flume::extent::good_sides` is test 1: both sides. Assumes nothing.
-use borrow.Author.Rules.{rules}
 use mathlib.Core.Path.{ap₂}
 use mathlib.Core.Bool.{Bool, ◌&&◌}
 use Rattle.flume.specs.Flume.{flume_sides_good}

@@ -26,7 +26,7 @@ use Rattle.flume.specs.inner.Spread.{spread_lattice}
 use Rattle.nine.specs.inner.Cells.{part_of9}
 use Rattle.nine.proofs.Weighed.{weight-in}
 use Rattle.flumearrivals.proofs.Nines.{light9, part-at}
-use borrow.Author.Rules.{sfits_of, rules}
+use borrow.Author.Rules.{sfits_of}
 use Rattle.flumearrivals.proofs.streaming.arriving9.Lts as lts
 use Rattle.flumearrivals.proofs.streaming.arriving9.Reads as reads
 use Rattle.flumearrivals.proofs.streaming.arriving9.Tie as tie

@@ -14,7 +14,6 @@ use Rattle.arrivals.proofs.Trades.{passed-fluid, passed-interface, passed-dry}
 use Rattle.flume.specs.inner.Spread.{wide}
 use Rattle.nine.specs.inner.Cells.{part_of9}
 use Rattle.flumearrivals.proofs.Nines.{part-at}
-use borrow.Author.Rules.{rules}
 use borrow.Author.Tests.{not-true, not-false}
 use Rattle.flumearrivals.proofs.trading.traded9.Lts as lts
 use Rattle.flumearrivals.proofs.trading.traded9.Reads as reads

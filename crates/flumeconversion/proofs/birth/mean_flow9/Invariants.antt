@@ -1,11 +1,8 @@
 -- `flumeconversion::birth::mean_flow9`: the sums over the directions passed, and their means. Assumes nothing.
-use borrow.Author.Rules.{rules}
-use mathlib.Core.Path.{◌≡◌, subst}
-use Prim.Native.Nat.{ℕ, ◌-◌, ◌≤◌}
-use native.Mathlib.Omega.{arith}
+use Prim.Native.Nat.{◌-◌, ◌≤◌}
 use Rattle.flume.specs.inner.Spread.{spread_lattice}
 use Rattle.nine.specs.inner.Cells.{part_of9}
-use Rattle.conversion.proofs.Means.{Summed, summed-none, summed-more, roomy, countable-all, begins}
+use Rattle.conversion.proofs.Means.{Summed}
 use Rattle.flumeconversion.proofs.birth.mean_flow9.Given as goal
 
 abbrev pub invariant-loop-i : goal.invariant-loop-i

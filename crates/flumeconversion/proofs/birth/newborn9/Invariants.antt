@@ -1,18 +1,12 @@
 -- `flumeconversion::birth::newborn9`: visit after visit; the cells passed have their parts, the others are as they were. Assumes nothing.
-use borrow.Author.Rules.{rules}
-use mathlib.Core.Path.{◌≡◌, refl, ◌∙◌, ap, ap₂, subst}
-use mathlib.Core.Bool.{Bool, ◌&&◌}
-use mathlib.Core.List.{[]}
-use Prim.Native.Nat.{ℕ, ◌+◌, ◌*◌, ◌-◌, ◌≤◌, ◌<◌}
-use native.Mathlib.Omega.{arith}
+use mathlib.Core.Path.{◌≡◌}
+use Prim.Native.Nat.{◌-◌, ◌≤◌}
 use lib.ListN.{length}
 use Rattle.whole.specs.Fold.{all}
 use Rattle.conversion.specs.inner.Born.{newly_born, later_fair}
-use Rattle.whole.specs.laws.Search.{all_none, all_more}
-use Rattle.conversion.proofs.Newborns.{Reached, reached-zero, reached-more, reached-past, unborn}
+use Rattle.conversion.proofs.Newborns.{Reached}
 use Rattle.nine.specs.inner.Cells.{part_of9}
 use Rattle.flumearrivals.specs.inner.Seen.{sight9}
-use Rattle.flumeconversion.proofs.Newborns.{visited-size, visited-list}
 use Rattle.flumeconversion.proofs.birth.newborn9.Given as goal
 
 abbrev pub invariant-loop-c : goal.invariant-loop-c

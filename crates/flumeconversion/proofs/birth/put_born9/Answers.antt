@@ -1,5 +1,4 @@
 -- `flumeconversion::birth::put_born9`: the equilibrium of the mean flow is what the cell begins with. Assumes nothing.
-use borrow.Author.Rules.{rules}
 use mathlib.Core.Path.{◌∙◌, ap}
 use mathlib.Core.List.{List}
 use lib.IntN.{ℤ}

@@ -1,5 +1,4 @@
 -- `flumeconversion::birth::visit9`: a new interface cell is put, any other left. Assumes nothing.
-use borrow.Author.Rules.{rules}
 use mathlib.Core.Path.{◌≡◌, sym, ◌∙◌}
 use native.Mathlib.Omega.{arith}
 use Rattle.conversion.specs.inner.Born.{newly_born}

@@ -1,5 +1,4 @@
 -- `flumeconversion::birth::with_cell9`: one cell more where it is liquid, else nothing. Assumes nothing.
-use borrow.Author.Rules.{rules}
 use mathlib.Core.Path.{◌≡◌, sym, ◌∙◌, ap}
 use lib.ListN.{get_or}
 use Rattle.grid.specs.State.{liquid}

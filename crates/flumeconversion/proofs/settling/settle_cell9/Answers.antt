@@ -1,5 +1,4 @@
 -- `flumeconversion::settling::settle_cell9`: a filled cell's mass is the density of its own parts, an emptied cell's mass and parts are zero. Assumes nothing.
-use borrow.Author.Rules.{rules}
 use borrow.Author.Tests.{eq-eqb, ne_eqb}
 use mathlib.Core.Path.{◌≡◌, sym, ap, ◌∙◌}
 use mathlib.Core.Bool.{true, false}

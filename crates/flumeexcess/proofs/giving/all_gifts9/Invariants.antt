@@ -1,19 +1,9 @@
 -- `flumeexcess::giving::all_gifts9` adds up what the neighbours give, direction by direction. Assumes nothing.
-use borrow.Author.Rules.{rules}
-use mathlib.Core.Path.{◌≡◌, refl, sym, ap, subst, ◌∙◌}
-use Prim.Native.Nat.{ℕ, ◌+◌, ◌-◌, ◌≤◌}
-use native.Mathlib.Omega.{arith}
-use lib.ListN.{get_or}
-use mir.Syntax.{w64}
-use mir.Val.{to_z, of_z}
-use Rattle.whole.specs.Fold.{sum, Dir}
-use Rattle.whole.specs.laws.Machine.{does-fit, reads_as, v+, v64}
-use Rattle.lattice.specs.Lattice.{d3q19}
-use Rattle.flumeexcess.specs.inner.Gathered.{RoomOf9}
+use mathlib.Core.Path.{◌≡◌}
+use Prim.Native.Nat.{◌-◌, ◌≤◌}
+use Rattle.whole.specs.Fold.{sum}
 use Rattle.nine.specs.inner.Cells.{part_of9}
-use Rattle.excess.specs.inner.Gifts.{received_at}
-use Rattle.excess.proofs.Takes.{sent, Asked, asked, sum-in, sent-in, sum_more, sent-at}
-use Rattle.excess.proofs.Readings.{told64, held_in}
+use Rattle.excess.proofs.Takes.{sent}
 use Rattle.flumeexcess.proofs.giving.all_gifts9.Given as goal
 
 abbrev pub invariant-loop-i : goal.invariant-loop-i

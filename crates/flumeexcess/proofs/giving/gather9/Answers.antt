@@ -10,7 +10,7 @@ use mir.Syntax.{w64}
 use mir.Val.{to_z, of_z}
 use Rattle.whole.specs.laws.Machine.{Val, does-fit, reads_as, v+, v64, v32}
 use Rattle.grid.proofs.Ranges.{Ranged, over-gap, ranged-first, ranged-more, ranged-keep, ranged-all}
-use Rattle.excess.specs.inner.Gifts.{gathered_at, received_at}
+use Rattle.excess.specs.inner.Gifts.{received_at}
 use Rattle.excess.proofs.Takes.{taking, took, kept, marked-still, giving-still, received-still, received-in, in-range}
 use Rattle.excess.proofs.Readings.{told, told64, held_in}
 use Rattle.nine.specs.inner.Cells.{part_of9}

@@ -1,20 +1,10 @@
 -- `flumeexcess::giving::gather9` is pass 6. It writes cells whose new flag is interface and reads masses of marked cells, which never are; so what it reads is
 -- what was there at first. Assumes nothing.
-use borrow.Author.Rules.{rules}
-use mathlib.Core.Path.{◌≡◌, refl, sym, subst, ◌∙◌}
-use mathlib.Core.Logic.{⊎_elim}
-use mathlib.Core.List.{List}
-use Prim.Native.Nat.{ℕ, ◌+◌, ◌-◌, ◌≤◌, ◌<◌}
-use native.Mathlib.Omega.{arith}
-use lib.IntN.{ℤ, pos, ◌+ℤ◌}
-use lib.ListN.{length, get_or}
-use mir.Syntax.{w64}
-use mir.Val.{to_z, of_z}
-use Rattle.whole.specs.laws.Machine.{Val, does-fit, reads_as, v+, v64, v32}
-use Rattle.grid.proofs.Ranges.{Ranged, over-gap, ranged-first, ranged-more, ranged-keep, ranged-all}
-use Rattle.excess.specs.inner.Gifts.{gathered_at, received_at}
-use Rattle.excess.proofs.Takes.{taking, took, kept, marked-still, giving-still, received-still, received-in, in-range}
-use Rattle.excess.proofs.Readings.{told, told64, held_in}
+use Prim.Native.Nat.{◌-◌}
+use lib.IntN.{pos}
+use lib.ListN.{length}
+use Rattle.grid.proofs.Ranges.{Ranged}
+use Rattle.excess.specs.inner.Gifts.{gathered_at}
 use Rattle.nine.specs.inner.Cells.{part_of9}
 use Rattle.flumeexcess.proofs.giving.gather9.Given as goal
 

@@ -1,5 +1,4 @@
 -- `flumeexcess::giving::gift9` is the share of the excess by the weights; with a target these have a total. Assumes nothing.
-use borrow.Author.Rules.{rules}
 use mathlib.Core.Path.{sym, subst, ◌∙◌}
 use Prim.Native.Nat.{◌-◌}
 use lib.IntN.{ℤ, pos}

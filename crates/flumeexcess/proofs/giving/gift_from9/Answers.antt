@@ -1,5 +1,4 @@
 -- `flumeexcess::giving::gift_from9`: a cell with no mark gives nothing. Assumes nothing.
-use borrow.Author.Rules.{rules}
 use mathlib.Core.Path.{◌∙◌}
 use Rattle.nine.specs.inner.Cells.{part_of9}
 use Rattle.excess.proofs.Sent.{from-none, from_some}

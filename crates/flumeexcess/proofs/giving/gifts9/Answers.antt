@@ -1,5 +1,4 @@
 -- `flumeexcess::giving::gifts9`: where no neighbour is marked, none gives. Assumes nothing.
-use borrow.Author.Rules.{rules}
 use borrow.Author.Tests.{not-true}
 use mathlib.Core.Path.{sym, subst, ◌∙◌}
 use Prim.Native.Nat.{ℕ, ◌+◌, ◌-◌, ◌<◌}

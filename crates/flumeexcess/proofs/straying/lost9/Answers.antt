@@ -1,5 +1,4 @@
 -- `flumeexcess::straying::lost9`: with no target the even weights add up to 0. Assumes nothing.
-use borrow.Author.Rules.{rules}
 use mathlib.Core.Path.{sym, ◌∙◌}
 use Prim.Native.Nat.{◌-◌}
 use native.Mathlib.Omega.{arith}

@@ -1,20 +1,10 @@
 -- `flumeexcess::straying::new_carry9` is pass 5: the carry and what strayed from the cells passed. Assumes nothing.
-use borrow.Author.Rules.{rules}
-use mathlib.Core.Path.{◌≡◌, refl, sym, ap, ap₂, ◌∙◌}
-use mathlib.Core.Logic.{⊎_elim}
-use Prim.Native.Nat.{ℕ, ◌+◌, ◌-◌, ◌≤◌, ◌<◌}
-use native.Mathlib.Omega.{arith}
-use lib.IntN.{ℤ, ◌+ℤ◌, +ℤ_idr}
+use mathlib.Core.Path.{◌≡◌}
+use Prim.Native.Nat.{◌+◌, ◌-◌, ◌≤◌}
+use lib.IntN.{◌+ℤ◌}
 use lib.ListN.{length}
-use mir.Syntax.{w64}
-use mir.Val.{to_z, of_z}
-use mir.Facts.{to_z-of_z}
 use Rattle.whole.specs.Fold.{sum}
-use Rattle.whole.specs.laws.Machine.{Val, Within, within_by, does-fit, reads_as, v+, v64}
-use Rattle.grid.proofs.Ranges.{over-gap}
 use Rattle.excess.specs.inner.Gifts.{stray_at}
-use Rattle.excess.proofs.Strays.{stray-some, stray-in, strays-in, strays-more, strays-keep}
-use Rattle.excess.proofs.Readings.{told64, held_in}
 use Rattle.nine.specs.inner.Cells.{part_of9}
 use Rattle.flumeexcess.proofs.straying.new_carry9.Given as goal
 

@@ -1,6 +1,5 @@
 -- `flumefinish::finishing::finished`: the conversion and the fills make the next state; test 8 passes where all was found fair, else the scan answers it.
 -- Assumes nothing.
-use borrow.Author.Rules.{rules}
 use Rattle.flumefinish.proofs.Finishes.{turning, turned-level, filling, set-lengths, finished-fair, finished-judged}
 use Rattle.flumefinish.proofs.finishing.finished.Lts as lts
 use Rattle.flumefinish.proofs.finishing.finished.Reads as reads

@@ -16,7 +16,6 @@ use Rattle.flume.specs.inner.Spread.{wide}
 use Rattle.nine.specs.inner.Cells.{part_of9, pasted9}
 use Rattle.nine.proofs.Pasted.{pasted-same}
 use Rattle.flumearrivals.proofs.Nines.{part-at, place-low}
-use borrow.Author.Rules.{rules}
 use Rattle.flumeflow.proofs.moving.dry_out9.Lts as lts
 use Rattle.flumeflow.proofs.moving.dry_out9.Reads as reads
 use Rattle.flumeflow.proofs.moving.dry_out9.Tie as tie

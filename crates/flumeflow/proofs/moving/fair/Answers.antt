@@ -1,12 +1,11 @@
 -- `flumeflow::moving::fair`: both tests together are the rule of a liquid cell's body, whose density is known. Assumes nothing.
-use mathlib.Core.Path.{◌≡◌, sym, ap, ap₂, ◌∙◌, subst}
+use mathlib.Core.Path.{sym, ap, ap₂, ◌∙◌, subst}
 use mathlib.Core.Bool.{◌&&◌}
 use mir.Facts.{to_z-of_z}
 use Rattle.whole.specs.laws.Machine.{Within}
 use Rattle.lattice.specs.declared.Flow.{Flow}
 use Rattle.lattice.specs.inner.Held.{vec}
 use Rattle.lattice.proofs.Bodies.{flow-x, flow-y, flow-z, body_is}
-use borrow.Author.Rules.{rules}
 use Rattle.flumeflow.proofs.moving.fair.Lts as lts
 use Rattle.flumeflow.proofs.moving.fair.Reads as reads
 use Rattle.flumeflow.proofs.moving.fair.Tie as tie

@@ -21,7 +21,6 @@ use Rattle.nine.specs.inner.Cells.{part_of9, pasted9}
 use Rattle.nine.proofs.Pasted.{length-pasted9}
 use Rattle.nine.proofs.Places.{quiet-collided}
 use Rattle.flumearrivals.proofs.Nines.{density-made}
-use borrow.Author.Rules.{rules}
 use Rattle.flumeflow.proofs.moving.put_moved9.Lts as lts
 use Rattle.flumeflow.proofs.moving.put_moved9.Reads as reads
 use Rattle.flumeflow.proofs.moving.put_moved9.Tie as tie

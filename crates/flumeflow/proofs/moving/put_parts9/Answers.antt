@@ -12,7 +12,6 @@ use Rattle.flume.specs.inner.Spread.{spread_lattice}
 use Rattle.nine.specs.inner.Cells.{part_of9, pasted9}
 use Rattle.nine.proofs.Pasted.{length-pasted9}
 use Rattle.flumearrivals.proofs.Nines.{light9, quiet-streamed}
-use borrow.Author.Rules.{rules}
 use Rattle.flumeflow.proofs.moving.put_parts9.Lts as lts
 use Rattle.flumeflow.proofs.moving.put_parts9.Reads as reads
 use Rattle.flumeflow.proofs.moving.put_parts9.Tie as tie

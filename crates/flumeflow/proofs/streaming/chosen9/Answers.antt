@@ -12,7 +12,6 @@ use Rattle.flume.specs.inner.Spread.{wide, spread_lattice}
 use Rattle.nine.specs.inner.Cells.{part_of9}
 use Rattle.flumearrivals.specs.inner.Seen.{source_of9}
 use Rattle.flumearrivals.proofs.Nines.{part-at, place-low, at_source, streamed-spread}
-use borrow.Author.Rules.{rules}
 use Rattle.flumeflow.proofs.streaming.chosen9.Lts as lts
 use Rattle.flumeflow.proofs.streaming.chosen9.Reads as reads
 use Rattle.flumeflow.proofs.streaming.chosen9.Tie as tie

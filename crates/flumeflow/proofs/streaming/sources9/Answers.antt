@@ -1,11 +1,10 @@
 use mathlib.Core.Path.{◌≡◌, refl}
-use Prim.Native.Nat.{◌-◌, ◌≤◌, ◌<◌}
+use Prim.Native.Nat.{◌-◌, ◌<◌}
 use native.Mathlib.Omega.{arith}
 use lib.ListN.{length, replicate, length-set}
-use Rattle.whole.specs.laws.Tab.{Upto, upto_zero, upto-more, upto_all}
+use Rattle.whole.specs.laws.Tab.{upto_zero, upto-more, upto_all}
 use Rattle.flumearrivals.specs.inner.Seen.{source_of9}
 use Rattle.flumearrivals.proofs.Nines.{source_is}
-use borrow.Author.Rules.{rules}
 use Rattle.flumeflow.proofs.streaming.sources9.Lts as lts
 use Rattle.flumeflow.proofs.streaming.sources9.Reads as reads
 use Rattle.flumeflow.proofs.streaming.sources9.Tie as tie

@@ -1,12 +1,9 @@
 -- `flumeflow::streaming::sources9` gives where each part that streams straight in lies: the mirrored offset is the opposite neighbour's. Assumes nothing.
-use mathlib.Core.Path.{◌≡◌, refl}
-use Prim.Native.Nat.{◌-◌, ◌≤◌, ◌<◌}
-use native.Mathlib.Omega.{arith}
-use lib.ListN.{length, replicate, length-set}
-use Rattle.whole.specs.laws.Tab.{Upto, upto_zero, upto-more, upto_all}
+use mathlib.Core.Path.{◌≡◌}
+use Prim.Native.Nat.{◌-◌, ◌≤◌}
+use lib.ListN.{length}
+use Rattle.whole.specs.laws.Tab.{Upto}
 use Rattle.flumearrivals.specs.inner.Seen.{source_of9}
-use Rattle.flumearrivals.proofs.Nines.{source_is}
-use borrow.Author.Rules.{rules}
 use Rattle.flumeflow.proofs.streaming.sources9.Given as goal
 
 abbrev pub invariant-loop-k : goal.invariant-loop-k

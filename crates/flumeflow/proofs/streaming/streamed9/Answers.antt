@@ -1,6 +1,6 @@
 use mathlib.Core.Path.{◌≡◌, refl, sym, ap, ap₂, ◌∙◌}
-use mathlib.Core.List.{List, []}
-use Prim.Native.Nat.{ℕ, ◌+◌, ◌*◌, ◌-◌, ◌%◌, ◌<◌}
+use mathlib.Core.List.{List}
+use Prim.Native.Nat.{ℕ, ◌+◌, ◌*◌, ◌-◌, ◌<◌}
 use native.Mathlib.Nat.{add-zero}
 use native.Mathlib.Omega.{arith}
 use lib.IntN.{ℤ, pos}
@@ -21,10 +21,10 @@ use Rattle.arrivals.proofs.Leans.{leans-is}
 use Rattle.arrivals.proofs.Spans.{bounded-own, density-own, momentum-own, tame-body}
 use Rattle.flume.specs.inner.Spread.{wide, spread_lattice}
 use Rattle.nine.specs.inner.Cells.{part_of9}
-use Rattle.nine.proofs.Places.{Filled, filled_zero, filled_more, filled-all}
+use Rattle.nine.proofs.Places.{filled_zero, filled_more, filled-all}
 use Rattle.flumearrivals.specs.inner.Seen.{sight9}
 use Rattle.flumearrivals.proofs.Nines.{Paired, paired, part-at, streamed-spread, filled-pair}
-use borrow.Author.Rules.{sfits_of, rules}
+use borrow.Author.Rules.{sfits_of}
 use Rattle.lattice.specs.declared.Settings.{Settings}
 use Rattle.flumeflow.proofs.streaming.streamed9.Lts as lts
 use Rattle.flumeflow.proofs.streaming.streamed9.Reads as reads

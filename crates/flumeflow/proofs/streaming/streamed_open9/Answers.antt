@@ -5,8 +5,8 @@ use lib.IntN.{pos}
 use lib.ListN.{get_or}
 use mir.Syntax.{w32}
 use mir.Facts.{to_z-of_z}
-use Rattle.nine.proofs.Places.{Filled, filled_zero, filled_more, filled-all}
-use borrow.Author.Rules.{sfits_of, rules}
+use Rattle.nine.proofs.Places.{filled_zero, filled_more, filled-all}
+use borrow.Author.Rules.{sfits_of}
 use Rattle.flumeflow.proofs.streaming.streamed_open9.Lts as lts
 use Rattle.flumeflow.proofs.streaming.streamed_open9.Reads as reads
 use Rattle.flumeflow.proofs.streaming.streamed_open9.Tie as tie

@@ -1,13 +1,8 @@
 -- `flumeflow::streaming::streamed_open9` reads nine parts to their places: each turn stores one more. Assumes nothing.
-use mathlib.Core.Path.{◌≡◌}
 use Prim.Native.Nat.{ℕ, ◌+◌, ◌-◌}
-use native.Mathlib.Omega.{arith}
 use lib.IntN.{pos}
 use lib.ListN.{get_or}
-use mir.Syntax.{w32}
-use mir.Facts.{to_z-of_z}
-use Rattle.nine.proofs.Places.{Filled, filled_zero, filled_more, filled-all}
-use borrow.Author.Rules.{sfits_of, rules}
+use Rattle.nine.proofs.Places.{Filled}
 use Rattle.flumeflow.proofs.streaming.streamed_open9.Given as goal
 
 abbrev pub invariant-loop-k : goal.invariant-loop-k

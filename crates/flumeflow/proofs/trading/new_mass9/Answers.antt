@@ -9,7 +9,6 @@ use Rattle.grid.proofs.Lists.{get_or-there}
 use Rattle.arrivals.proofs.Trades.{by-other}
 use Rattle.flumearrivals.specs.inner.Seen.{sight9, trading9}
 use Rattle.flumeflow.proofs.Gains.{mass-within}
-use borrow.Author.Rules.{rules}
 use Rattle.flumeflow.proofs.trading.new_mass9.Lts as lts
 use Rattle.flumeflow.proofs.trading.new_mass9.Reads as reads
 use Rattle.flumeflow.proofs.trading.new_mass9.Tie as tie

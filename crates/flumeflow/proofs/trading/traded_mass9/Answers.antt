@@ -1,5 +1,5 @@
 use mathlib.Core.Path.{◌≡◌, refl, ◌∙◌, ap}
-use Prim.Native.Nat.{ℕ, ◌+◌, ◌-◌, ◌%◌, ◌≤◌, ◌<◌}
+use Prim.Native.Nat.{ℕ, ◌+◌, ◌-◌, ◌<◌}
 use native.Mathlib.Omega.{arith}
 use lib.IntN.{pos}
 use lib.ListN.{get_or}
@@ -14,7 +14,6 @@ use Rattle.nine.specs.inner.Cells.{part_of9}
 use Rattle.flumearrivals.specs.inner.Seen.{trading9}
 use Rattle.flumearrivals.proofs.Nines.{Paired, paired}
 use Rattle.flumeflow.proofs.Gains.{gain9, gained9, first-is, second_is, gain-within, gained-within, gained-all}
-use borrow.Author.Rules.{rules}
 use Rattle.flumeflow.proofs.trading.traded_mass9.Lts as lts
 use Rattle.flumeflow.proofs.trading.traded_mass9.Reads as reads
 use Rattle.flumeflow.proofs.trading.traded_mass9.Tie as tie

@@ -1,5 +1,4 @@
 -- `flumegrid::checking::check` is the whole check of a flume: sides, lengths, then tests 4 to 6. Assumes nothing.
-use borrow.Author.Rules.{rules}
 use borrow.Author.Tests.{not-true, not-false}
 use mathlib.Core.Path.{◌≡◌, sym, ◌∙◌}
 use mathlib.Core.Bool.{true}

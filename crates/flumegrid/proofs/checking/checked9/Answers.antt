@@ -1,5 +1,5 @@
 -- `flumegrid::checking::checked9` goes through tests 4 to 6 as the outcome's chain has them. Assumes nothing.
-use borrow.Author.Rules.{rules, sfits_of}
+use borrow.Author.Rules.{sfits_of}
 use mathlib.Core.Path.{◌≡◌, ap, ◌∙◌}
 use Prim.Native.Nat.{ℕ}
 use native.Mathlib.Omega.{arith}

@@ -1,20 +1,13 @@
-use borrow.Author.Rules.{rules}
 use borrow.Author.Count.{below_more}
 use borrow.Author.Tests.{not-true, not-false}
-use mathlib.Core.Path.{◌≡◌, refl, sym, ap, ◌∙◌}
+use mathlib.Core.Path.{refl, sym, ap, ◌∙◌}
 use mir.Syntax.{w64}
 use mir.Facts.{to_z-of_z}
 use Rattle.lattice.specs.Cell.{carry_good}
 use mathlib.Core.Bool.{true}
-use mathlib.Core.List.{[], ◌∷◌}
-use Prim.Native.Nat.{ℕ, ◌-◌, ◌≤◌, ◌<◌}
+use Prim.Native.Nat.{◌-◌}
 use native.Mathlib.Nat.{not-suc-le-zero}
 use native.Mathlib.Omega.{arith}
-use lib.IntN.{pos}
-use lib.ListN.{length}
-use Rattle.lattice.specs.Lattice.{d2q9}
-use Rattle.grid.specs.State.{lent, state_of}
-use Rattle.grid.specs.Good.{cell_good}
 use Rattle.flumegrid.proofs.Rules.{nine-cell, nine-carry, nine-none}
 use Rattle.flumegrid.proofs.checking.first_bad9.Goals as goal
 

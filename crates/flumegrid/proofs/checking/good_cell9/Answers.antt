@@ -1,5 +1,5 @@
 -- `flumegrid::checking::good_cell9` keeps a cell to test 6's rules, liquid or dry. Assumes nothing.
-use borrow.Author.Rules.{rules, sfits_of}
+use borrow.Author.Rules.{sfits_of}
 use mathlib.Core.Path.{sym, ap, ◌∙◌}
 use mathlib.Core.Bool.{Bool, ◌&&◌}
 use lib.Dec.{eqb}

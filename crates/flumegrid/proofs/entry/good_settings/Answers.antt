@@ -1,5 +1,4 @@
 -- `flumegrid::entry::good_settings` is test 3 of the level settings. Assumes nothing.
-use borrow.Author.Rules.{rules}
 use mathlib.Core.Path.{◌≡◌, ◌∙◌}
 use mathlib.Core.Bool.{◌&&◌}
 use lib.IntN.{ℤ, pos}

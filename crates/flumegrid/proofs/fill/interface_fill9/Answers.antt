@@ -1,5 +1,4 @@
 -- `flumegrid::fill::interface_fill9`: lattice's fill, by the density of the cell's own nine parts. Assumes nothing.
-use borrow.Author.Rules.{rules}
 use mathlib.Core.Path.{◌≡◌, ◌∙◌, ap₂}
 use Prim.Native.Nat.{◌≤◌}
 use native.Mathlib.Omega.{arith}

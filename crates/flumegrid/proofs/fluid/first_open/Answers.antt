@@ -1,5 +1,4 @@
 -- `flumegrid::fluid::first_open`: by the flume's offsets, test 5's place. Assumes nothing.
-use borrow.Author.Rules.{rules}
 use mathlib.Core.Path.{◌∙◌}
 use Rattle.flumegrid.proofs.Open.{open-flume, embedded}
 use Rattle.flumegrid.proofs.fluid.first_open.Goals as goal

@@ -1,5 +1,4 @@
 -- `flumegrid::layer::bad_flag` is the negation of the rule: a flag above 3, or an outer cell that is not wall. Assumes nothing.
-use borrow.Author.Rules.{rules}
 use borrow.Author.Tests.{lt-ltb, le-ltb}
 use mathlib.Core.Path.{◌≡◌, refl}
 use mathlib.Core.Bool.{Bool, true, false, not, ◌&&◌, ◌||◌}

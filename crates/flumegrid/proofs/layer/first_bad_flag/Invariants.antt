@@ -1,14 +1,8 @@
 -- `flumegrid::layer::first_bad_flag` is test 4's place. The loop walks row by row; no cell passed breaks the rule. Assumes nothing.
-use borrow.Author.Rules.{rules}
-use mathlib.Core.Path.{◌≡◌, ap, ◌∙◌}
+use mathlib.Core.Path.{◌≡◌}
 use mathlib.Core.Bool.{false}
-use Prim.Native.Nat.{ℕ, ◌+◌, ◌-◌, ◌*◌, ◌≤◌, ◌<◌}
-use native.Mathlib.Omega.{arith}
-use native.Mathlib.Nat.{not-suc-le-zero}
-use Rattle.flume.specs.Flume.{flume_cells}
-use Rattle.flumegrid.specs.inner.Layer.{bad_at, Row}
-use Rattle.flumegrid.proofs.GoodSides.{few}
-use Rattle.flumegrid.proofs.Rows.{found, none_found, row_room, passed}
+use Prim.Native.Nat.{ℕ, ◌-◌, ◌*◌, ◌≤◌, ◌<◌}
+use Rattle.flumegrid.specs.inner.Layer.{bad_at}
 use Rattle.flumegrid.proofs.layer.first_bad_flag.Given as goal
 
 abbrev pub invariant-loop-z : goal.invariant-loop-z

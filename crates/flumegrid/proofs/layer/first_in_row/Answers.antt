@@ -1,11 +1,9 @@
-use borrow.Author.Rules.{rules}
 use borrow.Author.Count.{below_more}
-use mathlib.Core.Path.{◌≡◌, sym, ◌∙◌}
+use mathlib.Core.Path.{sym, ◌∙◌}
 use mathlib.Core.Bool.{false}
-use Prim.Native.Nat.{ℕ, ◌+◌, ◌-◌, ◌≤◌, ◌<◌}
+use Prim.Native.Nat.{◌-◌}
 use native.Mathlib.Omega.{arith}
 use native.Mathlib.Nat.{not-suc-le-zero}
-use Rattle.flumegrid.specs.inner.Layer.{bad_at}
 use Rattle.flumegrid.proofs.GoodSides.{few}
 use Rattle.flumegrid.proofs.Rows.{tested, row-cell}
 use Rattle.flumegrid.proofs.layer.first_in_row.Goals as goal

@@ -1,14 +1,8 @@
 -- `flumegrid::layer::first_in_row`: no cell of the row that was passed breaks the rule. Assumes nothing.
-use borrow.Author.Rules.{rules}
-use borrow.Author.Count.{below_more}
-use mathlib.Core.Path.{◌≡◌, sym, ◌∙◌}
+use mathlib.Core.Path.{◌≡◌}
 use mathlib.Core.Bool.{false}
 use Prim.Native.Nat.{ℕ, ◌+◌, ◌-◌, ◌≤◌, ◌<◌}
-use native.Mathlib.Omega.{arith}
-use native.Mathlib.Nat.{not-suc-le-zero}
 use Rattle.flumegrid.specs.inner.Layer.{bad_at}
-use Rattle.flumegrid.proofs.GoodSides.{few}
-use Rattle.flumegrid.proofs.Rows.{tested, row-cell}
 use Rattle.flumegrid.proofs.layer.first_in_row.Given as goal
 
 abbrev pub invariant-loop-x : goal.invariant-loop-x

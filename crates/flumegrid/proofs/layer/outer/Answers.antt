@@ -1,5 +1,4 @@
 -- `flumegrid::layer::outer` asks whether a coordinate is at either end. Assumes nothing.
-use borrow.Author.Rules.{rules}
 use native.Mathlib.Numerals.{add-one}
 use Rattle.flumegrid.specs.inner.Layer.{edge}
 use Rattle.flumegrid.proofs.layer.outer.Goals as goal

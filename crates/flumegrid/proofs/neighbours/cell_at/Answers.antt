@@ -1,5 +1,4 @@
 -- `flumegrid::neighbours::cell_at` is the cell number: with good sides the product is small. Assumes nothing.
-use borrow.Author.Rules.{rules}
 use Prim.Native.Nat.{◌*◌, ◌≤◌}
 use native.Mathlib.Nat.{mul-le-mul}
 use native.Mathlib.Omega.{arith}

@@ -1,5 +1,4 @@
 -- `flumegrid::neighbours::low_of` is the cell at (1, 1). Assumes nothing.
-use borrow.Author.Rules.{rules}
 use native.Mathlib.Omega.{arith}
 use Rattle.flume.specs.inner.Offsets.{flume_low}
 use Rattle.flumegrid.proofs.neighbours.low_of.Goals as goal

@@ -1,5 +1,4 @@
 -- `flumegrid::neighbours::offsets` lists the table. Assumes nothing.
-use borrow.Author.Rules.{rules}
 use Rattle.flumegrid.proofs.Offsets.{table}
 use Rattle.flumegrid.proofs.neighbours.offsets.Goals as goal
 

@@ -1,5 +1,4 @@
 -- `flumemarks::eight::beside9` asks the eight neighbours in a row. Assumes nothing.
-use borrow.Author.Rules.{rules}
 use mathlib.Core.Path.{refl}
 use native.Mathlib.Omega.{arith}
 use Rattle.whole.specs.Fold.{any}

@@ -1,10 +1,9 @@
-use borrow.Author.Rules.{rules}
 use mathlib.Core.Path.{refl, ap, ◌∙◌}
-use Prim.Native.Nat.{◌-◌, ◌≤◌}
+use Prim.Native.Nat.{◌-◌}
 use native.Mathlib.Omega.{arith}
 use lib.ListN.{get_or}
-use Rattle.grid.specs.inner.Passes.{beside_at, open_mark}
-use Rattle.grid.proofs.Ranges.{Ranged, ranged-first, ranged-more}
+use Rattle.grid.specs.inner.Passes.{open_mark}
+use Rattle.grid.proofs.Ranges.{ranged-first, ranged-more}
 use Rattle.grid.proofs.Inside.{reach-by}
 use Rattle.passes.proofs.Marking.{opened}
 use Rattle.flumemarks.proofs.Alike.{open-same}

@@ -1,5 +1,4 @@
 -- `flumemirroring::entry::entered`: the outcome's chain of tests, whatever is lent. Assumes nothing.
-use borrow.Author.Rules.{rules}
 use borrow.Author.Tests.{not-true, not-false}
 use mathlib.Core.Path.{◌≡◌, sym, ◌∙◌}
 use mathlib.Core.Bool.{true}

@@ -213,7 +213,7 @@ overflow_add-end-4 c = record { fits = omega (arith, few-here c.before, small (f
 
 pub first_unfair-unfair-requires : goal.first_unfair-unfair-requires
 first_unfair-unfair-requires c =
-    let is = cells_are (f c.before) in  record { flags_in_bounds = omega (arith, interfaces-are (r c.before) is (there (f c.before)), masses-here c.before, (d c.before).requires.flume_sound.masses.inside); flags_in_bounds_2 = omega (arith, liquids-are (r c.before) is (there (f c.before)), parts-here c.before, (d c.before).requires.flume_sound.parts.inside) }
+    let is = cells_are (f c.before) in record { flags_in_bounds = omega (arith, interfaces-are (r c.before) is (there (f c.before)), masses-here c.before, (d c.before).requires.flume_sound.masses.inside); flags_in_bounds_2 = omega (arith, liquids-are (r c.before) is (there (f c.before)), parts-here c.before, (d c.before).requires.flume_sound.parts.inside) }
 
 pub returns-then-unfair-n : goal.returns-then-unfair-n
 returns-then-unfair-n c =

@@ -1,5 +1,4 @@
 -- `flumereading::content::content` tests settings and origin, and then the cells. Assumes nothing.
-use borrow.Author.Rules.{rules}
 use mathlib.Core.Path.{◌≡◌, sym, ap₂, ◌∙◌}
 use Prim.Native.Nat.{suc}
 use borrow.Author.Tests.{not-true, not-false}

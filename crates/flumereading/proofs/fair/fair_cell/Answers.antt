@@ -1,5 +1,4 @@
 -- `flumereading::fair::fair_cell` tests a liquid cell's parts, and an interface cell's mass too. Assumes nothing.
-use borrow.Author.Rules.{rules}
 use mathlib.Core.Path.{◌≡◌, sym, ap, ◌∙◌, subst}
 use mathlib.Core.Bool.{cond}
 use Prim.Native.Nat.{ℕ, ◌+◌, ◌*◌, ◌≤◌}

@@ -1,11 +1,10 @@
 use mathlib.Core.Path.{◌≡◌, sym, ap, ◌∙◌}
 use mathlib.Core.Bool.{Bool, true, not, cond}
-use Prim.Native.Nat.{ℕ, ◌+◌, ◌*◌, ◌-◌, ◌≤◌, ◌<◌}
+use Prim.Native.Nat.{ℕ, ◌+◌, ◌*◌, ◌-◌, ◌≤◌}
 use native.Mathlib.Nat.{not-suc-le-zero}
 use native.Mathlib.Omega.{arith}
 use lib.Dec.{eqb}
 use lib.ListN.{length, get_or}
-use borrow.Author.Rules.{rules}
 use borrow.Author.Tests.{not-false}
 use borrow.Author.Count.{below_more}
 use Rattle.whole.specs.Fold.{count}
@@ -59,7 +58,7 @@ pub bounds-flags-c : goal.bounds-flags-c
 bounds-flags-c c = omega arith
 
 pub fair_cell-requires : goal.fair_cell-requires
-fair_cell-requires c =  record { flag_in_bounds = masses-inside c.before.before; flag_in_bounds_2 = parts-inside c.before.before }
+fair_cell-requires c = record { flag_in_bounds = masses-inside c.before.before; flag_in_bounds_2 = parts-inside c.before.before }
 
 pub returns-then-not-fair_cell : goal.returns-then-not-fair_cell
 returns-then-not-fair_cell c =

@@ -1,11 +1,10 @@
 use mathlib.Core.Path.{◌≡◌, ◌∙◌}
-use Prim.Native.Nat.{ℕ, ◌+◌, ◌*◌, ◌-◌, ◌≤◌, ◌<◌}
+use Prim.Native.Nat.{ℕ, ◌+◌, ◌*◌, ◌-◌}
 use native.Mathlib.Omega.{arith}
-use borrow.Author.Rules.{rules}
 use mir.Syntax.{w32}
 use mir.ValLaws.{to_z-of_z}
 use Rattle.record.specs.Bytes.{i32_at}
-use Rattle.nine.proofs.Places.{Filled, filled_zero, filled_more, filled-all}
+use Rattle.nine.proofs.Places.{filled_zero, filled_more, filled-all}
 use Rattle.flumereading.proofs.fair.parts_at.Goals as goal
 
 pub loop-k-init : goal.loop-k-init

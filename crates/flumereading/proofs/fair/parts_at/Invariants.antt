@@ -1,12 +1,7 @@
 -- `flumereading::fair::parts_at` reads the nine parts to their places: each turn stores one more. Assumes nothing.
-use mathlib.Core.Path.{◌≡◌, ◌∙◌}
-use Prim.Native.Nat.{ℕ, ◌+◌, ◌*◌, ◌-◌, ◌≤◌, ◌<◌}
-use native.Mathlib.Omega.{arith}
-use borrow.Author.Rules.{rules}
-use mir.Syntax.{w32}
-use mir.ValLaws.{to_z-of_z}
+use Prim.Native.Nat.{ℕ, ◌+◌, ◌*◌, ◌-◌}
 use Rattle.record.specs.Bytes.{i32_at}
-use Rattle.nine.proofs.Places.{Filled, filled_zero, filled_more, filled-all}
+use Rattle.nine.proofs.Places.{Filled}
 use Rattle.flumereading.proofs.fair.parts_at.Given as goal
 
 abbrev pub invariant-loop-k : goal.invariant-loop-k

@@ -1,23 +1,13 @@
 -- `flumereading::load::load_parts` stores part after part; the place goes on as the count of liquid cells does. Assumes nothing.
-use mathlib.Core.Path.{◌≡◌, refl, ap, ap₂, ◌∙◌, subst}
-use mathlib.Core.Bool.{Bool, true, false, cond}
+use mathlib.Core.Path.{◌≡◌}
 use mathlib.Core.List.{List}
-use Prim.Native.Nat.{ℕ, ◌+◌, ◌*◌, ◌-◌, ◌/◌, ◌%◌, ◌≤◌, ◌<◌}
-use native.Mathlib.Omega.{arith}
-use lib.Dec.{eqb}
+use Prim.Native.Nat.{ℕ, ◌+◌, ◌*◌, ◌-◌, ◌/◌, ◌%◌, ◌≤◌}
 use lib.IntN.{ℤ, pos}
-use lib.ListN.{length, get_or, length-set}
-use borrow.Author.Tests.{eqb-true, eqb-false}
-use mir.Syntax.{w32}
-use mir.Val.{to_z, of_z}
-use mir.ValLaws.{to_z-of_z}
-use Rattle.whole.specs.Fold.{count}
-use Rattle.whole.specs.laws.Tab.{Upto, upto_zero, upto-more, upto_all}
-use Rattle.grid.specs.State.{by_flag, liquid, flag_of}
-use Rattle.grid.proofs.Lists.{get_or-there}
+use lib.ListN.{length}
+use Rattle.whole.specs.laws.Tab.{Upto}
+use Rattle.grid.specs.State.{by_flag, flag_of}
 use Rattle.record.specs.Bytes.{i32_at}
 use Rattle.record.specs.Layout.{liquids}
-use Rattle.record.proofs.Gathered.{liquids-more, liquids-le}
 use Rattle.flumereading.proofs.load.load_parts.Given as goal
 
 -- part m of the list, by the flags

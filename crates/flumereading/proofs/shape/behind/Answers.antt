@@ -1,5 +1,4 @@
 -- `flumereading::shape::behind` tests the flags, a part of the record, and then the sections behind them. Assumes nothing.
-use borrow.Author.Rules.{rules}
 use mathlib.Core.Path.{◌≡◌, sym, ap, ap₂, ◌∙◌}
 use mathlib.Core.Bool.{true}
 use Prim.Native.Nat.{ℕ, ◌+◌, ◌*◌, ◌≤◌}
@@ -84,7 +83,7 @@ sections_to_end-requires c =
     let f = counted c.before.before.before.before in
     let d = start f in
     let r = d.args.rec.now in
-    let is = cells_are f in  record { from_bound = omega (arith, small f); i_bound = omega (arith, c.interface_cells.ensures ∙ interfaces-are r is d.requires.rec_in_bounds, interfaces-most (flume_cells_in r) (flume_flag_in r), is, small f); m_bound = omega (arith, c.liquid_cells.ensures ∙ liquids-are r is d.requires.rec_in_bounds, liquids-most (flume_cells_in r) (flume_flag_in r), is, small f) }
+    let is = cells_are f in record { from_bound = omega (arith, small f); i_bound = omega (arith, c.interface_cells.ensures ∙ interfaces-are r is d.requires.rec_in_bounds, interfaces-most (flume_cells_in r) (flume_flag_in r), is, small f); m_bound = omega (arith, c.liquid_cells.ensures ∙ liquids-are r is d.requires.rec_in_bounds, liquids-most (flume_cells_in r) (flume_flag_in r), is, small f) }
 
 pub returns : goal.returns
 returns c =

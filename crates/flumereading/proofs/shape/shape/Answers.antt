@@ -1,8 +1,7 @@
 -- `flumereading::shape::shape` goes through the four groups of sections. Assumes nothing.
-use borrow.Author.Rules.{rules}
 use mathlib.Core.Path.{◌≡◌, sym, ap, ◌∙◌}
 use mathlib.Core.Bool.{true}
-use Prim.Native.Nat.{ℕ, ◌+◌, ◌*◌, ◌≤◌}
+use Prim.Native.Nat.{ℕ, ◌+◌, ◌*◌}
 use native.Mathlib.Omega.{arith}
 use Rattle.grid.specs.declared.Answer.TheVariants.{Done}
 use Rattle.flume.specs.Flume.{flume_sides_good, flume_cells, flume_grid}
@@ -71,7 +70,7 @@ cells-requires c = ap flume_sides_good c.sides_in-s.ensures ∙ sides-good c.bef
 pub sections_behind-front-requires : goal.sections_behind-front-requires
 sections_behind-front-requires c =
     let r = c.args.rec.now in
-    let k = few (flume_sides_in r) (sides-good c.before.before.before) in 
+    let k = few (flume_sides_in r) (sides-good c.before.before.before) in
     record { sides_bound = omega arith; settings_bound = omega arith; origin_bound = omega arith; k_bound = omega arith; n_bound = omega (arith, c.cells.ensures ∙ ap flume_cells c.sides_in-s.ensures, k) }
 
 pub returns-then-not-passed-2 : goal.returns-then-not-passed-2
@@ -93,7 +92,7 @@ pub behind-requires : goal.behind-requires
 behind-requires c =
     let r = c.args.rec.now in
     let e = c.sides_in-s.ensures in
-    let h = (fronted-on r flume_counts 1 (flume_cells_in r) (front-is c.before)).3.inside in 
+    let h = (fronted-on r flume_counts 1 (flume_cells_in r) (front-is c.before)).3.inside in
     record { s_value = e; s_value_2 = ap flume_sides_good e ∙ sides-good c.before.before.before.before.before.before; rec_in_bounds = omega (arith, h) }
 
 pub returns : goal.returns

@@ -1,8 +1,7 @@
 -- `flumereading::take::take`: the passes leave the state of the record, and behind them the carry is written. Assumes nothing.
-use borrow.Author.Rules.{rules}
 use mathlib.Core.Path.{◌≡◌, sym, ap, ◌∙◌}
-use mathlib.Core.List.{List, [], ◌∷◌}
-use Prim.Native.Nat.{ℕ, ◌+◌, ◌*◌, ◌-◌, ◌≤◌, ◌<◌}
+use mathlib.Core.List.{List, ◌∷◌}
+use Prim.Native.Nat.{ℕ, ◌+◌, ◌*◌, ◌-◌, ◌≤◌}
 use native.Mathlib.Omega.{arith}
 use lib.IntN.{ℤ}
 use lib.ListN.{length, take, drop, set}
@@ -120,7 +119,7 @@ overflow_add-end-3 c = record { fits = omega (arith, few-here c.before, small (f
 pub load_parts-requires : goal.load_parts-requires
 load_parts-requires c =
     let i = c in
-    let g = f i.before.before in  record { flags_in_bounds = omega (arith, liquids-are (r g) (is g) (there g), parts_from_lem i.before.before, (d g).requires.flume_sound.parts.inside); parts_len = (d g).requires.parts_len ∙ ap (λ (k : ℕ). 9 * k) (is g ∙ sym (count-so g)); rec_len_bound = omega (arith, (d g).requires.flume_sound.end, interfaces-most (flume_cells_in (r g)) (flume_flag_in (r g)), liquids-most (flume_cells_in (r g)) (flume_flag_in (r g)), small g, is g) }
+    let g = f i.before.before in record { flags_in_bounds = omega (arith, liquids-are (r g) (is g) (there g), parts_from_lem i.before.before, (d g).requires.flume_sound.parts.inside); parts_len = (d g).requires.parts_len ∙ ap (λ (k : ℕ). 9 * k) (is g ∙ sym (count-so g)); rec_len_bound = omega (arith, (d g).requires.flume_sound.end, interfaces-most (flume_cells_in (r g)) (flume_flag_in (r g)), liquids-most (flume_cells_in (r g)) (flume_flag_in (r g)), small g, is g) }
 
 pub overflow_add-end-4 : goal.overflow_add-end-4
 overflow_add-end-4 c = let g = f (counted c.before.before) in record { fits = omega (arith, small g) }
@@ -129,7 +128,7 @@ pub load_masses-requires : goal.load_masses-requires
 load_masses-requires c =
     let l = c in
     let g = f (counted l.before.before.before.before) in
-    let p = (d g).requires.1.1.1 in  record { flags_in_bounds = omega (arith, interfaces-are (r g) (is g) (there g), masses-from g, (d g).requires.flume_sound.masses.inside); parts_len = l.load_parts.auto.1.1.1.0 ∙ p.0 ∙ ap (λ (k : ℕ). 9 * k) (is g ∙ sym (count-so g)); masses_len = p.1.0 ∙ is g ∙ sym (count-so g); fills_len = p.1.1.0 ∙ is g ∙ sym (count-so g); heavy = weighed (r g) (d g).requires.rec_value (part g) _ (flags-so g) (count-so g) (parts-so l.before.before.before.before) }
+    let p = (d g).requires.1.1.1 in record { flags_in_bounds = omega (arith, interfaces-are (r g) (is g) (there g), masses-from g, (d g).requires.flume_sound.masses.inside); parts_len = l.load_parts.auto.1.1.1.0 ∙ p.0 ∙ ap (λ (k : ℕ). 9 * k) (is g ∙ sym (count-so g)); masses_len = p.1.0 ∙ is g ∙ sym (count-so g); fills_len = p.1.1.0 ∙ is g ∙ sym (count-so g); heavy = weighed (r g) (d g).requires.rec_value (part g) _ (flags-so g) (count-so g) (parts-so l.before.before.before.before) }
 
 pub i64_at-kept-requires : goal.i64_at-kept-requires
 i64_at-kept-requires c = let g = f (counted c.before.before.before.before.before.before.before.before) in omega (arith, (d g).requires.flume_sound.flags.inside)

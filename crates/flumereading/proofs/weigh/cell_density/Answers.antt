@@ -1,6 +1,5 @@
 -- `flumereading::weigh::cell_density` adds up the parts of a liquid cell. Assumes nothing.
-use borrow.Author.Rules.{rules}
-use mathlib.Core.Path.{◌≡◌, sym, ◌∙◌}
+use mathlib.Core.Path.{sym, ◌∙◌}
 use Prim.Native.Nat.{◌+◌, ◌*◌}
 use lib.IntN.{pos}
 use lib.ListN.{get_or}

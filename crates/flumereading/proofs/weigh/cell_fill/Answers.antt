@@ -1,5 +1,4 @@
 -- `flumereading::weigh::cell_fill` goes by the flag; an interface cell has a density to divide by. Assumes nothing.
-use borrow.Author.Rules.{rules}
 use mathlib.Core.Path.{◌≡◌, sym, ap, ap₂, ◌∙◌, subst}
 use Prim.Native.Nat.{ℕ}
 use native.Mathlib.Omega.{arith}

@@ -6,7 +6,6 @@ use native.Mathlib.Omega.{arith}
 use lib.Dec.{eqb}
 use lib.IntN.{ℤ, pos}
 use lib.ListN.{length, get_or, length-set}
-use borrow.Author.Rules.{rules}
 use mir.Syntax.{w32}
 use mir.ValLaws.{to_z-of_z}
 use lib.Signed.{◌≤ℤ◌}
@@ -97,7 +96,7 @@ pub cell_density-rho-requires : goal.cell_density-rho-requires
 cell_density-rho-requires c =
     let l = c in
     let d = l in
-    let h = c.loop-c-test.true in 
+    let h = c.loop-c-test.true in
     record { c_in_bounds = omega (arith, d.requires.parts_len, h); within = λ e. d.requires.heavy.inside l.loop-c.c h (ap liquid (sym (get_or-there d.args.flags.now l.loop-c.c 0 3 h)) ∙ e) }
 
 pub cell_mass-m-requires : goal.cell_mass-m-requires

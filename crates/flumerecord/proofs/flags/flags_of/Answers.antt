@@ -1,5 +1,4 @@
 -- `flumerecord::flags::flags_of`: the span lies within the bytes, and the part begins where it says. Assumes nothing.
-use borrow.Author.Rules.{rules}
 use mathlib.Core.Path.{refl, sym, subst, ap, ◌∙◌}
 use native.Mathlib.Nat.{add_comm}
 use lib.ListN.{length, take, drop}

@@ -1,5 +1,4 @@
 -- `flumerecord::flags::span`: an accepted head with good sides has its flags from byte 68 on, if they fit. Assumes nothing.
-use borrow.Author.Rules.{rules}
 use mathlib.Core.Path.{◌≡◌, refl, sym, ap, ◌∙◌}
 use mathlib.Core.Bool.{true}
 use Prim.Native.Nat.{ℕ, ◌+◌}

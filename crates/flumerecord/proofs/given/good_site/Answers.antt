@@ -1,6 +1,5 @@
 -- `flumerecord::given::good_site` is the box's test 3, with no y. Assumes nothing.
 use mathlib.Core.Bool.{Bool}
-use borrow.Author.Rules.{rules}
 use mathlib.Core.Path.{◌≡◌, ◌∙◌}
 use lib.IntN.{ℤ, pos}
 use mir.Syntax.{w64}

@@ -1,5 +1,4 @@
 -- `flumerecord::given::opening` tests section 1, the sides, and the slices against them. Assumes nothing.
-use borrow.Author.Rules.{rules}
 use mathlib.Core.Path.{◌≡◌, sym, ap, ◌∙◌, subst}
 use mathlib.Core.Bool.{true}
 use Prim.Native.Nat.{ℕ, ◌≤◌}
@@ -66,7 +65,7 @@ cells-requires c = ap flume_sides_good c.sides_in-s.ensures ∙ sides-good c.bef
 pub slices_fit-requires : goal.slices_fit-requires
 slices_fit-requires c =
     let s = flume_sides_in c.args.rec.now in
-    let g = few s (sides-good c.before.before) in 
+    let g = few s (sides-good c.before.before) in
     record { w_bound = omega arith; n_bound = subst (λ (n : ℕ). n ≤ 262144) (sym (c.cells.ensures ∙ ap flume_cells c.sides_in-s.ensures)) g }
 
 pub returns-then-not-slices_fit : goal.returns-then-not-slices_fit

@@ -1,5 +1,4 @@
 -- `flumerecord::given::settings_in` reads p and gravity. Assumes nothing.
-use borrow.Author.Rules.{rules}
 use mathlib.Core.Path.{◌∙◌}
 use mir.Syntax.{w64}
 use mir.ValLaws.{to_z-of_z}

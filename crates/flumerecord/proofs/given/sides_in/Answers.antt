@@ -1,5 +1,4 @@
 -- `flumerecord::given::sides_in` reads the two sides. Assumes nothing.
-use borrow.Author.Rules.{rules}
 use Rattle.flumerecord.specs.Reading.{flume_sides_in}
 use Rattle.flumerecord.proofs.given.sides_in.Goals as goal
 

@@ -1,5 +1,4 @@
 -- `flumerun::running::admitted`: the number of steps first, then tests 1 to 6. Assumes nothing.
-use borrow.Author.Rules.{rules}
 use mathlib.Core.Path.{◌∙◌}
 use Rattle.flumerun.proofs.Admitted.{refuses-steps, then-entered}
 use Rattle.flumerun.proofs.running.admitted.Lts as lts

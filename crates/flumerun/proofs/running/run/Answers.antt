@@ -1,5 +1,4 @@
 -- `flumerun::running::run`: what does not admit it is answered and nothing is written; else the run of a set that is ready. Assumes nothing.
-use borrow.Author.Rules.{rules}
 use mathlib.Core.Path.{refl, sym, ◌∙◌}
 use Rattle.flumerun.proofs.Admitted.{run-stepping, not-admitted, admitted-went}
 use Rattle.flumerun.proofs.running.run.Lts as lts

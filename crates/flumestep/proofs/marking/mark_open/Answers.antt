@@ -1,5 +1,4 @@
 -- `flumestep::marking::mark_open`: pass 0 by the flume's offsets. Assumes nothing.
-use borrow.Author.Rules.{rules}
 use mathlib.Core.Path.{◌≡◌, sym, ap₂, ◌∙◌}
 use mathlib.Core.Bool.{true}
 use mathlib.Core.List.{List}

@@ -1,5 +1,4 @@
 -- `flumestep::stepping::advanced`: a step onto a set whose flags are all 1, of which nothing is known. Assumes nothing.
-use borrow.Author.Rules.{rules}
 use mathlib.Core.Path.{◌∙◌}
 use Rattle.flumestep.proofs.Advances.{soiled}
 use Rattle.flumestep.proofs.stepping.advanced.Lts as lts

@@ -1,5 +1,4 @@
 -- `flumestep::stepping::resumed`: the next state, or after a refusal the copy. Assumes nothing.
-use borrow.Author.Rules.{rules}
 use mathlib.Core.Path.{◌∙◌}
 use Rattle.flumestep.proofs.Advances.{alike-sized, refused-advanced, done-advanced}
 use Rattle.flumestep.proofs.stepping.resumed.Lts as lts

@@ -1,5 +1,4 @@
 -- `flumestep::stepping::step`: the outcome's definition, whatever is lent. Assumes nothing.
-use borrow.Author.Rules.{rules}
 use mathlib.Core.Path.{refl, ◌≡◌, sym, ◌∙◌}
 use Rattle.grid.specs.declared.Answer.TheVariants.{Done}
 use Rattle.grid.specs.State.{Lent, lent}

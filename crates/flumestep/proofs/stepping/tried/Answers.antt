@@ -1,5 +1,4 @@
 -- `flumestep::stepping::tried`: pass 0, pass 1, and the rest where pass 1 went through. Assumes nothing.
-use borrow.Author.Rules.{rules}
 use mathlib.Core.Path.{refl, ◌∙◌}
 use Rattle.flumestep.proofs.Advances.{flowing, stopped-tried, finishing, tried-finished}
 use Rattle.flumestep.proofs.stepping.tried.Lts as lts

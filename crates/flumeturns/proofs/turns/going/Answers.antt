@@ -1,11 +1,10 @@
-use borrow.Author.Rules.{rules}
 use mathlib.Core.Path.{sym, ◌∙◌}
 use Prim.Native.Nat.{◌-◌}
 use native.Mathlib.Omega.{arith}
 use Rattle.grid.specs.inner.Halfway.{Alike}
 use Rattle.flumestep.proofs.Advances.{alike-sized, soiled}
 use Rattle.grid.specs.State.{lent}
-use Rattle.flumeturns.proofs.Runs.{Dry, Going, going-first, going-resuming, going-dry, going-alike, going_on, going-stops, going-ends}
+use Rattle.flumeturns.proofs.Runs.{going-first, going-resuming, going-dry, going-alike, going_on, going-stops, going-ends}
 use Rattle.flumeturns.proofs.turns.going.Lts as lts
 use Rattle.flumeturns.proofs.turns.going.Reads as reads
 use Rattle.flumeturns.proofs.turns.going.Tie as tie

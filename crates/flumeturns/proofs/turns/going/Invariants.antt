@@ -1,13 +1,8 @@
 -- `flumeturns::turns::going`: turn after turn, and `back` tells which set holds the state reached. What an accepted turn leaves is ready again, so that no
 -- test is made twice. Every slice keeps its length, since both sets are sized at the start and at each turn. Assumes nothing.
-use borrow.Author.Rules.{rules}
-use mathlib.Core.Path.{sym, ◌∙◌}
 use Prim.Native.Nat.{◌-◌}
-use native.Mathlib.Omega.{arith}
-use Rattle.grid.specs.inner.Halfway.{Alike}
-use Rattle.flumestep.proofs.Advances.{alike-sized, soiled}
 use Rattle.grid.specs.State.{lent}
-use Rattle.flumeturns.proofs.Runs.{Dry, Going, going-first, going-resuming, going-dry, going-alike, going_on, going-stops, going-ends}
+use Rattle.flumeturns.proofs.Runs.{Dry, Going}
 use Rattle.flumeturns.proofs.turns.going.Given as goal
 
 abbrev pub invariant-loop-k : goal.invariant-loop-k

@@ -1,5 +1,4 @@
 -- `flumewriting::front::put_carry` writes section 4. Assumes nothing.
-use borrow.Author.Rules.{rules}
 use mathlib.Core.Path.{refl}
 use mir.Syntax.{w64}
 use Rattle.record.specs.Bytes.{bytes_of, join, u32_of}

@@ -9,10 +9,10 @@ use Rattle.flumegrid.proofs.GoodSides.{good-sides}
 use Rattle.flumewriting.proofs.front.put_sides.Goals as goal
 
 pub put_count-requires-2 : goal.put_count-requires-2
-put_count-requires-2 c = let d = c in  record { at_in_bounds = search rules; n_bound = omega (arith, (good-sides d.args.s d.requires.s_value).x.high) }
+put_count-requires-2 c = let d = c in record { at_in_bounds = search rules; n_bound = omega (arith, (good-sides d.args.s d.requires.s_value).x.high) }
 
 pub put_count-requires-3 : goal.put_count-requires-3
-put_count-requires-3 c = let d = c in  record { at_in_bounds = search rules; n_bound = omega (arith, (good-sides d.args.s d.requires.s_value).z.high) }
+put_count-requires-3 c = let d = c in record { at_in_bounds = search rules; n_bound = omega (arith, (good-sides d.args.s d.requires.s_value).z.high) }
 
 pub returns : goal.returns
 unfolding bytes_of join

@@ -1,5 +1,4 @@
 -- `flumewriting::writer::fit` goes through tests 1, 2 and 3, and leaves 4 to 6 to the check. Assumes nothing.
-use borrow.Author.Rules.{rules}
 use mathlib.Core.Path.{◌≡◌, sym, ap, ◌∙◌}
 use mathlib.Core.Bool.{true}
 use Prim.Native.Nat.{ℕ}

@@ -1,5 +1,4 @@
 -- `flumewriting::writer::put_record` writes the first 64 bytes, and the cells behind them. Assumes nothing.
-use borrow.Author.Rules.{rules}
 use mathlib.Core.Path.{ap, ◌∙◌, ◌≡◌, sym}
 use Prim.Native.Nat.{◌+◌, ◌*◌, ℕ, ◌≤◌}
 use lib.IntN.{ℤ, pos}
@@ -25,7 +24,7 @@ small s {n} e k = omega (arith, few s e)
 pub put_cells-requires : goal.put_cells-requires
 put_cells-requires c =
     let d = c in
-    let p = d.requires.1.1 in  record { w_bound = omega arith; flags_in_bounds = omega (arith, p.1.1.1, c.put_head.auto.0); flags_len_bound = small d.args.s d.requires.s_value p.0; parts_len = p.1.0 ∙ ap (λ (n : ℕ). 9 * n) (sym p.0); masses_len = p.1.1.0 ∙ sym p.0 }
+    let p = d.requires.1.1 in record { w_bound = omega arith; flags_in_bounds = omega (arith, p.1.1.1, c.put_head.auto.0); flags_len_bound = small d.args.s d.requires.s_value p.0; parts_len = p.1.0 ∙ ap (λ (n : ℕ). 9 * n) (sym p.0); masses_len = p.1.1.0 ∙ sym p.0 }
 
 pub returns : goal.returns
 returns c =

@@ -1,13 +1,9 @@
 -- `grid::cells::own` reads the nineteen parts of cell c, in order: each turn stores one more. Assumes nothing.
-use mathlib.Core.Path.{◌≡◌, refl}
-use Prim.Native.Nat.{◌+◌, ◌*◌, ◌-◌, ◌≤◌, ◌<◌}
-use native.Mathlib.Omega.{arith}
+use mathlib.Core.Path.{◌≡◌}
+use Prim.Native.Nat.{◌+◌, ◌*◌, ◌-◌, ◌≤◌}
 use lib.IntN.{pos}
-use lib.ListN.{length, get_or, replicate, length-set}
-use borrow.Author.Rules.{sfits_of, rules}
-use mir.Syntax.{w32}
-use mir.Facts.{to_z-of_z}
-use Rattle.whole.specs.laws.Tab.{Upto, upto_zero, upto-more, upto_all}
+use lib.ListN.{length, get_or}
+use Rattle.whole.specs.laws.Tab.{Upto}
 use Rattle.grid.proofs.cells.own.Given as goal
 
 abbrev pub invariant-loop-k : goal.invariant-loop-k

@@ -1,5 +1,4 @@
 -- `grid::extent::good_sides` is test 1: each side by itself, then the product, which fits by then. Assumes nothing.
-use borrow.Author.Rules.{rules}
 use borrow.Author.Tests.{not-true, not-false}
 use mathlib.Core.Path.{◌≡◌, sym, ◌∙◌}
 use mathlib.Core.Bool.{true}

@@ -1,5 +1,4 @@
 -- `grid::fill::interface_fill`: lattice's fill, by the density of the cell's own parts. Assumes nothing.
-use borrow.Author.Rules.{rules}
 use mathlib.Core.Path.{◌≡◌, ◌∙◌, ap₂}
 use Prim.Native.Nat.{◌≤◌}
 use native.Mathlib.Omega.{arith}

@@ -1,5 +1,4 @@
 -- `grid::kinds::either_liquid`: a flag that is there does not depend on what stands for a missing one. Assumes nothing.
-use borrow.Author.Rules.{rules}
 use mathlib.Core.Path.{ap, ap₂, ◌∙◌}
 use mathlib.Core.Bool.{◌||◌}
 use Rattle.grid.specs.State.{liquid}

@@ -1,14 +1,11 @@
 -- `grid::neighbours::beside` asks all eighteen, two at a time: after the turn at i it has asked the directions 1 to i + 1. Assumes nothing.
-use borrow.Author.Rules.{rules}
-use mathlib.Core.Path.{◌≡◌, refl, sym, ap, ap₂, ◌∙◌}
-use mathlib.Core.Bool.{Bool, ◌||◌}
+use mathlib.Core.Path.{◌≡◌}
+use mathlib.Core.Bool.{Bool}
 use mathlib.Core.List.{List}
 use Prim.Native.Nat.{ℕ, suc, ◌+◌, ◌-◌, ◌%◌, ◌≤◌}
-use native.Mathlib.Omega.{arith}
 use lib.Dec.{eqb}
 use lib.ListN.{get_or}
 use Rattle.whole.specs.Fold.{any}
-use Rattle.grid.specs.inner.Passes.{beside_at}
 use Rattle.grid.proofs.neighbours.beside.Given as goal
 
 -- direction a + 1 has the byte

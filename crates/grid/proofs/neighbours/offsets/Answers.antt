@@ -1,11 +1,7 @@
 -- `grid::neighbours::offsets` lists the table. Assumes nothing.
-use borrow.Author.Rules.{rules}
 use mathlib.Core.Path.{◌∙◌}
 use native.Mathlib.Omega.{arith}
 use Rattle.grid.proofs.Offsets.{listed, table}
-use Rattle.grid.proofs.neighbours.offsets.Reads as reads
-use Rattle.grid.proofs.neighbours.offsets.Lts as lts
-use Rattle.grid.proofs.neighbours.cell_at.Reads as cell-at-reads
 use Rattle.grid.proofs.neighbours.offsets.Goals as goal
 
 pub cell_at-requires-17 : goal.cell_at-requires-17

@@ -1,5 +1,4 @@
 -- `grid::normal::fall`: both places are cells, and fills are far below what 32 bits hold. Assumes nothing.
-use borrow.Author.Rules.{rules}
 use mathlib.Core.Path.{sym, ap₂, ◌∙◌, subst}
 use Prim.Native.Nat.{ℕ, ◌≤◌, ◌<◌}
 use native.Mathlib.Omega.{arith}

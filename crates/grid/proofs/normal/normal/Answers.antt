@@ -1,5 +1,5 @@
 -- `grid::normal::normal`: three differences of fills. Assumes nothing.
-use borrow.Author.Rules.{sfits_of, rules}
+use borrow.Author.Rules.{sfits_of}
 use mathlib.Core.Path.{◌∙◌}
 use native.Mathlib.Omega.{arith}
 use mir.Syntax.{w32}

@@ -1,5 +1,4 @@
 -- `grid::normal::seen`: the cell itself for a wall, else the cell that is there. Assumes nothing.
-use borrow.Author.Rules.{rules}
 use Rattle.grid.proofs.Slopes.{seen-wall, seen_other}
 use Rattle.grid.proofs.normal.seen.Goals as goal
 

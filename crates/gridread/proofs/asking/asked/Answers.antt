@@ -1,5 +1,4 @@
 -- `gridread::asking::asked` reads no argument past the last: as many follow as the word asks for. Assumes nothing.
-use borrow.Author.Rules.{rules}
 use mathlib.Core.Path.{◌≡◌, ap, ◌∙◌}
 use native.Mathlib.Omega.{arith}
 use Rattle.gridread.specs.Asked.{numbers_after}

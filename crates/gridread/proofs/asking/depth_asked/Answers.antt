@@ -1,5 +1,4 @@
 -- `gridread::asking::depth_asked`: two numbers, or nothing that can be read. Assumes nothing.
-use borrow.Author.Rules.{rules}
 use mathlib.Core.Path.{sym, ap₂}
 use Rattle.gridread.specs.Asked.{depth_asked}
 use Rattle.gridread.proofs.asking.depth_asked.Goals as goal

@@ -1,5 +1,4 @@
 -- `gridread::asking::place_asked`: three numbers, or nothing that can be read. Assumes nothing.
-use borrow.Author.Rules.{rules}
 use Rattle.gridread.proofs.Asks.{place_is}
 use Rattle.gridread.proofs.asking.place_asked.Goals as goal
 

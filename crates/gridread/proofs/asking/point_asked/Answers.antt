@@ -1,5 +1,4 @@
 -- `gridread::asking::point_asked`: a number, or nothing that can be read. Assumes nothing.
-use borrow.Author.Rules.{rules}
 use mathlib.Core.Path.{sym, ap}
 use Rattle.gridread.specs.Asked.{point_asked}
 use Rattle.gridread.proofs.asking.point_asked.Goals as goal

@@ -1,7 +1,5 @@
 -- `gridread::playing::tell_all` goes from request to request and ends. Assumes nothing.
-use borrow.Author.Rules.{rules}
 use Prim.Native.Nat.{◌-◌, ◌≤◌}
-use native.Mathlib.Omega.{arith}
 use Rattle.gridread.proofs.playing.tell_all.Given as goal
 
 abbrev pub invariant-loop-at : goal.invariant-loop-at

@@ -1,5 +1,4 @@
 -- `gridread::telling::tell_depth`: a depth is a whole number of its parts. Assumes nothing.
-use borrow.Author.Rules.{rules}
 use Rattle.gridread.proofs.Few.{depth-parts}
 use Rattle.gridread.proofs.telling.tell_depth.Goals as goal
 

@@ -1,5 +1,4 @@
 -- `gridread::telling::tell_point`: every figure is a whole number of its parts. Assumes nothing.
-use borrow.Author.Rules.{rules}
 use Rattle.gridread.proofs.Few.{point-parts}
 use Rattle.gridread.proofs.telling.tell_point.Goals as goal
 

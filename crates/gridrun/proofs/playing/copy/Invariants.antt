@@ -1,9 +1,7 @@
 -- `gridrun::playing::copy` is safe. Assumes nothing.
-use borrow.Author.Rules.{rules}
 use mathlib.Core.Path.{◌≡◌}
 use Prim.Native.Nat.{◌-◌, ◌≤◌}
-use native.Mathlib.Omega.{arith}
-use lib.ListN.{length, length-set}
+use lib.ListN.{length}
 use Rattle.gridrun.proofs.playing.copy.Given as goal
 
 abbrev pub invariant-loop-i : goal.invariant-loop-i

@@ -1,5 +1,4 @@
 -- `gridrun::playing::play` keeps the lengths of what it is lent. Assumes nothing.
-use borrow.Author.Rules.{rules}
 use mathlib.Core.Path.{◌∙◌}
 use Rattle.gridrun.proofs.playing.play.Goals as goal
 

@@ -1,5 +1,4 @@
 -- `gridrun::playing::proceed` keeps the lengths of what it is lent. Assumes nothing.
-use borrow.Author.Rules.{rules}
 use mathlib.Core.Path.{◌∙◌}
 use Rattle.gridrun.proofs.playing.proceed.Goals as goal
 

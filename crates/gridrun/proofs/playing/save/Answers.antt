@@ -1,5 +1,4 @@
 -- `gridrun::playing::save` writes no more than the room holds. Assumes nothing.
-use borrow.Author.Rules.{rules}
 use mathlib.Core.Path.{sym}
 use native.Mathlib.Omega.{arith}
 use lib.Seq.{length-take-le}

@@ -1,14 +1,13 @@
 -- `heights::header::entry`: the keyword's line, its first word, and the rest. Assumes nothing.
 use mathlib.Core.Path.{◌≡◌, sym, ap, ◌∙◌}
 use mathlib.Core.List.{List}
-use Prim.Native.Nat.{ℕ, ◌≤◌}
+use Prim.Native.Nat.{ℕ}
 use borrow.Author.Tests.{not-true, not-false}
 use lib.ListN.{drop}
 use Rattle.numerals.specs.Text.{alike, word, from_line}
 use Rattle.heights.specs.Header.{key_of, line_of, last_of}
 use Rattle.numerals.proofs.Words.{Found, found}
 use Rattle.heights.proofs.Headers.{entry_other, entry-so}
-use borrow.Author.Rules.{rules}
 use Rattle.heights.proofs.header.entry.Lts as lts
 use Rattle.heights.proofs.header.entry.Reads as reads
 use Rattle.heights.proofs.header.entry.Tie as tie

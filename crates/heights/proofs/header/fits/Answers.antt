@@ -4,7 +4,6 @@ use lib.IntN.{ℤ}
 use mir.Facts.{to_z-of_z}
 use Rattle.heights.specs.declared.header.Key.{Key}
 use Rattle.heights.specs.Header.{is_whole, is_no_data, fitting}
-use borrow.Author.Rules.{rules}
 use Rattle.heights.proofs.header.fits.Goals as goal
 
 by_key : {j k : Key} (z : ℤ) → k ≡ j → fitting j z ≡ fitting k z

@@ -5,7 +5,6 @@ use Prim.Native.Nat.{ℕ}
 use Rattle.heights.specs.declared.header.Key.{Key}
 use Rattle.numerals.specs.Text.{alike}
 use Rattle.heights.specs.Header.{key_of}
-use borrow.Author.Rules.{rules}
 use Rattle.heights.proofs.header.is_key.Goals as goal
 
 by_key : {j k : Key} (w : List ℕ) → k ≡ j → alike w (key_of j) ≡ alike w (key_of k)

@@ -3,7 +3,6 @@ use mathlib.Core.Path.{ap, ◌∙◌}
 use lib.IntN.{nat_abs}
 use mir.Facts.{to_z-of_z}
 use Rattle.heights.proofs.Headers.{not-below, below}
-use borrow.Author.Rules.{rules}
 use Rattle.heights.proofs.header.is_no_data.Goals as goal
 
 pub returns-then-v-ge0 : goal.returns-then-v-ge0

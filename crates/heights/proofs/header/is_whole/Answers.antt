@@ -4,7 +4,6 @@ use lib.IntN.{nat_abs}
 use mir.Facts.{to_z-of_z}
 use Prim.Native.Nat.{ℕ, ◌%◌}
 use lib.Dec.{eqb}
-use borrow.Author.Rules.{rules}
 use Rattle.heights.proofs.header.is_whole.Goals as goal
 
 pub returns : goal.returns

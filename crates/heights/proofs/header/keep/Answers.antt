@@ -6,7 +6,6 @@ use mir.Facts.{to_z-of_z}
 use Rattle.numerals.specs.declared.number.Number.TheVariants.{Thousandths}
 use Rattle.heights.specs.Header.{fitting, checked}
 use Rattle.heights.proofs.Headers.{checked-yes, checked-no}
-use borrow.Author.Rules.{rules}
 use Rattle.heights.proofs.header.keep.Lts as lts
 use Rattle.heights.proofs.header.keep.Reads as reads
 use Rattle.heights.proofs.header.keep.Tie as tie

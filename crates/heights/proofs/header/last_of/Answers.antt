@@ -1,7 +1,7 @@
 -- `heights::header::last_of`: the next word, and none behind it. Assumes nothing.
 use mathlib.Core.Path.{◌≡◌, sym, ap, ◌∙◌}
 use mathlib.Core.List.{List}
-use Prim.Native.Nat.{ℕ, ◌-◌, ◌≤◌, ◌<◌}
+use Prim.Native.Nat.{ℕ, ◌-◌}
 use native.Mathlib.Omega.{arith}
 use lib.ListN.{length, drop}
 use Rattle.numerals.specs.Text.{word, after_word}
@@ -9,7 +9,6 @@ use Rattle.numerals.specs.Number.{number_of}
 use Rattle.heights.specs.Header.{checked}
 use Rattle.numerals.proofs.Words.{Found, found}
 use Rattle.heights.proofs.Headers.{last_more, last-so}
-use borrow.Author.Rules.{rules}
 use Rattle.heights.proofs.header.last_of.Lts as lts
 use Rattle.heights.proofs.header.last_of.Reads as reads
 use Rattle.heights.proofs.header.last_of.Tie as tie

@@ -4,7 +4,6 @@ use Rattle.numerals.specs.declared.number.Number.TheVariants.{Thousandths}
 use Rattle.heights.specs.declared.header.Key.TheVariants.{Columns, Rows, West, South, Edge}
 use Rattle.heights.specs.Header.{entry_of}
 use Rattle.heights.proofs.Headers.{bad-columns, bad-rows, bad-west, bad-south, bad-edge, bad-missing, header-so, kept_by, units-are, frame_is}
-use borrow.Author.Rules.{rules}
 use Rattle.heights.proofs.header.read_header.Lts as lts
 use Rattle.heights.proofs.header.read_header.Reads as reads
 use Rattle.heights.proofs.header.read_header.Tie as tie

@@ -1,6 +1,5 @@
 -- `heights::rows::line_after`: one more at LF. Assumes nothing.
 use borrow.Author.Tests.{eq-eqb, ne_eqb}
-use borrow.Author.Rules.{rules}
 use Rattle.heights.proofs.rows.line_after.Goals as goal
 
 pub returns-then-b-eq10 : goal.returns-then-b-eq10

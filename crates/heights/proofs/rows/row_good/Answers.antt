@@ -1,13 +1,12 @@
-use borrow.Author.Rules.{rules}
 use borrow.Author.Tests.{not-true, not-false}
 use mathlib.Core.Path.{◌≡◌, sym, ap, ◌∙◌}
-use Prim.Native.Nat.{◌-◌, ◌≤◌}
+use Prim.Native.Nat.{◌-◌}
 use lib.ListN.{drop}
 use Rattle.numerals.specs.Text.{word}
 use Rattle.numerals.specs.Number.{number_of}
 use Rattle.heights.specs.Rows.{is_whole_number}
 use Rattle.numerals.proofs.Words.{Found, found}
-use Rattle.heights.proofs.Rowing.{Rowing, row-begin, row_more, row-stop, row-end}
+use Rattle.heights.proofs.Rowing.{row-begin, row_more, row-stop, row-end}
 use Rattle.heights.proofs.rows.row_good.Lts as lts
 use Rattle.heights.proofs.rows.row_good.Reads as reads
 use Rattle.heights.proofs.rows.row_good.Tie as tie

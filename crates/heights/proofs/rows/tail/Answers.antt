@@ -1,9 +1,7 @@
-use borrow.Author.Rules.{rules}
-use mathlib.Core.Path.{◌≡◌, refl, sym, ◌∙◌}
-use Prim.Native.Nat.{◌-◌, ◌≤◌}
+use mathlib.Core.Path.{refl, sym, ◌∙◌}
+use Prim.Native.Nat.{◌-◌}
 use native.Mathlib.Omega.{arith}
-use lib.ListN.{length}
-use Rattle.heights.proofs.Rowing.{Tailing, tail_more, tail-stop, tail-end}
+use Rattle.heights.proofs.Rowing.{tail_more, tail-stop, tail-end}
 use Rattle.heights.proofs.rows.tail.Goals as goal
 
 pub loop-p-init : goal.loop-p-init

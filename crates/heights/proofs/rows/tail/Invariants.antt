@@ -1,10 +1,7 @@
 -- `heights::rows::tail`: byte by byte, with the line. Assumes nothing.
-use borrow.Author.Rules.{rules}
-use mathlib.Core.Path.{◌≡◌, refl, sym, ◌∙◌}
-use Prim.Native.Nat.{◌-◌, ◌≤◌}
-use native.Mathlib.Omega.{arith}
+use Prim.Native.Nat.{◌-◌}
 use lib.ListN.{length}
-use Rattle.heights.proofs.Rowing.{Tailing, tail_more, tail-stop, tail-end}
+use Rattle.heights.proofs.Rowing.{Tailing}
 use Rattle.heights.proofs.rows.tail.Given as goal
 
 abbrev pub invariant-loop-p : goal.invariant-loop-p

@@ -1,9 +1,8 @@
-use borrow.Author.Rules.{rules}
 use borrow.Author.Tests.{not-true, not-false}
-use mathlib.Core.Path.{◌≡◌, sym, ◌∙◌}
-use Prim.Native.Nat.{◌+◌, ◌-◌, ◌≤◌}
+use mathlib.Core.Path.{sym, ◌∙◌}
+use Prim.Native.Nat.{◌-◌}
 use native.Mathlib.Omega.{arith}
-use Rattle.heights.proofs.Rowing.{Passing, pass-begin, pass-more, pass-stop, pass-end}
+use Rattle.heights.proofs.Rowing.{pass-begin, pass-more, pass-stop, pass-end}
 use Rattle.heights.proofs.rows.test_rows.Goals as goal
 
 pub loop-i-init : goal.loop-i-init

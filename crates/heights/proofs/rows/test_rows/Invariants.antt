@@ -1,10 +1,6 @@
 -- `heights::rows::test_rows`: row by row, then what is behind them. Assumes nothing.
-use borrow.Author.Rules.{rules}
-use borrow.Author.Tests.{not-true, not-false}
-use mathlib.Core.Path.{◌≡◌, sym, ◌∙◌}
-use Prim.Native.Nat.{◌+◌, ◌-◌, ◌≤◌}
-use native.Mathlib.Omega.{arith}
-use Rattle.heights.proofs.Rowing.{Passing, pass-begin, pass-more, pass-stop, pass-end}
+use Prim.Native.Nat.{◌-◌}
+use Rattle.heights.proofs.Rowing.{Passing}
 use Rattle.heights.proofs.rows.test_rows.Given as goal
 
 abbrev pub invariant-loop-i : goal.invariant-loop-i

@@ -5,7 +5,6 @@ use mathlib.Core.Path.{◌≡◌, sym, ap, ◌∙◌}
 use mir.Facts.{to_z-of_z}
 use Rattle.heights.specs.Header.{is_whole}
 use Rattle.heights.specs.Rows.{is_whole_number}
-use borrow.Author.Rules.{rules}
 use Rattle.heights.proofs.rows.whole_number.Lts as lts
 use Rattle.heights.proofs.rows.whole_number.Reads as reads
 use Rattle.heights.proofs.rows.whole_number.Tie as tie

@@ -1,5 +1,4 @@
 -- `hostflume::check::skw_flume_check`: number and place of what the check answers. Assumes nothing.
-use borrow.Author.Rules.{rules}
 use mathlib.Core.Path.{ap, ◌∙◌}
 use Rattle.grid.specs.Outcome.{number_of, place_of}
 use Rattle.hostflume.proofs.check.skw_flume_check.Lts as lts

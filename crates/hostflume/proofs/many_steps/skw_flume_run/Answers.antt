@@ -1,5 +1,4 @@
 -- `hostflume::many_steps::skw_flume_run`: the run's own promise, the refusal that stopped it told as number and place. Assumes nothing.
-use borrow.Author.Rules.{rules}
 use Rattle.hostflume.proofs.Told.{settings-back, run-told}
 use Rattle.hostflume.proofs.many_steps.skw_flume_run.Lts as lts
 use Rattle.hostflume.proofs.many_steps.skw_flume_run.Reads as reads

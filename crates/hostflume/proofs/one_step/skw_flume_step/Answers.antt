@@ -1,5 +1,4 @@
 -- `hostflume::one_step::skw_flume_step`: the step's own promise, its answer told as number and place. Assumes nothing.
-use borrow.Author.Rules.{rules}
 use Rattle.hostflume.proofs.Told.{settings-back, step-told}
 use Rattle.hostflume.proofs.one_step.skw_flume_step.Lts as lts
 use Rattle.hostflume.proofs.one_step.skw_flume_step.Reads as reads

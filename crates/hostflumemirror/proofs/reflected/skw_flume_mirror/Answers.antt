@@ -1,7 +1,6 @@
 -- `hostflumemirror::reflected::skw_flume_mirror`: number and place of what the mirror is answered, and the second set as it then stands. Assumes nothing.
 use mathlib.Core.Path.{ap, ◌∙◌}
 use Rattle.grid.specs.Outcome.{number_of, place_of}
-use borrow.Author.Rules.{rules}
 use Rattle.hostflumemirror.proofs.reflected.skw_flume_mirror.Goals as goal
 
 pub shape_of-flags2 : goal.shape_of-flags2

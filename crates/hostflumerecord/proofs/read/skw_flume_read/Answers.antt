@@ -1,5 +1,4 @@
 -- `hostflumerecord::read::skw_flume_read`: the reader's own promise, its head told number by number and its flags as a span. Assumes nothing.
-use borrow.Author.Rules.{rules}
 use Rattle.hostflumerecord.proofs.Told.{read_told}
 use Rattle.hostflumerecord.proofs.read.skw_flume_read.Goals as goal
 

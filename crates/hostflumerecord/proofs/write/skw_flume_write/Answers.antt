@@ -1,5 +1,4 @@
 -- `hostflumerecord::write::skw_flume_write`: the writer's own promise, its answer told as number, place and length. Assumes nothing.
-use borrow.Author.Rules.{rules}
 use mathlib.Core.Path.{refl}
 use Rattle.hostflumerecord.proofs.Returned.{settings-back, site-back}
 use Rattle.hostflumerecord.proofs.Told.{write-told}

@@ -1,5 +1,4 @@
 -- `hostheights::depths_write::skw_depths_write`: the writer's own promise, its answer told as number, place and length. Assumes nothing.
-use borrow.Author.Rules.{rules}
 use mathlib.Core.Path.{refl}
 use Rattle.hostheights.proofs.Depths.{corner-back, depths-told}
 use Rattle.hostheights.proofs.depths_write.skw_depths_write.Goals as goal

@@ -1,6 +1,5 @@
 -- `hostheights::invert_read::skw_invert_read`: the reader's own promise, its head told number by number. Assumes nothing.
 use mathlib.Core.Bool.{false}
-use borrow.Author.Rules.{rules}
 use mir.Syntax.{w64}
 use mir.ValLaws.{to_z-of_z}
 use Rattle.host.proofs.Returned.{settings-back}

@@ -1,7 +1,6 @@
 -- `hostmirror::reflected::skw_mirror`: number and place of what the mirror is answered, and the second set and its index as they then stand. Assumes nothing.
 use mathlib.Core.Path.{ap, ◌∙◌}
 use Rattle.grid.specs.Outcome.{number_of, place_of}
-use borrow.Author.Rules.{rules}
 use Rattle.hostmirror.proofs.reflected.skw_mirror.Goals as goal
 
 pub shape_of-flags2 : goal.shape_of-flags2

@@ -1,5 +1,4 @@
 -- `hostpools::many_pools::skw_pools`: the answer of pools, told as number, place and how many; the lent slices as they stand. Assumes nothing.
-use borrow.Author.Rules.{rules}
 use Rattle.hostpools.proofs.Pools.{pools-told}
 use Rattle.hostpools.proofs.many_pools.skw_pools.Goals as goal
 

@@ -1,5 +1,4 @@
 -- `hostrecord::read::skw_read`: the reader's own promise, its head told number by number and its flags as a span. Assumes nothing.
-use borrow.Author.Rules.{rules}
 use Rattle.hostrecord.proofs.Told.{read_told}
 use Rattle.hostrecord.proofs.read.skw_read.Goals as goal
 

@@ -1,6 +1,5 @@
 -- `hostrecord::write::skw_write`: the writer's own promise, its answer told as number, place and length. Assumes nothing.
 use mathlib.Core.Bool.{false}
-use borrow.Author.Rules.{rules}
 use mathlib.Core.Path.{refl}
 use Rattle.host.proofs.Returned.{settings-back}
 use Rattle.hostrecord.proofs.Returned.{site-back}

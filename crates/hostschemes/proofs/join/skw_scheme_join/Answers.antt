@@ -1,5 +1,4 @@
 -- `hostschemes::join::skw_scheme_join`: number and place of what join is answered, and the grid as it then stands. Assumes nothing.
-use borrow.Author.Rules.{rules}
 use mathlib.Core.Path.{ap, ◌∙◌}
 use Rattle.grid.specs.Outcome.{number_of, place_of}
 use Rattle.hostschemes.proofs.join.skw_scheme_join.Goals as goal

@@ -1,5 +1,4 @@
 -- `hostschemes::part::skw_scheme_part`: number and place of what part is answered, and the own flags as it then stands. Assumes nothing.
-use borrow.Author.Rules.{rules}
 use mathlib.Core.Path.{ap, ◌∙◌}
 use Rattle.grid.specs.Outcome.{number_of, place_of}
 use Rattle.hostschemes.proofs.part.skw_scheme_part.Goals as goal

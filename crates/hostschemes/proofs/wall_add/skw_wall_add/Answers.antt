@@ -1,5 +1,4 @@
 -- `hostschemes::wall_add::skw_wall_add`: number and place of what a wall asked for is answered, and the map as it then stands. Assumes nothing.
-use borrow.Author.Rules.{rules}
 use mathlib.Core.Path.{ap, ◌∙◌}
 use Rattle.grid.specs.Outcome.{number_of, place_of}
 use Rattle.hostschemes.proofs.wall_add.skw_wall_add.Goals as goal

@@ -1,5 +1,4 @@
 -- `hostschemes::wall_remove::skw_wall_remove`: number and place of what a wall taken out is answered, and the map as it then stands. Assumes nothing.
-use borrow.Author.Rules.{rules}
 use mathlib.Core.Path.{ap, ◌∙◌}
 use Rattle.grid.specs.Outcome.{number_of, place_of}
 use Rattle.hostschemes.proofs.wall_remove.skw_wall_remove.Goals as goal

@@ -1,5 +1,4 @@
 -- `hostset::check::skw_check`: number and place of what the check answers. Assumes nothing.
-use borrow.Author.Rules.{rules}
 use mathlib.Core.Path.{ap, ◌∙◌}
 use Rattle.grid.specs.Outcome.{number_of, place_of}
 use Rattle.hostset.proofs.check.skw_check.Goals as goal

@@ -1,5 +1,4 @@
 -- `hostset::load::skw_load`: number and place of what loading answers. Assumes nothing.
-use borrow.Author.Rules.{rules}
 use mathlib.Core.Path.{ap, ◌∙◌}
 use Rattle.grid.specs.Outcome.{number_of, place_of}
 use Rattle.hostset.proofs.load.skw_load.Goals as goal

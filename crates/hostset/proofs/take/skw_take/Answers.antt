@@ -1,5 +1,4 @@
 -- `hostset::take::skw_take`: the act's own promise, its answer told as number, place and what was moved. Assumes nothing.
-use borrow.Author.Rules.{rules}
 use mathlib.Core.Path.{◌∙◌}
 use mir.Syntax.{w64}
 use mir.Facts.{to_z-of_z}

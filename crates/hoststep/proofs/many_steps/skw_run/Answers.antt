@@ -1,5 +1,4 @@
 -- `hoststep::many_steps::skw_run`: the run's own promise, the refusal that stopped it told as number and place. Assumes nothing.
-use borrow.Author.Rules.{rules}
 use Rattle.host.proofs.Returned.{settings-back}
 use Rattle.hoststep.proofs.Told.{run-told}
 use Rattle.hoststep.proofs.many_steps.skw_run.Lts as lts

@@ -1,5 +1,4 @@
 -- `hoststep::one_step::skw_step`: the step's own promise, its answer told as number and place. Assumes nothing.
-use borrow.Author.Rules.{rules}
 use Rattle.host.proofs.Returned.{settings-back}
 use Rattle.hoststep.proofs.Told.{step-told}
 use Rattle.hoststep.proofs.one_step.skw_step.Lts as lts

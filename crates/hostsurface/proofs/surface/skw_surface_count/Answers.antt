@@ -1,5 +1,4 @@
 -- `hostsurface::surface::skw_surface_count`: number, place and cells of what the question answers. Assumes nothing.
-use borrow.Author.Rules.{rules}
 use mathlib.Core.Path.{ap, ◌∙◌}
 use Rattle.index.specs.Outcome.{count_number, count_place, count_cells}
 use Rattle.hostsurface.proofs.surface.skw_surface_count.Goals as goal

@@ -1,5 +1,4 @@
 -- `hostsurface::surface::skw_surface_next`: number, place, kind, cell and words of what the question answers. Assumes nothing.
-use borrow.Author.Rules.{rules}
 use mathlib.Core.Path.{ap, ◌∙◌}
 use Rattle.index.specs.Outcome.{next_number, next_place, next_kind, next_cell, next_words}
 use Rattle.hostsurface.proofs.surface.skw_surface_next.Goals as goal

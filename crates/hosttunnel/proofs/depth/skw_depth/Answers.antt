@@ -1,5 +1,4 @@
 -- `hosttunnel::depth::skw_depth`: the depth's answer, told as number, place, kind and value. Assumes nothing.
-use borrow.Author.Rules.{rules}
 use Rattle.hosttunnel.proofs.Depths.{depth-told}
 use Rattle.hosttunnel.proofs.depth.skw_depth.Goals as goal
 

@@ -1,5 +1,4 @@
 -- `hosttunnel::long_profile::skw_profile`: the profile's answer, told as number, place and values; the lines as they stand. Assumes nothing.
-use borrow.Author.Rules.{rules}
 use Rattle.hosttunnel.proofs.Returned.{frame_back}
 use Rattle.hosttunnel.proofs.Told.{profile-told}
 use Rattle.hosttunnel.proofs.long_profile.skw_profile.Goals as goal

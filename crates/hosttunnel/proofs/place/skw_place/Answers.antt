@@ -1,5 +1,4 @@
 -- `hosttunnel::place::skw_place`: placing's answer, told as number, place and cell. Assumes nothing.
-use borrow.Author.Rules.{rules}
 use mir.Syntax.{w64}
 use mir.ValLaws.{to_z-of_z}
 use Rattle.hosttunnel.proofs.Returned.{point-back}

@@ -6,7 +6,6 @@ use native.Mathlib.Omega.{arith}
 use lib.Count.{count_trailing_zeros, trailing_le}
 use lib.Pow.{pow_pos}
 use Rattle.index.proofs.Digits.{next-is, one_shifted}
-use borrow.Author.Rules.{rules}
 use Rattle.index.proofs.bits.next_bit.Goals as goal
 
 pub nonzero_rem-result : goal.nonzero_rem-result

@@ -6,7 +6,6 @@ use native.Mathlib.Omega.{arith}
 use lib.Count.{ones}
 use lib.Pow.{pow_pos}
 use Rattle.index.proofs.Digits.{ones-under, one_shifted}
-use borrow.Author.Rules.{rules}
 use Rattle.whole.specs.laws.Counts.{count_most}
 use Rattle.index.proofs.bits.ones_below.Goals as goal
 

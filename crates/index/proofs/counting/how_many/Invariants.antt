@@ -1,12 +1,8 @@
 -- `index::counting::how_many`: word after word the sum is the count below, and of the last word the bits below n. Assumes nothing.
-use borrow.Author.Rules.{rules}
-use mathlib.Core.Path.{◌≡◌, refl, sym, ap, ap₂, ◌∙◌}
-use Prim.Native.Nat.{ℕ, ◌+◌, ◌*◌, ◌-◌, ◌/◌, ◌%◌, ◌≤◌}
-use native.Mathlib.Omega.{arith}
+use mathlib.Core.Path.{◌≡◌}
+use Prim.Native.Nat.{◌*◌, ◌-◌, ◌≤◌}
 use Rattle.whole.specs.Fold.{count}
-use Rattle.index.specs.Index.{is_set, how_many}
-use Rattle.index.proofs.Flagged.{count_word, count-in-word}
-use Rattle.whole.specs.laws.Counts.{count_most}
+use Rattle.index.specs.Index.{is_set}
 use Rattle.index.proofs.counting.how_many.Given as goal
 
 abbrev pub invariant-loop-k : goal.invariant-loop-k

@@ -1,10 +1,9 @@
-use borrow.Author.Rules.{rules}
-use mathlib.Core.Path.{◌≡◌, sym, ◌∙◌, subst}
-use Prim.Native.Nat.{ℕ, ◌-◌, ◌≤◌, ◌<◌}
+use mathlib.Core.Path.{sym, ◌∙◌, subst}
+use Prim.Native.Nat.{ℕ, ◌-◌, ◌<◌}
 use native.Mathlib.Omega.{arith}
 use borrow.Author.Count.{below_more}
-use lib.ListN.{length, get_or}
-use Rattle.index.specs.Index.{index, word_of}
+use lib.ListN.{length}
+use Rattle.index.specs.Index.{index}
 use Rattle.index.proofs.Flagged.{untrue-word, counted-true}
 use Rattle.index.proofs.keeping.agrees.Goals as goal
 

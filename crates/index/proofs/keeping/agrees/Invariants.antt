@@ -1,12 +1,8 @@
 -- `index::keeping::agrees`: each word passed is the flags', and then the count decides. Assumes nothing.
-use borrow.Author.Rules.{rules}
-use mathlib.Core.Path.{◌≡◌, sym, ◌∙◌, subst}
+use mathlib.Core.Path.{◌≡◌}
 use Prim.Native.Nat.{ℕ, ◌-◌, ◌≤◌, ◌<◌}
-use native.Mathlib.Omega.{arith}
-use borrow.Author.Count.{below_more}
 use lib.ListN.{length, get_or}
-use Rattle.index.specs.Index.{index, word_of}
-use Rattle.index.proofs.Flagged.{untrue-word, counted-true}
+use Rattle.index.specs.Index.{word_of}
 use Rattle.index.proofs.keeping.agrees.Given as goal
 
 abbrev pub invariant-loop-k : goal.invariant-loop-k

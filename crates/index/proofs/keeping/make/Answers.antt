@@ -5,7 +5,6 @@ use lib.ListN.{length}
 use Rattle.whole.specs.laws.Tab.{length-tab}
 use Rattle.index.specs.Index.{words_of, word_of}
 use Rattle.index.proofs.Flagged.{made}
-use borrow.Author.Rules.{rules}
 use Rattle.index.proofs.keeping.make.Goals as goal
 
 pub make_words-requires : goal.make_words-requires

@@ -1,11 +1,9 @@
 -- `index::keeping::make_words`: word after word. Assumes nothing.
-use borrow.Author.Rules.{rules}
-use mathlib.Core.Path.{◌≡◌, refl, ◌∙◌, subst}
-use Prim.Native.Nat.{ℕ, ◌-◌, ◌≤◌, ◌<◌}
-use native.Mathlib.Omega.{arith}
-use lib.ListN.{length, length-set}
-use Rattle.whole.specs.laws.Tab.{Upto, upto_zero, upto-more, upto_all}
-use Rattle.index.specs.Index.{words_of, word_of}
+use mathlib.Core.Path.{◌≡◌}
+use Prim.Native.Nat.{◌-◌, ◌≤◌}
+use lib.ListN.{length}
+use Rattle.whole.specs.laws.Tab.{Upto}
+use Rattle.index.specs.Index.{word_of}
 use Rattle.index.proofs.keeping.make_words.Given as goal
 
 abbrev pub invariant-loop-k : goal.invariant-loop-k

@@ -10,7 +10,6 @@ use Rattle.grid.specs.State.{Lent, lent}
 use Rattle.pumps.specs.Three.{three_lengths}
 use Rattle.index.specs.Index.{Index, index, index_sized}
 use Rattle.index.proofs.Answers.{load-sides, lengths-told, load-lengths, set-three, index-asked, load-refused, load-untrue, load-done}
-use borrow.Author.Rules.{rules}
 use Rattle.grid.proofs.Inside.{few as few-cells}
 use Rattle.index.proofs.loading.load.Lts as lts
 use Rattle.index.proofs.loading.load.Reads as reads

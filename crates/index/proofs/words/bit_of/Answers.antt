@@ -3,7 +3,6 @@ use mathlib.Core.Path.{sym, ◌∙◌}
 use borrow.Author.Tests.{eq-eqb, ne_eqb}
 use Rattle.whole.specs.laws.Bools.{cond_yes, cond_no}
 use Rattle.index.proofs.Digits.{one_shifted}
-use borrow.Author.Rules.{rules}
 use Rattle.index.proofs.words.bit_of.Goals as goal
 
 pub returns-then-flag-eq1 : goal.returns-then-flag-eq1

@@ -1,14 +1,10 @@
 -- `index::words::word_at`: bit after bit the word is the sum of the powers so far; from its end on no cell adds to it. Assumes nothing.
-use native.Mathlib.Nat.{lt_of_lt_of_le}
-use borrow.Author.Rules.{rules}
-use mathlib.Core.Path.{◌≡◌, refl, sym, ap, ◌∙◌, subst}
-use Prim.Native.Nat.{ℕ, ◌+◌, ◌-◌, ◌^◌, ◌≤◌, ◌<◌}
-use native.Mathlib.Omega.{arith}
+use mathlib.Core.Path.{◌≡◌}
+use Prim.Native.Nat.{◌-◌, ◌≤◌}
 use lib.ListN.{length}
-use lib.Pow.{pow_mono}
 use Rattle.whole.specs.Fold.{total}
-use Rattle.index.proofs.Digits.{power, sum-small}
-use Rattle.index.proofs.Flagged.{surface, word_more, word-ended}
+use Rattle.index.proofs.Digits.{power}
+use Rattle.index.proofs.Flagged.{surface}
 use Rattle.index.proofs.words.word_at.Given as goal
 
 abbrev pub invariant-loop-b : goal.invariant-loop-b

@@ -1,5 +1,4 @@
 -- `invert::reader::read`: all the tests, and only then the lent slices. Assumes nothing.
-use borrow.Author.Rules.{rules}
 use mathlib.Core.Path.{◌≡◌, sym, ◌∙◌, subst}
 use mathlib.Core.Bool.{true}
 use Prim.Native.Nat.{ℕ, ◌≤◌}
@@ -63,7 +62,7 @@ pub invert_flags-requires : goal.invert_flags-requires
 invert_flags-requires c =
     let else = c in
     let h = else.head-h.result in
-    let small = subst (λ (n : ℕ). n ≤ 1000) (sym (edge-is c.before)) (edge-fits h.settings h.site (taken else.before.before.before.before.before.before.before).site) in 
+    let small = subst (λ (n : ℕ). n ≤ 1000) (sym (edge-is c.before)) (edge-fits h.settings h.site (taken else.before.before.before.before.before.before.before).site) in
     record { at_in_bounds = c.line_at-at.ensures.inside; sides_value = (taken else.before.before.before.before.before.before.before).sides; flags_len = (fitting else.before.before.before.before.before.before.before).flags-1; edge_bound = small }
 
 pub returns : goal.returns

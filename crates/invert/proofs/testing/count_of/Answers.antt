@@ -1,5 +1,4 @@
 -- `invert::testing::count_of` is the magnitude, or 0 below 0. Assumes nothing.
-use borrow.Author.Rules.{rules}
 use mathlib.Core.Path.{ap, ◌∙◌}
 use lib.IntN.{nat_abs}
 use mir.Facts.{to_z-of_z}

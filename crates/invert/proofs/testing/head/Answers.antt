@@ -1,5 +1,4 @@
 -- `invert::testing::head` is 19, or the answer of the tests behind it. Assumes nothing.
-use borrow.Author.Rules.{rules}
 use mathlib.Core.Path.{sym, ◌∙◌}
 use mir.Facts.{to_z-of_z}
 use Rattle.invert.proofs.Opened.{header-long}

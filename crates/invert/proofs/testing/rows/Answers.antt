@@ -1,6 +1,5 @@
 -- `invert::testing::rows` is the test of the rows, from the line behind the header on. Assumes nothing.
-use borrow.Author.Rules.{rules}
-use mathlib.Core.Path.{◌≡◌, sym, ap, ◌∙◌}
+use mathlib.Core.Path.{sym, ap, ◌∙◌}
 use mathlib.Core.List.{List}
 use Prim.Native.Nat.{ℕ, ◌≤◌}
 use native.Mathlib.Omega.{arith}
@@ -13,7 +12,7 @@ pub test_rows-requires : goal.test_rows-requires
 test_rows-requires c =
     let s = c.args.text.now in
     let e = c.line_at-at.ensures in
-    let h : 7 ≤ c.line_at-at.result = omega (arith, length-drop c.line_at-at.result s, ap length e.rest, e.inside, c.requires.text_in_bounds) in 
+    let h : 7 ≤ c.line_at-at.result = omega (arith, length-drop c.line_at-at.result s, ap length e.rest, e.inside, c.requires.text_in_bounds) in
     record { at_in_bounds = e.inside; line_le_at = h; le_n = c.requires.le_nx }
 
 pub returns-in-Fine : goal.returns-in-Fine

@@ -1,5 +1,4 @@
 -- `invert::testing::set_fits` is both tests of lengths. Assumes nothing.
-use borrow.Author.Rules.{rules}
 use mathlib.Core.Path.{ap₂}
 use mathlib.Core.Bool.{◌&&◌}
 use Rattle.invert.specs.Outcome.{set_fits}

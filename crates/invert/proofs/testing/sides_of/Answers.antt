@@ -1,5 +1,4 @@
 -- `invert::testing::sides_of` takes columns and rows as counts. Assumes nothing.
-use borrow.Author.Rules.{rules}
 use mir.Syntax.{w64}
 use mir.Facts.{to_z-of_z}
 use Rattle.invert.proofs.Tested.{sides-by}

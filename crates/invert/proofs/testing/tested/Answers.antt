@@ -1,5 +1,4 @@
 -- `invert::testing::tested` lets the rows answer if the tests before them pass. Assumes nothing.
-use borrow.Author.Rules.{rules}
 use mathlib.Core.Path.{◌≡◌, sym, ap, ◌∙◌}
 use mathlib.Core.Bool.{true}
 use Prim.Native.Nat.{◌≤◌}
@@ -31,7 +30,7 @@ returns-then-not-passed c =
 pub rows-requires : goal.rows-requires
 rows-requires c =
     let a = c.args in
-    let h : 1 ≤ a.s.nx = omega (arith, (good-sides a.s (given-sides a.s a.g a.t a.l (ok c.before))).x.low) in 
+    let h : 1 ≤ a.s.nx = omega (arith, (good-sides a.s (given-sides a.s a.g a.t a.l (ok c.before))).x.low) in
     record { text_in_bounds = c.requires; le_nx = h }
 
 pub returns : goal.returns

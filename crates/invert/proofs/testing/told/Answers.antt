@@ -1,5 +1,4 @@
 -- `invert::testing::told` is the head of an answer. Assumes nothing.
-use borrow.Author.Rules.{rules}
 use mathlib.Core.Path.{sym, ◌∙◌}
 use borrow.Author.Tests.{not-true, not-false}
 use Rattle.invert.proofs.Tested.{told-no, told-yes}

@@ -1,5 +1,4 @@
 -- `joins::joining::divisible`: tests 1, 2 and 4 of a grid's flags. Assumes nothing.
-use borrow.Author.Rules.{rules}
 use borrow.Author.Tests.{not-true, not-false}
 use mathlib.Core.Path.{sym, ◌∙◌}
 use Rattle.schemes.proofs.Answers.{part-sides, part-lengths, part-sized, part-flag, part-through}

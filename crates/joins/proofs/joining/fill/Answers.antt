@@ -1,12 +1,10 @@
-use borrow.Author.Rules.{rules}
 use mathlib.Core.Path.{◌≡◌, refl, ap, ◌∙◌, subst}
-use mathlib.Core.List.{List}
-use Prim.Native.Nat.{ℕ, ◌-◌, ◌≤◌, ◌<◌}
+use Prim.Native.Nat.{ℕ, ◌-◌, ◌<◌}
 use native.Mathlib.Omega.{arith}
 use lib.ListN.{length, length-set}
 use Rattle.whole.specs.laws.Tab.{Upto, upto_zero, upto-more, upto_all}
 use Rattle.grid.proofs.Lists.{get_or-there}
-use Rattle.schemes.specs.Scheme.{wall_at, own_at, joined_flag}
+use Rattle.schemes.specs.Scheme.{own_at, joined_flag}
 use Rattle.joins.proofs.joining.fill.Invariants.{here}
 use Rattle.joins.proofs.joining.fill.Goals as goal
 

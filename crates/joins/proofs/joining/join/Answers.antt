@@ -1,5 +1,4 @@
 -- `joins::joining::join`: the outcome's definition, whatever is lent. Assumes nothing.
-use borrow.Author.Rules.{rules}
 use mathlib.Core.Path.{sym, ◌∙◌}
 use Rattle.grid.specs.State.{Lent, lent}
 use Rattle.pumps.proofs.Checked.{head-sized}

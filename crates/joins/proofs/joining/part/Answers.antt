@@ -1,5 +1,4 @@
 -- `joins::joining::part`: the outcome's definition, whatever is lent. Assumes nothing.
-use borrow.Author.Rules.{rules}
 use mathlib.Core.Path.{sym, ◌∙◌}
 use Rattle.schemes.proofs.Answers.{part-refused, part-sizes, part-done}
 use Rattle.joins.proofs.joining.part.Goals as goal

@@ -1,12 +1,9 @@
 -- `joins::joining::split` leaves the own flags: cell by cell. Assumes nothing.
-use borrow.Author.Rules.{rules}
-use mathlib.Core.Path.{◌≡◌, refl, ap, ◌∙◌, subst}
+use mathlib.Core.Path.{◌≡◌}
 use mathlib.Core.List.{List}
-use Prim.Native.Nat.{ℕ, ◌-◌, ◌≤◌, ◌<◌}
-use native.Mathlib.Omega.{arith}
-use lib.ListN.{length, get_or, length-set}
-use Rattle.whole.specs.laws.Tab.{Upto, upto_zero, upto-more, upto_all}
-use Rattle.grid.proofs.Lists.{get_or-there}
+use Prim.Native.Nat.{ℕ, ◌-◌, ◌≤◌}
+use lib.ListN.{length, get_or}
+use Rattle.whole.specs.laws.Tab.{Upto}
 use Rattle.schemes.specs.Scheme.{own_flag}
 use Rattle.joins.proofs.joining.split.Given as goal
 

@@ -1,5 +1,4 @@
 -- `landings::estimate::axis`: every sum fits, and neither end is negative. Assumes nothing.
-use borrow.Author.Rules.{rules}
 use mir.Syntax.{w64}
 use Rattle.whole.specs.laws.Casts.{index-asks}
 use Rattle.whole.specs.laws.Machine.{Val, same, v+, v*, vneg, vpos, v32, v64, does-fit}

@@ -1,5 +1,4 @@
 -- `landings::estimate::crossed`: sums and differences of two axes fit, and are what a diagonal takes. Assumes nothing.
-use borrow.Author.Rules.{rules}
 use Rattle.whole.specs.laws.Machine.{Val, same, v+, vneg, v32, v64, within_by, does-fit, reads_as}
 use Rattle.lattice.proofs.Reading.{inside}
 use Rattle.landings.proofs.estimate.crossed.Lts as lts
@@ -41,7 +40,7 @@ diagonal-m-requires c =
     let d = v64 (v+ (v64 (wide_is c.before)) (v64 (wide2-is c))) in
     let v = v64 (v+ (v64 (inside h.2)) (v64 (inside h.3))) in
     let o = v64 (v+ (v64 (inside h.4)) (v64 (inside h.5))) in
-    let b = v64 (inside h.6) in 
+    let b = v64 (inside h.6) in
     record { within = (within_by d tt, within_by v tt, within_by o tt, within_by b tt); pos_bound = rw (reads_as d tt, reads_as v tt, reads_as o tt, reads_as b tt) s.requires.pos_bound }
 
 pub overflow_sub-wide : goal.overflow_sub-wide
@@ -60,7 +59,7 @@ diagonal-n-requires c =
     let d = v64 (v+ (v64 (wide3-is c.before)) (vneg (v64 (wide4-is c)))) in
     let v = v64 (v+ (v64 (inside h.2)) (vneg (v64 (inside h.3)))) in
     let o = v64 (v+ (v64 (inside h.4)) (vneg (v64 (inside h.5)))) in
-    let b = v64 (inside h.6) in 
+    let b = v64 (inside h.6) in
     record { within = (within_by d tt, within_by v tt, within_by o tt, within_by b tt); pos_bound = rw (reads_as d tt, reads_as v tt, reads_as o tt, reads_as b tt) s.requires.pos_bound_2 }
 
 pub returns : goal.returns

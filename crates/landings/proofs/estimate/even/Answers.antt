@@ -1,5 +1,4 @@
 -- `landings::estimate::even`: every product fits. Assumes nothing.
-use borrow.Author.Rules.{rules}
 use native.Mathlib.Omega.{arith}
 use Rattle.whole.specs.laws.Machine.{Val, same, v32, does-fit, reads_as}
 use Rattle.lattice.proofs.Reading.{inside}

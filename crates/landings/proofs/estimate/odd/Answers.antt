@@ -1,5 +1,4 @@
 -- `landings::estimate::odd`: the product fits, and the shift is the floor. Assumes nothing.
-use borrow.Author.Rules.{rules}
 use Rattle.whole.specs.laws.Machine.{Val, same, v32, does-fit, reads_as}
 use Rattle.lattice.proofs.Reading.{inside}
 use Rattle.landings.proofs.Loss.{shifting}

@@ -1,6 +1,5 @@
 -- `landings::estimate::rates_of`: every product fits for a steady flow, and each field is its definition. Assumes nothing.
 use mathlib.Core.Path.{◌≡◌, ◌∙◌, ap}
-use borrow.Author.Rules.{rules}
 use native.Mathlib.Omega.{arith}
 use lib.IntN.{ℤ, pos, ◌*ℤ◌}
 use lib.Signed.{quot_z, shr_z}

@@ -1,6 +1,5 @@
 -- `landings::estimate::speed`: the product fits by what is required, and the shift is the floor. Assumes nothing.
 use mathlib.Core.Path.{ap₂}
-use borrow.Author.Rules.{rules}
 use lib.IntN.{◌*ℤ◌}
 use mir.Syntax.{w64}
 use mir.Val.{to_z, of_z}

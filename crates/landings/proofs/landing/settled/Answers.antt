@@ -1,6 +1,5 @@
 -- `landings::landing::settled`: the two ways out are the definition's. Assumes nothing.
 use mathlib.Core.Path.{◌≡◌, sym, ◌∙◌, ap₂}
-use borrow.Author.Rules.{rules}
 use lib.Signed.{lt_z, shr_z}
 use mir.Syntax.{w32}
 use mir.Val.{to_z, of_z}

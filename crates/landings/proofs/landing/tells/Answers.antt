@@ -1,6 +1,5 @@
 -- `landings::landing::tells`: equal bits are equal floors. Assumes nothing.
 use mathlib.Core.Path.{◌∙◌, ap₂}
-use borrow.Author.Rules.{rules}
 use lib.IntN.{pos, ◌+ℤ◌}
 use lib.Signed.{shr_z}
 use mir.Syntax.{w32}

@@ -1,5 +1,4 @@
 -- `landings::pairs::relaxed`: every product fits, and the quotient by at least 73,728·294,912 is small. Assumes nothing.
-use borrow.Author.Rules.{rules}
 use native.Mathlib.Omega.{arith}
 use lib.IntN.{◌*ℤ◌}
 use mir.Syntax.{w64}

@@ -1,5 +1,4 @@
 -- `landings::pairs::relaxed_pair`: Q's even and odd part fit, and both parts are relaxed by them. Assumes nothing.
-use borrow.Author.Rules.{rules}
 use Rattle.whole.specs.laws.Bounds.{abs-above}
 use Rattle.whole.specs.laws.Machine.{Val, machine, same, v*, v32, vpos, within_by, does-fit, reads_as}
 use Rattle.lattice.proofs.Reading.{reading, inside, is-least}

@@ -3,7 +3,6 @@ use Prim.Native.Nat.{◌+◌, ◌*◌}
 use native.Mathlib.Omega.{arith}
 use Rattle.whole.specs.laws.Machine.{does-fit, reads_as}
 use Rattle.lattice.proofs.Reading.{reading}
-use borrow.Author.Rules.{rules}
 use Rattle.lattice.proofs.directions.apart.Goals as goal
 
 pub overflow_sub-result : goal.overflow_sub-result

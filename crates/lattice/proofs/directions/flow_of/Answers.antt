@@ -1,5 +1,4 @@
 -- `lattice::directions::flow_of`: density by its own function, and each component by its five pairs. Assumes nothing.
-use borrow.Author.Rules.{rules}
 use mathlib.Core.Path.{◌≡◌, ◌∙◌}
 use Prim.Native.Nat.{ℕ, ◌<◌}
 use lib.Dec.{lit<}

@@ -1,5 +1,4 @@
 -- `lattice::directions::opposite` is the lattice's pairing. Assumes nothing.
-use borrow.Author.Rules.{rules}
 use Rattle.lattice.proofs.Opposites.{opposite-odd, opposite-even}
 use Rattle.lattice.proofs.directions.opposite.Goals as goal
 

@@ -1,6 +1,5 @@
 -- `lattice::limits::good_gravity`: a component above 1048 is out of range by itself; below, the squares fit and the sum is the definition's.
 -- Assumes nothing.
-use borrow.Author.Rules.{rules}
 use mathlib.Core.Path.{sym}
 use Rattle.whole.specs.laws.Machine.{Within, does-fit}
 use Rattle.whole.specs.laws.Tests.{flags, flag-as}

@@ -1,7 +1,6 @@
 -- `lattice::limits::good_settings`: its two tests are the definition's, of fields that fit. Assumes nothing.
 use mathlib.Core.Path.{ap₂}
 use mathlib.Core.Bool.{◌&&◌}
-use borrow.Author.Rules.{rules}
 use mir.Syntax.{w64}
 use mir.Facts.{to_z-of_z}
 use Rattle.lattice.proofs.limits.good_settings.Goals as goal

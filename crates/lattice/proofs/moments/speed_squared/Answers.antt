@@ -1,5 +1,4 @@
 -- `lattice::moments::speed_squared`: the squares and their sums fit. Assumes nothing.
-use borrow.Author.Rules.{rules}
 use Rattle.whole.specs.laws.Machine.{Val, machine, same, v*, v32, does-fit, reads_as}
 use Rattle.lattice.proofs.Reading.{inside}
 use Rattle.lattice.proofs.moments.speed_squared.Lts as lts

@@ -10,7 +10,6 @@ use Rattle.whole.specs.laws.Tests.{flags, flag-as, clean}
 use Rattle.lattice.specs.Cell.{dense, slow}
 use Rattle.lattice.specs.inner.Held.{steady_flow}
 use Rattle.lattice.proofs.Reading.{reading}
-use borrow.Author.Rules.{rules}
 use Rattle.lattice.proofs.moments.steady.Lts as lts
 use Rattle.lattice.proofs.moments.steady.Reads as reads
 use Rattle.lattice.proofs.moments.steady.Tie as tie

@@ -1,7 +1,6 @@
 -- `lattice::moments::times`: a product of two numbers of 32 bits fits 64. Assumes nothing.
 use Rattle.whole.specs.laws.Machine.{machine, same, does-fit, reads_as}
 use Rattle.lattice.proofs.Reading.{whole32}
-use borrow.Author.Rules.{rules}
 use Rattle.lattice.proofs.moments.times.Goals as goal
 
 pub overflow_mul-result : goal.overflow_mul-result

@@ -1,14 +1,8 @@
 -- `lattice::rules::all_inside`: part 0, then pair by pair. Assumes nothing.
-use mathlib.Core.Path.{◌≡◌, refl, sym, ◌∙◌, ap, ap₂}
-use mathlib.Core.Bool.{Bool, ◌&&◌}
-use Prim.Native.Nat.{ℕ, ◌-◌, ◌%◌, ◌≤◌}
-use native.Mathlib.Omega.{arith}
-use borrow.Author.Rules.{rules}
-use mir.Syntax.{w32}
-use mir.Facts.{to_z-of_z}
+use mathlib.Core.Path.{◌≡◌}
+use Prim.Native.Nat.{◌-◌, ◌%◌, ◌≤◌}
 use Rattle.whole.specs.Fold.{all}
 use Rattle.lattice.specs.inner.Held.{parts_of}
-use Rattle.lattice.proofs.Pairs.{all_one, all-pair}
 use Rattle.lattice.specs.Cell.{part_good}
 use Rattle.lattice.proofs.rules.all_inside.Given as goal
 

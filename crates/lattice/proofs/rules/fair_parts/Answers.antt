@@ -2,7 +2,6 @@
 use mathlib.Core.Path.{◌∙◌, ap₂}
 use mathlib.Core.Bool.{◌&&◌}
 use Rattle.lattice.proofs.Bodies.{flow-x, flow-y, flow-z, body_is}
-use borrow.Author.Rules.{rules}
 use Rattle.lattice.proofs.rules.fair_parts.Goals as goal
 
 pub steady-requires : goal.steady-requires

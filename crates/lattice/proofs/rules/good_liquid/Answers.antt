@@ -17,7 +17,6 @@ use Rattle.lattice.proofs.Bodies.{inside-bounded, flow-x, flow-y, flow-z, body_i
 use Rattle.lattice.proofs.Equal.{bits-eq_z}
 use Rattle.lattice.proofs.Reading.{reading, whole32}
 use Rattle.lattice.proofs.Tame.{steady-tame}
-use borrow.Author.Rules.{rules}
 use Rattle.lattice.proofs.rules.good_liquid.Lts as lts
 use Rattle.lattice.proofs.rules.good_liquid.Reads as reads
 use Rattle.lattice.proofs.rules.good_liquid.Tie as tie

@@ -1,5 +1,4 @@
 -- `lines::playing::go` tells a state, its step, and the state after it, whose slices kept their lengths. Assumes nothing.
-use borrow.Author.Rules.{rules}
 use native.Mathlib.Omega.{arith}
 use lib.IntN.{pos}
 use lib.ListN.{get_or}

@@ -1,5 +1,4 @@
 -- `lines::playing::play` hands a record that was read on, in slices that kept their lengths. Assumes nothing.
-use borrow.Author.Rules.{rules}
 use mathlib.Core.Path.{◌∙◌}
 use native.Mathlib.Omega.{arith}
 use Rattle.record.proofs.Spanned.{handed}
@@ -12,7 +11,7 @@ returns-then-refused c = refused-told _ _ _ _ c.read-head.ensures.head-is c.refu
 pub go-requires : goal.go-requires
 go-requires c =
     let read = c in
-    let start = read in 
+    let start = read in
     record { masses_len_bound = omega (arith, read.read-head.auto.1.1.0, start.requires.masses_len_bound); masses2_len_bound = start.requires.masses2_len_bound; carry_len = read.read-head.auto.1.1.1.1.0 ∙ start.requires.carry_len; carry2_len = start.requires.carry2_len }
 
 pub shape_of-parts : goal.shape_of-parts

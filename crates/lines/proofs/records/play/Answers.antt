@@ -1,6 +1,5 @@
 -- `lines::records::play` lends the parts of its room that the record asks for, and a record too long none. Assumes nothing.
-use borrow.Author.Rules.{rules}
-use mathlib.Core.Path.{◌≡◌, refl, sym, ap, ◌∙◌, subst}
+use mathlib.Core.Path.{refl, sym, ap, ◌∙◌, subst}
 use Prim.Native.Nat.{ℕ, ◌*◌, ◌≤◌}
 use native.Mathlib.Omega.{arith}
 use lib.Seq.{length-take-le}
@@ -36,7 +35,7 @@ pub slice_bounds-play-end-10 : goal.slice_bounds-play-end-10
 slice_bounds-play-end-10 c = sym (length-take-le _ _ (omega arith))
 
 pub play-requires : goal.play-requires
-play-requires c =  record { masses_len_bound = take-low c.room-n.result _ 862 (omega arith) (omega arith); masses2_len_bound = subst (λ (k : ℕ). k ≤ 862) (slice_bounds-play-end-7 c.before.before.before.before) (omega arith); carry_len = refl; carry2_len = refl }
+play-requires c = record { masses_len_bound = take-low c.room-n.result _ 862 (omega arith) (omega arith); masses2_len_bound = subst (λ (k : ℕ). k ≤ 862) (slice_bounds-play-end-7 c.before.before.before.before) (omega arith); carry_len = refl; carry2_len = refl }
 
 pub returns : goal.returns
 returns c =

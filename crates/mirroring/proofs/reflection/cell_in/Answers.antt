@@ -1,6 +1,6 @@
 -- `mirroring::reflection::cell_in` is the reflected cell: each coordinate by itself, and the number of the three. Assumes nothing.
-use mathlib.Core.Path.{◌≡◌, ◌∙◌, sym, subst}
-use Prim.Native.Nat.{ℕ, ◌+◌, ◌*◌, ◌/◌, ◌%◌, ◌≤◌, ◌<◌}
+use mathlib.Core.Path.{◌≡◌, sym, subst}
+use Prim.Native.Nat.{ℕ, ◌+◌, ◌*◌, ◌≤◌, ◌<◌}
 use native.Mathlib.Omega.{arith}
 use Rattle.grid.specs.Grid.{cells_of}
 use Rattle.mirroring.specs.inner.Between.{cell_in}

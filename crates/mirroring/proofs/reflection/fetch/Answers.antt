@@ -1,12 +1,10 @@
-use borrow.Author.Rules.{sfits_of, rules}
+use borrow.Author.Rules.{sfits_of}
 use mathlib.Core.Path.{◌≡◌}
-use Prim.Native.Nat.{◌+◌, ◌-◌, ◌≤◌, ◌<◌}
+use Prim.Native.Nat.{◌-◌, ◌<◌}
 use native.Mathlib.Omega.{arith}
-use lib.IntN.{pos}
 use lib.ListN.{get_or}
 use mir.Syntax.{w32}
 use mir.Facts.{to_z-of_z}
-use Rattle.mirroring.specs.inner.Between.{Fetched}
 use Rattle.mirroring.proofs.Made.{fetched-none, fetched-more}
 use Rattle.mirroring.proofs.reflection.fetch.Goals as goal
 

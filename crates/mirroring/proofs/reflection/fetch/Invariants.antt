@@ -1,14 +1,8 @@
 -- `mirroring::reflection::fetch` writes one part more in each turn, those before stay. Assumes nothing.
-use borrow.Author.Rules.{sfits_of, rules}
-use mathlib.Core.Path.{◌≡◌}
-use Prim.Native.Nat.{◌+◌, ◌-◌, ◌≤◌, ◌<◌}
-use native.Mathlib.Omega.{arith}
+use Prim.Native.Nat.{◌+◌, ◌-◌, ◌≤◌}
 use lib.IntN.{pos}
 use lib.ListN.{get_or}
-use mir.Syntax.{w32}
-use mir.Facts.{to_z-of_z}
 use Rattle.mirroring.specs.inner.Between.{Fetched}
-use Rattle.mirroring.proofs.Made.{fetched-none, fetched-more}
 use Rattle.mirroring.proofs.reflection.fetch.Given as goal
 
 abbrev pub invariant-loop-k : goal.invariant-loop-k

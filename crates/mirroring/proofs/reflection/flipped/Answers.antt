@@ -1,5 +1,4 @@
 -- `mirroring::reflection::flipped` is x, or n − 1 − x. Assumes nothing.
-use borrow.Author.Rules.{rules}
 use Rattle.mirroring.proofs.Reflected.{flip-yes, flip-not}
 use Rattle.mirroring.proofs.reflection.flipped.Goals as goal
 

@@ -1,5 +1,4 @@
 -- `mirroring::turning::mirrored`: the outcome's definition, whatever is lent. Assumes nothing.
-use borrow.Author.Rules.{rules}
 use mathlib.Core.Path.{◌≡◌, sym, ◌∙◌, subst}
 use Prim.Native.Nat.{ℕ}
 use Rattle.grid.specs.declared.Answer.TheVariants.{Done}

@@ -1,6 +1,6 @@
-use borrow.Author.Rules.{sfits_of, rules}
+use borrow.Author.Rules.{sfits_of}
 use mathlib.Core.Path.{◌≡◌, refl, sym, ◌∙◌, subst}
-use mathlib.Core.List.{List, []}
+use mathlib.Core.List.{List}
 use Prim.Native.Nat.{ℕ, suc, ◌+◌, ◌*◌, ◌-◌, ◌≤◌, ◌<◌}
 use native.Mathlib.Nat.{mul-le-mul}
 use native.Mathlib.Numerals.{add-one}
@@ -12,7 +12,7 @@ use mir.Facts.{to_z-of_z}
 use Rattle.grid.specs.Grid.{cells_of}
 use Rattle.grid.specs.State.{Lent, lent}
 use Rattle.mirroring.specs.inner.Between.{Directed}
-use Rattle.mirroring.proofs.Made.{Made, made_none, made_more, made_all, parts-inside}
+use Rattle.mirroring.proofs.Made.{made_none, made_more, made_all, parts-inside}
 use Rattle.mirroring.proofs.turning.turn.Lts as lts
 use Rattle.mirroring.proofs.turning.turn.Reads as reads
 use Rattle.mirroring.proofs.turning.turn.Tie as tie

@@ -1,19 +1,9 @@
 -- `mirroring::turning::turn`: cell after cell; the cells passed are made, and in the end the second set is the reflected one, totals aside. Assumes nothing.
-use borrow.Author.Rules.{sfits_of, rules}
-use mathlib.Core.Path.{◌≡◌, refl, sym, ◌∙◌, subst}
-use mathlib.Core.List.{List, []}
-use Prim.Native.Nat.{ℕ, suc, ◌+◌, ◌*◌, ◌-◌, ◌≤◌, ◌<◌}
-use native.Mathlib.Nat.{mul-le-mul}
-use native.Mathlib.Numerals.{add-one}
-use native.Mathlib.Omega.{arith}
-use lib.IntN.{ℤ}
+use Prim.Native.Nat.{◌-◌, ◌≤◌}
 use lib.ListN.{length}
-use mir.Syntax.{w32}
-use mir.Facts.{to_z-of_z}
 use Rattle.grid.specs.Grid.{cells_of}
-use Rattle.grid.specs.State.{Lent, lent}
-use Rattle.mirroring.specs.inner.Between.{Directed}
-use Rattle.mirroring.proofs.Made.{Made, made_none, made_more, made_all, parts-inside}
+use Rattle.grid.specs.State.{lent}
+use Rattle.mirroring.proofs.Made.{Made}
 use Rattle.mirroring.proofs.turning.turn.Given as goal
 
 abbrev pub invariant-loop-c : goal.invariant-loop-c

@@ -1,13 +1,8 @@
 -- `nine::cells::own9` reads the nine parts of cell c to their places: each turn stores one more. Assumes nothing.
-use mathlib.Core.Path.{◌≡◌}
-use Prim.Native.Nat.{ℕ, ◌+◌, ◌*◌, ◌-◌, ◌≤◌, ◌<◌}
-use native.Mathlib.Omega.{arith}
+use Prim.Native.Nat.{ℕ, ◌+◌, ◌*◌, ◌-◌}
 use lib.IntN.{pos}
 use lib.ListN.{get_or}
-use borrow.Author.Rules.{sfits_of, rules}
-use mir.Syntax.{w32}
-use mir.Facts.{to_z-of_z}
-use Rattle.nine.proofs.Places.{Filled, filled_zero, filled_more, filled-all}
+use Rattle.nine.proofs.Places.{Filled}
 use Rattle.nine.proofs.cells.own9.Given as goal
 
 abbrev pub invariant-loop-k : goal.invariant-loop-k

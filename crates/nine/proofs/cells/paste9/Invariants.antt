@@ -1,19 +1,9 @@
 -- `nine::cells::paste9` writes the nine parts of cell c and leaves the rest: each turn copies one more. Assumes nothing.
-use mathlib.Core.Path.{◌≡◌, refl, sym, ap, ap₂, ◌∙◌}
-use mathlib.Core.List.{List, ◌++◌}
-use Prim.Native.Nat.{ℕ, ◌+◌, ◌*◌, ◌-◌, ◌≤◌, ◌<◌}
-use native.Mathlib.Numerals.{add-one}
-use native.Mathlib.Nat.{le_of_eq}
-use native.Mathlib.Omega.{arith}
-use lib.IntN.{ℤ, pos}
-use lib.ListN.{length, get_or, set, take, drop, length-set}
-use lib.Seq.{paste, paste-zero, paste-suc, take_all}
-use borrow.Author.Rules.{sfits_of, rules}
-use mir.Syntax.{w32}
-use mir.Facts.{to_z-of_z}
-use Rattle.whole.specs.laws.Tab.{length-tab, get_or-tab}
-use Rattle.flume.specs.inner.Spread.{wide}
-use Rattle.nine.specs.inner.Cells.{nine_of, pasted9}
+use mathlib.Core.Path.{◌≡◌}
+use Prim.Native.Nat.{◌*◌, ◌-◌, ◌≤◌}
+use lib.ListN.{length}
+use lib.Seq.{paste}
+use Rattle.nine.specs.inner.Cells.{nine_of}
 use Rattle.nine.proofs.cells.paste9.Given as goal
 
 abbrev pub invariant-loop-k : goal.invariant-loop-k

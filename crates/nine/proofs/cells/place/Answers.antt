@@ -1,7 +1,6 @@
 -- `nine::cells::place` is the flume's table of places. Assumes nothing.
 use native.Mathlib.Omega.{arith}
 use native.Mathlib.Nat.{le_of_suc-le-suc}
-use borrow.Author.Rules.{rules}
 use Rattle.nine.proofs.Places.{place-low, place-mid, place-high}
 use Rattle.nine.proofs.cells.place.Goals as goal
 

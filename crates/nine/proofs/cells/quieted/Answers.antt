@@ -1,13 +1,13 @@
 use mathlib.Core.Path.{◌≡◌, ap, ◌∙◌}
-use Prim.Native.Nat.{ℕ, ◌+◌, ◌-◌, ◌≤◌, ◌<◌}
+use Prim.Native.Nat.{ℕ, ◌-◌}
 use native.Mathlib.Omega.{arith}
 use lib.IntN.{pos}
 use lib.ListN.{get_or}
-use borrow.Author.Rules.{sfits_of, rules}
+use borrow.Author.Rules.{sfits_of}
 use mir.Syntax.{w32}
 use mir.Facts.{to_z-of_z}
 use Rattle.flume.specs.inner.Spread.{wide}
-use Rattle.nine.proofs.Places.{Filled, filled_zero, filled_more, quiet_all}
+use Rattle.nine.proofs.Places.{filled_zero, filled_more, quiet_all}
 use Rattle.nine.proofs.cells.quieted.Goals as goal
 
 pub loop-k-init : goal.loop-k-init

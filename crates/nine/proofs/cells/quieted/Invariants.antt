@@ -1,14 +1,9 @@
 -- `nine::cells::quieted` copies the nine parts to their places: each turn stores one more, and the idle ones are 0 in both. Assumes nothing.
-use mathlib.Core.Path.{◌≡◌, ap, ◌∙◌}
-use Prim.Native.Nat.{ℕ, ◌+◌, ◌-◌, ◌≤◌, ◌<◌}
-use native.Mathlib.Omega.{arith}
+use Prim.Native.Nat.{ℕ, ◌-◌}
 use lib.IntN.{pos}
 use lib.ListN.{get_or}
-use borrow.Author.Rules.{sfits_of, rules}
-use mir.Syntax.{w32}
-use mir.Facts.{to_z-of_z}
 use Rattle.flume.specs.inner.Spread.{wide}
-use Rattle.nine.proofs.Places.{Filled, filled_zero, filled_more, quiet_all}
+use Rattle.nine.proofs.Places.{Filled}
 use Rattle.nine.proofs.cells.quieted.Given as goal
 
 abbrev pub invariant-loop-k : goal.invariant-loop-k

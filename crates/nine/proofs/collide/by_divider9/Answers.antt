@@ -2,7 +2,6 @@ use mathlib.Core.Path.{◌≡◌, refl, sym, ◌∙◌, ap, ap₂, subst}
 use mathlib.Core.List.{List}
 use Prim.Native.Nat.{ℕ, suc, ◌+◌, ◌-◌, ◌*◌, ◌<◌, ◌≤◌}
 use native.Mathlib.Omega.{arith}
-use borrow.Author.Rules.{rules}
 use lib.ListN.{get_or}
 use lib.IntN.{ℤ, pos, neg_ℤ, ◌+ℤ◌, ◌-ℤ◌, ◌*ℤ◌}
 use mir.Syntax.{w32, w64}
@@ -19,7 +18,7 @@ use Rattle.lattice.proofs.Tame.{widest}
 use Rattle.landings.specs.declared.pairs.Common.{Common}
 use Rattle.landings.specs.inner.Pairs.{Ready, grown, Paired}
 use Rattle.collision.proofs.Collision.{ready, formed, turned, formed-is}
-use Rattle.collision.proofs.Turns.{Done, Waiting, eighteen, begun, more, waiting-more, all_done}
+use Rattle.collision.proofs.Turns.{eighteen, begun, more, waiting-more, all_done}
 use Rattle.flume.specs.inner.Spread.{spread_lattice}
 use Rattle.nine.proofs.Weighed.{weight-in, weight-opposite}
 use Rattle.nine.proofs.collide.by_divider9.Lts as lts

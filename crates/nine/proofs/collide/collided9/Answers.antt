@@ -1,8 +1,7 @@
 use mathlib.Core.Path.{◌≡◌, refl, sym, ◌∙◌, ap, ap₂, subst}
 use mathlib.Core.List.{List}
-use Prim.Native.Nat.{ℕ, suc, ◌+◌, ◌-◌, ◌%◌, ◌<◌, ◌≤◌}
+use Prim.Native.Nat.{ℕ, suc, ◌+◌, ◌-◌, ◌<◌, ◌≤◌}
 use native.Mathlib.Omega.{arith}
-use borrow.Author.Rules.{rules}
 use lib.ListN.{get_or}
 use lib.IntN.{ℤ, pos, ◌+ℤ◌, ◌-ℤ◌}
 use mir.Syntax.{w32, w64}
@@ -16,7 +15,7 @@ use Rattle.lattice.proofs.Reading.{reading, inside}
 use Rattle.lattice.proofs.Tame.{steady-tame}
 use Rattle.landings.specs.inner.Estimate.{landed, Mixes}
 use Rattle.landings.proofs.Landed.{room, slack}
-use Rattle.collision.proofs.Turns.{Done, eighteen, begun, more, all_done}
+use Rattle.collision.proofs.Turns.{eighteen, begun, more, all_done}
 use Rattle.flume.specs.inner.Spread.{spread_lattice}
 use Rattle.nine.specs.inner.Ends.{EndsNine}
 use Rattle.nine.proofs.Lands.{lands}

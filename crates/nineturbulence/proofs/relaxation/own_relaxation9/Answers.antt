@@ -1,5 +1,4 @@
 -- `nineturbulence::relaxation::own_relaxation9`: by the definition, pair by pair; the tensor does not know the weights. Assumes nothing.
-use borrow.Author.Rules.{rules}
 use mathlib.Core.Path.{◌≡◌, sym, ◌∙◌, ap, ap₂, subst}
 use mathlib.Core.Bool.{true}
 use Prim.Native.Nat.{◌≤◌}

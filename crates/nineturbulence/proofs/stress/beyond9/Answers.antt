@@ -1,5 +1,4 @@
 -- `nineturbulence::stress::beyond9`: four pairs, each by two calls, and nothing at the idle ones. Assumes nothing.
-use borrow.Author.Rules.{rules}
 use mathlib.Core.Path.{◌≡◌, sym, ◌∙◌}
 use native.Mathlib.Omega.{arith}
 use lib.Dec.{lit<}

@@ -1,7 +1,6 @@
 -- `numerals::number::digit_at`: 0 past the end. Assumes nothing.
 use native.Mathlib.Omega.{arith}
 use Rattle.numerals.proofs.Digits.{none-there, low-there, digit-there}
-use borrow.Author.Rules.{rules}
 use Rattle.numerals.proofs.number.digit_at.Goals as goal
 
 pub returns-then-w-i : goal.returns-then-w-i

@@ -3,7 +3,6 @@ use mathlib.Core.Path.{sym, ◌∙◌}
 use borrow.Author.Tests.{not-true, not-false}
 use native.Mathlib.Omega.{arith}
 use Rattle.numerals.proofs.Digits.{ends-here, ends-one, ends-other, ends-undigit, ends_so}
-use borrow.Author.Rules.{rules}
 use Rattle.numerals.proofs.number.ends_well.Goals as goal
 
 pub returns-then-w-k : goal.returns-then-w-k

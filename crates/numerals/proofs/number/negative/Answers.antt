@@ -7,7 +7,6 @@ use Rattle.numerals.specs.declared.number.Number.TheVariants.{Thousandths}
 use Rattle.numerals.specs.Number.{plain_of, negated}
 use Rattle.numerals.proofs.Digits.{plain-lt}
 use Rattle.numerals.proofs.Signs.{half, minus}
-use borrow.Author.Rules.{rules}
 use Rattle.numerals.proofs.number.negative.Lts as lts
 use Rattle.numerals.proofs.number.negative.Reads as reads
 use Rattle.numerals.proofs.number.negative.Tie as tie

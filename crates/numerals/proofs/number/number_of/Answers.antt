@@ -2,7 +2,6 @@
 use mathlib.Core.Path.{◌∙◌}
 use native.Mathlib.Omega.{arith}
 use Rattle.numerals.proofs.Signs.{signed-none, signed-minus, signed-plain}
-use borrow.Author.Rules.{rules}
 use Rattle.numerals.proofs.number.number_of.Goals as goal
 
 pub returns-then-w-eq0 : goal.returns-then-w-eq0

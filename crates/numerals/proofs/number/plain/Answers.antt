@@ -3,13 +3,12 @@ use mathlib.Core.Path.{◌≡◌, sym, ap, ◌∙◌}
 use mathlib.Core.Bool.{true}
 use borrow.Author.Tests.{not-true, not-false}
 use native.Mathlib.Omega.{arith}
-use Prim.Native.Nat.{◌+◌, ◌*◌, ◌≤◌, ◌<◌}
+use Prim.Native.Nat.{◌+◌, ◌*◌}
 use Rattle.numerals.specs.declared.text.Kind.TheVariants.{Digit}
 use Rattle.numerals.specs.declared.number.Magnitude.TheVariants.{Amount}
 use Rattle.numerals.specs.Text.{of_kind, run}
 use Rattle.numerals.specs.Number.{ends_well, value_to, thousandths_at}
 use Rattle.numerals.proofs.Digits.{plain-few, plain-many, plain_other, plain-so, value-small, thousandths-lt}
-use borrow.Author.Rules.{rules}
 use Rattle.numerals.proofs.number.plain.Lts as lts
 use Rattle.numerals.proofs.number.plain.Reads as reads
 use Rattle.numerals.proofs.number.plain.Tie as tie
@@ -44,7 +43,7 @@ pub overflow_mul-result : goal.overflow_mul-result
 overflow_mul-result c = omega (arith, digits_are c.before.before.before.before.before.before, c.value.ensures, value-small c.args.w.now c.past-k.result (omega arith) (omega (arith, digits_are c.before.before.before.before.before.before)))
 
 pub thousandths-requires : goal.thousandths-requires
-thousandths-requires c =  record { k_bound = omega arith; k_value = good c.before.before }
+thousandths-requires c = record { k_bound = omega arith; k_value = good c.before.before }
 
 pub overflow_add-result : goal.overflow_add-result
 overflow_add-result c =

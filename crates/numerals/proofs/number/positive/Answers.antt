@@ -5,7 +5,6 @@ use Rattle.numerals.specs.declared.number.Number.TheVariants.{Thousandths}
 use Rattle.numerals.specs.Number.{plain_of, kept}
 use Rattle.numerals.proofs.Digits.{plain-lt}
 use Rattle.numerals.proofs.Signs.{half, plainly}
-use borrow.Author.Rules.{rules}
 use Rattle.numerals.proofs.number.positive.Lts as lts
 use Rattle.numerals.proofs.number.positive.Reads as reads
 use Rattle.numerals.proofs.number.positive.Tie as tie

@@ -1,10 +1,6 @@
 -- `numerals::number::thousandths`: three digits, each at most 9. Assumes nothing.
-use mathlib.Core.Path.{◌≡◌, ◌∙◌}
-use Prim.Native.Nat.{◌+◌, ◌*◌, ◌<◌}
 use Rattle.numerals.proofs.Digits.{thousandths-are, first-le, second-le, thousandths-lt}
 use native.Mathlib.Omega.{arith}
-use Rattle.numerals.proofs.Digits.{thousandths-are, thousandths-lt}
-use borrow.Author.Rules.{rules}
 use Rattle.numerals.proofs.number.thousandths.Goals as goal
 
 pub overflow_mul-result : goal.overflow_mul-result

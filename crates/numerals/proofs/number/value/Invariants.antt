@@ -1,10 +1,7 @@
 -- `numerals::number::value`: the number that the digits so far spell. Assumes nothing.
-use borrow.Author.Rules.{rules}
-use mathlib.Core.Path.{◌≡◌, refl, ap, ◌∙◌}
-use Prim.Native.Nat.{◌+◌, ◌-◌, ◌*◌, ◌≤◌}
-use native.Mathlib.Omega.{arith}
+use mathlib.Core.Path.{◌≡◌}
+use Prim.Native.Nat.{◌-◌, ◌≤◌}
 use Rattle.numerals.specs.Number.{value_to}
-use Rattle.numerals.proofs.Digits.{value-more, turn_small}
 use Rattle.numerals.proofs.number.value.Given as goal
 
 abbrev pub invariant-loop-i : goal.invariant-loop-i

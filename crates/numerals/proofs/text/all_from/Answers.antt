@@ -1,7 +1,6 @@
 -- `numerals::text::all_from`: the run reaches the end. Assumes nothing.
 use native.Mathlib.Omega.{arith}
 use Rattle.numerals.proofs.Runs.{every-end, every-is}
-use borrow.Author.Rules.{rules}
 use Rattle.numerals.proofs.text.all_from.Goals as goal
 
 pub returns-then-s-at : goal.returns-then-s-at

@@ -1,6 +1,5 @@
 -- `numerals::text::is_word`: neither a blank nor the line's end. Assumes nothing.
 use mathlib.Core.Path.{sym, ◌∙◌}
-use borrow.Author.Rules.{rules}
 use Rattle.numerals.proofs.text.is_word.Goals as goal
 
 pub returns-then-is_blank : goal.returns-then-is_blank

@@ -1,10 +1,6 @@
 -- `numerals::text::line_at`: one line more at each turn. Assumes nothing.
-use borrow.Author.Rules.{rules}
-use mathlib.Core.Path.{◌≡◌, ◌∙◌, subst}
-use Prim.Native.Nat.{ℕ, ◌+◌, ◌-◌, ◌≤◌}
-use native.Mathlib.Omega.{arith}
+use Prim.Native.Nat.{◌-◌, ◌≤◌}
 use Rattle.numerals.specs.inner.Places.{LineIs}
-use Rattle.numerals.proofs.Words.{line-none, line-more}
 use Rattle.numerals.proofs.text.line_at.Given as goal
 
 abbrev pub invariant-loop-i : goal.invariant-loop-i

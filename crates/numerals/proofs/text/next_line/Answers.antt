@@ -1,6 +1,5 @@
 -- `numerals::text::next_line`: past the LF, or the text's end. Assumes nothing.
 use Rattle.numerals.proofs.Runs.{next-in, next-out}
-use borrow.Author.Rules.{rules}
 use Rattle.numerals.proofs.text.next_line.Goals as goal
 
 pub returns-then-end-s : goal.returns-then-end-s

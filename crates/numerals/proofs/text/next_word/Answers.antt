@@ -3,7 +3,6 @@ use native.Mathlib.Omega.{arith}
 use Rattle.numerals.specs.declared.text.Kind.TheVariants.{Blank}
 use Rattle.numerals.specs.Text.{of_kind}
 use Rattle.numerals.proofs.Runs.{past-le, spans}
-use borrow.Author.Rules.{rules}
 use Rattle.numerals.proofs.text.next_word.Goals as goal
 
 pub past-to-requires : goal.past-to-requires

@@ -1,10 +1,8 @@
 -- `numerals::text::of_kind`: by the kind. Assumes nothing.
 use mathlib.Core.Path.{◌≡◌, sym, ap, ◌∙◌}
 use Prim.Native.Nat.{ℕ}
-use mathlib.Core.Path.{sym, ap, ◌∙◌}
 use Rattle.numerals.specs.declared.text.Kind.{Kind}
 use Rattle.numerals.specs.Text.{of_kind}
-use borrow.Author.Rules.{rules}
 use Rattle.numerals.proofs.text.of_kind.Goals as goal
 
 by_kind : {j k : Kind} (b : ℕ) → k ≡ j → of_kind j b ≡ of_kind k b

@@ -1,10 +1,9 @@
 use borrow.Author.Rules.{rules}
 use borrow.Author.Tests.{not-true, not-false}
-use mathlib.Core.Path.{◌≡◌, refl, sym, ◌∙◌}
-use Prim.Native.Nat.{◌+◌, ◌-◌, ◌≤◌}
+use mathlib.Core.Path.{refl, sym, ◌∙◌}
+use Prim.Native.Nat.{◌-◌}
 use native.Mathlib.Omega.{arith}
-use lib.ListN.{length, drop}
-use Rattle.numerals.specs.Text.{of_kind, run}
+use Rattle.numerals.specs.Text.{of_kind}
 use Rattle.numerals.proofs.Runs.{run_on, run-stop, run_end}
 use Rattle.numerals.proofs.text.past.Goals as goal
 

@@ -1,12 +1,8 @@
 -- `numerals::text::past`: what is left of the run, and what was passed, is the run. Assumes nothing.
-use borrow.Author.Rules.{rules}
-use borrow.Author.Tests.{not-true, not-false}
-use mathlib.Core.Path.{◌≡◌, refl, sym, ◌∙◌}
+use mathlib.Core.Path.{◌≡◌}
 use Prim.Native.Nat.{◌+◌, ◌-◌, ◌≤◌}
-use native.Mathlib.Omega.{arith}
 use lib.ListN.{length, drop}
 use Rattle.numerals.specs.Text.{of_kind, run}
-use Rattle.numerals.proofs.Runs.{run_on, run-stop, run_end}
 use Rattle.numerals.proofs.text.past.Given as goal
 
 abbrev pub invariant-loop-i : goal.invariant-loop-i

@@ -1,11 +1,8 @@
 -- `numerals::text::same_letters`: what is left is alike exactly where the whole is. Assumes nothing.
-use borrow.Author.Rules.{rules}
-use mathlib.Core.Path.{◌≡◌, refl, sym, ◌∙◌}
-use Prim.Native.Nat.{◌+◌, ◌-◌, ◌≤◌, ◌<◌}
-use native.Mathlib.Omega.{arith}
+use mathlib.Core.Path.{◌≡◌}
+use Prim.Native.Nat.{◌-◌, ◌≤◌}
 use lib.ListN.{length, drop}
 use Rattle.numerals.specs.Text.{alike}
-use Rattle.numerals.proofs.Words.{alike-other, alike-on, alike-off, alike_end}
 use Rattle.numerals.proofs.text.same_letters.Given as goal
 
 abbrev pub invariant-loop-i : goal.invariant-loop-i

@@ -1,6 +1,5 @@
 -- `numerals::text::small`: a capital letter as a small one. Assumes nothing.
 use borrow.Author.Tests.{lt-leb, le-leb}
-use borrow.Author.Rules.{rules}
 use Rattle.numerals.proofs.text.small.Goals as goal
 
 pub returns-then-b-lt65 : goal.returns-then-b-lt65

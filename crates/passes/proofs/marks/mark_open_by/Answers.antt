@@ -1,8 +1,7 @@
-use borrow.Author.Rules.{rules}
 use mathlib.Core.Path.{refl, ◌∙◌}
 use Prim.Native.Nat.{◌-◌, ◌≤◌, ◌<◌}
 use native.Mathlib.Omega.{arith}
-use Rattle.grid.proofs.Ranges.{Ranged, ranged-first}
+use Rattle.grid.proofs.Ranges.{ranged-first}
 use Rattle.passes.specs.inner.Marks.{opened_at}
 use Rattle.passes.proofs.Marking.{ranged-stretch, dry-unmarked, opened}
 use Rattle.passes.proofs.marks.mark_open_by.Lts as lts

@@ -1,12 +1,8 @@
 -- `passes::marks::mark_open_by` is pass 0: each cell from the first inner one to the last gets its mark, the others keep theirs. A cell that is passed is not fluid,
 -- so that its mark is 0. Assumes nothing.
-use borrow.Author.Rules.{rules}
-use mathlib.Core.Path.{refl, ◌∙◌}
-use Prim.Native.Nat.{◌-◌, ◌≤◌, ◌<◌}
-use native.Mathlib.Omega.{arith}
-use Rattle.grid.proofs.Ranges.{Ranged, ranged-first}
+use Prim.Native.Nat.{◌-◌}
+use Rattle.grid.proofs.Ranges.{Ranged}
 use Rattle.passes.specs.inner.Marks.{opened_at}
-use Rattle.passes.proofs.Marking.{ranged-stretch, dry-unmarked, opened}
 use Rattle.passes.proofs.marks.mark_open_by.Given as goal
 
 abbrev pub invariant-loop-c : goal.invariant-loop-c

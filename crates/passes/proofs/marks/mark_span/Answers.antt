@@ -1,12 +1,9 @@
-use borrow.Author.Rules.{rules}
 use mathlib.Core.Path.{refl, ap, ◌∙◌}
-use Prim.Native.Nat.{◌-◌, ◌≤◌}
+use Prim.Native.Nat.{◌-◌}
 use native.Mathlib.Omega.{arith}
 use lib.ListN.{get_or}
 use Rattle.grid.specs.inner.Passes.{open_mark}
 use Rattle.grid.proofs.Inside.{reach-by}
-use Rattle.passes.specs.inner.Marks.{opened_at}
-use Rattle.passes.specs.inner.Stretch.{Stretch}
 use Rattle.passes.proofs.Stretches.{stretch-first, stretch-more, stretch-all}
 use Rattle.passes.proofs.marks.mark_span.Lts as lts
 use Rattle.passes.proofs.marks.mark_span.Reads as reads

@@ -1,14 +1,7 @@
 -- `passes::marks::mark_span`: the cells from a to c − 1 have their mark. Assumes nothing.
-use borrow.Author.Rules.{rules}
-use mathlib.Core.Path.{refl, ap, ◌∙◌}
 use Prim.Native.Nat.{◌-◌, ◌≤◌}
-use native.Mathlib.Omega.{arith}
-use lib.ListN.{get_or}
-use Rattle.grid.specs.inner.Passes.{open_mark}
-use Rattle.grid.proofs.Inside.{reach-by}
 use Rattle.passes.specs.inner.Marks.{opened_at}
 use Rattle.passes.specs.inner.Stretch.{Stretch}
-use Rattle.passes.proofs.Stretches.{stretch-first, stretch-more, stretch-all}
 use Rattle.passes.proofs.marks.mark_span.Given as goal
 
 abbrev pub invariant-loop-c : goal.invariant-loop-c

@@ -1,8 +1,6 @@
-use borrow.Author.Rules.{rules}
 use mathlib.Core.Path.{refl}
-use Prim.Native.Nat.{◌-◌, ◌≤◌}
+use Prim.Native.Nat.{◌-◌}
 use native.Mathlib.Omega.{arith}
-use Rattle.passes.specs.inner.Stretch.{Cleared}
 use Rattle.passes.proofs.Stretches.{stretch-first, stretch-more, stretch-all}
 use Rattle.passes.proofs.marks.unmark.Lts as lts
 use Rattle.passes.proofs.marks.unmark.Reads as reads

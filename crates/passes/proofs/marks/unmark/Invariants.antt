@@ -1,10 +1,6 @@
 -- `passes::marks::unmark`: the cells from a to c − 1 have no mark. Assumes nothing.
-use borrow.Author.Rules.{rules}
-use mathlib.Core.Path.{refl}
 use Prim.Native.Nat.{◌-◌, ◌≤◌}
-use native.Mathlib.Omega.{arith}
 use Rattle.passes.specs.inner.Stretch.{Cleared}
-use Rattle.passes.proofs.Stretches.{stretch-first, stretch-more, stretch-all}
 use Rattle.passes.proofs.marks.unmark.Given as goal
 
 abbrev pub invariant-loop-c : goal.invariant-loop-c

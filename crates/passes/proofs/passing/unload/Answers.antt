@@ -1,9 +1,7 @@
-use borrow.Author.Rules.{rules}
 use mathlib.Core.Path.{refl}
-use Prim.Native.Nat.{◌-◌, ◌≤◌}
+use Prim.Native.Nat.{◌-◌}
 use native.Mathlib.Omega.{arith}
 use lib.IntN.{pos}
-use Rattle.passes.specs.inner.Stretch.{Cleared}
 use Rattle.passes.proofs.Stretches.{stretch-first, stretch-more, stretch-all}
 use Rattle.passes.proofs.passing.unload.Lts as lts
 use Rattle.passes.proofs.passing.unload.Reads as reads

@@ -1,11 +1,7 @@
 -- `passes::passing::unload`: the cells from a to c − 1 have no mass. Assumes nothing.
-use borrow.Author.Rules.{rules}
-use mathlib.Core.Path.{refl}
 use Prim.Native.Nat.{◌-◌, ◌≤◌}
-use native.Mathlib.Omega.{arith}
 use lib.IntN.{pos}
 use Rattle.passes.specs.inner.Stretch.{Cleared}
-use Rattle.passes.proofs.Stretches.{stretch-first, stretch-more, stretch-all}
 use Rattle.passes.proofs.passing.unload.Given as goal
 
 abbrev pub invariant-loop-c : goal.invariant-loop-c

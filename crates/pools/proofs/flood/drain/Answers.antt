@@ -1,10 +1,8 @@
-use borrow.Author.Rules.{rules}
 use mathlib.Core.Path.{◌≡◌, sym, ◌∙◌, subst}
 use Prim.Native.Nat.{ℕ, ◌-◌, ◌≤◌, ◌<◌}
 use native.Mathlib.Omega.{arith}
 use lib.ListN.{get_or}
 use Rattle.grid.specs.Grid.{cells_of}
-use Rattle.pools.specs.inner.Flood.{Behind, Grown}
 use Rattle.pools.proofs.Flooding.{few-cells, grown-none, grown-on}
 use Rattle.pools.proofs.Scanning.{behind_more, drained, tail-most}
 use Rattle.pools.proofs.flood.drain.Lts as lts

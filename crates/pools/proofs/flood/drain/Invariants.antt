@@ -1,13 +1,7 @@
 -- `pools::flood::drain`: each marked cell was looked around or stands in the queue from `at` on. Assumes nothing.
-use borrow.Author.Rules.{rules}
-use mathlib.Core.Path.{◌≡◌, sym, ◌∙◌, subst}
-use Prim.Native.Nat.{ℕ, ◌-◌, ◌≤◌, ◌<◌}
-use native.Mathlib.Omega.{arith}
-use lib.ListN.{get_or}
+use Prim.Native.Nat.{◌-◌, ◌≤◌}
 use Rattle.grid.specs.Grid.{cells_of}
 use Rattle.pools.specs.inner.Flood.{Behind, Grown}
-use Rattle.pools.proofs.Flooding.{few-cells, grown-none, grown-on}
-use Rattle.pools.proofs.Scanning.{behind_more, drained, tail-most}
 use Rattle.pools.proofs.flood.drain.Given as goal
 
 abbrev pub invariant-loop-at : goal.invariant-loop-at

@@ -1,9 +1,7 @@
-use borrow.Author.Rules.{rules}
 use mathlib.Core.Path.{sym, ap, ◌∙◌}
-use Prim.Native.Nat.{ℕ, ◌-◌, ◌≤◌}
+use Prim.Native.Nat.{ℕ, ◌-◌}
 use native.Mathlib.Omega.{arith}
-use lib.ListN.{length, replicate}
-use Rattle.pools.specs.inner.Flood.{Flooded}
+use lib.ListN.{replicate}
 use Rattle.pools.proofs.Scanning.{flooded-first, finished}
 use Rattle.pools.proofs.flood.flood.Goals as goal
 

@@ -1,11 +1,7 @@
 -- `pools::flood::flood`: every liquid cell below c has its mark. Assumes nothing.
-use borrow.Author.Rules.{rules}
-use mathlib.Core.Path.{sym, ap, ◌∙◌}
-use Prim.Native.Nat.{ℕ, ◌-◌, ◌≤◌}
-use native.Mathlib.Omega.{arith}
-use lib.ListN.{length, replicate}
+use Prim.Native.Nat.{◌-◌, ◌≤◌}
+use lib.ListN.{length}
 use Rattle.pools.specs.inner.Flood.{Flooded}
-use Rattle.pools.proofs.Scanning.{flooded-first, finished}
 use Rattle.pools.proofs.flood.flood.Given as goal
 
 abbrev pub invariant-loop-c : goal.invariant-loop-c

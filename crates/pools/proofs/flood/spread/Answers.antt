@@ -1,12 +1,9 @@
-use borrow.Author.Rules.{rules}
-use mathlib.Core.Path.{◌≡◌, refl, sym, ap, ◌∙◌}
-use Prim.Native.Nat.{ℕ, ◌+◌, ◌-◌, ◌≤◌, ◌<◌}
+use mathlib.Core.Path.{refl, sym, ap, ◌∙◌}
+use Prim.Native.Nat.{ℕ, ◌+◌, ◌-◌, ◌<◌}
 use native.Mathlib.Omega.{arith}
 use lib.ListN.{get_or}
-use Rattle.grid.specs.declared.Sides.{Sides}
 use Rattle.grid.specs.Grid.{cells_of}
 use Rattle.grid.specs.inner.Passes.{low_of}
-use Rattle.pools.specs.inner.Flood.{Marked, Laying, Sound}
 use Rattle.pools.proofs.Flooding.{Wets, marked-wet, Around, around-first, around-all, may-touch, touched, from_low, near-is, near-cell, few-cells}
 use Rattle.pools.proofs.flood.spread.Lts as lts
 use Rattle.pools.proofs.flood.spread.Reads as reads

@@ -1,14 +1,12 @@
 -- `pools::flood::spread`: each direction that was looked at leads to no liquid cell without a mark. Assumes nothing.
-use borrow.Author.Rules.{rules}
-use mathlib.Core.Path.{◌≡◌, refl, sym, ap, ◌∙◌}
-use Prim.Native.Nat.{ℕ, ◌+◌, ◌-◌, ◌≤◌, ◌<◌}
-use native.Mathlib.Omega.{arith}
+use mathlib.Core.Path.{◌≡◌}
+use Prim.Native.Nat.{◌-◌, ◌≤◌, ◌<◌}
 use lib.ListN.{get_or}
 use Rattle.grid.specs.declared.Sides.{Sides}
 use Rattle.grid.specs.Grid.{cells_of}
 use Rattle.grid.specs.inner.Passes.{low_of}
 use Rattle.pools.specs.inner.Flood.{Marked, Laying, Sound}
-use Rattle.pools.proofs.Flooding.{Wets, marked-wet, Around, around-first, around-all, may-touch, touched, from_low, near-is, near-cell, few-cells}
+use Rattle.pools.proofs.Flooding.{Around}
 use Rattle.pools.proofs.flood.spread.Given as goal
 
 abbrev pub invariant-loop-i : goal.invariant-loop-i

@@ -1,5 +1,4 @@
 -- `pools::flood::touch`: a cell that isn't liquid or has a mark gets nothing. Assumes nothing.
-use borrow.Author.Rules.{rules}
 use borrow.Author.Tests.{not-true, not-false}
 use mathlib.Core.Path.{◌≡◌, sym, ◌∙◌}
 use mathlib.Core.Bool.{true}

@@ -1,5 +1,4 @@
 -- `pools::flood::visit`: a cell that isn't liquid or has its mark changes nothing; another one begins a pool, and the queue is drained. Assumes nothing.
-use borrow.Author.Rules.{rules}
 use borrow.Author.Tests.{not-true, not-false}
 use mathlib.Core.Path.{◌≡◌, sym, ap, ◌∙◌}
 use Prim.Native.Nat.{◌+◌, ◌≤◌, ◌<◌}

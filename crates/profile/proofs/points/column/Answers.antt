@@ -1,5 +1,4 @@
 -- `profile::points::column`: the sides of a good grid are not 0. Assumes nothing.
-use borrow.Author.Rules.{rules}
 use native.Mathlib.Omega.{arith}
 use Rattle.grid.proofs.GoodSides.{good-sides}
 use Rattle.profile.specs.Profile.{column_of}

@@ -1,5 +1,4 @@
 -- `profile::points::look`: by what placing answers. Assumes nothing.
-use borrow.Author.Rules.{rules}
 use mathlib.Core.Path.{sym, ◌∙◌, subst}
 use Rattle.tunnel.specs.declared.Placed.{Placed}
 use Rattle.tunnel.specs.declared.Depth.TheVariants.{Refused}

@@ -1,5 +1,4 @@
 -- `profile::points::placed`: placing, of the point that stands there. Assumes nothing.
-use borrow.Author.Rules.{rules}
 use mathlib.Core.Path.{ap, ◌∙◌}
 use mir.Syntax.{w64}
 use mir.ValLaws.{to_z-of_z}

@@ -1,5 +1,4 @@
 -- `profile::testing::columns_tested`: the first column that fails, told as depth tells it. Assumes nothing.
-use borrow.Author.Rules.{rules}
 use borrow.Author.Tests.{le-leb, lt-leb}
 use mathlib.Core.Path.{ap₂, ◌∙◌}
 use Prim.Native.Nat.{ℕ}

@@ -1,5 +1,4 @@
 -- `profiled::asking::profile`: the outcome's definition, whatever is lent. Assumes nothing.
-use borrow.Author.Rules.{rules}
 use mathlib.Core.Path.{◌≡◌, sym, ◌∙◌}
 use lib.ListN.{length}
 use Rattle.grid.specs.declared.Answer.TheVariants.{Done}

@@ -1,5 +1,4 @@
 -- `pumps::effect::effect`: test 16 part by part, and the numbers where it passes. Assumes nothing.
-use borrow.Author.Rules.{rules}
 use borrow.Author.Tests.{not-true, not-false}
 use mathlib.Core.Path.{◌≡◌, sym, ap₂, ◌∙◌, subst}
 use mathlib.Core.Bool.{true}

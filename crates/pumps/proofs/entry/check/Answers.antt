@@ -1,5 +1,4 @@
 -- `pumps::entry::check`: tests 1 and 2, and then 4 to 6. Assumes nothing.
-use borrow.Author.Rules.{rules}
 use borrow.Author.Tests.{not-true, not-false}
 use mathlib.Core.Path.{◌≡◌, sym, ◌∙◌}
 use mathlib.Core.Bool.{true}

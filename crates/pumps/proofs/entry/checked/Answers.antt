@@ -1,5 +1,5 @@
 -- `pumps::entry::checked`: the base's tests 4 to 6 of the carry alone, and then the totals. Assumes nothing.
-use borrow.Author.Rules.{rules, sfits_of}
+use borrow.Author.Rules.{sfits_of}
 use borrow.Author.Tests.{not-true, not-false}
 use mathlib.Core.Path.{◌≡◌, sym, ◌∙◌}
 use native.Mathlib.Omega.{arith}

@@ -1,5 +1,4 @@
 -- `pumps::entry::good_totals` tests poured and taken. Assumes nothing.
-use borrow.Author.Rules.{rules}
 use mathlib.Core.Path.{ap, ap₂, ◌∙◌}
 use mathlib.Core.Bool.{Bool, ◌&&◌}
 use mir.Facts.{to_z-of_z}

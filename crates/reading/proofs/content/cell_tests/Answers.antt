@@ -242,7 +242,7 @@ overflow_add-end-4 c = record { fits = omega (arith, few c.before, small (f c.be
 pub first_unfair-unfair-requires : goal.first_unfair-unfair-requires
 first_unfair-unfair-requires c =
     let is = cells_are (f c.before).before in
-    let from = (f c.before).flags_at-at.ensures in  record { flags_in_bounds = omega (arith, interfaces-are (r c.before) is from (there (f c.before)), masses-here c.before, (d c.before).requires.sound.masses.inside); flags_in_bounds_2 = omega (arith, liquids-are (r c.before) is from (there (f c.before)), parts-here c.before, (d c.before).requires.sound.parts.inside) }
+    let from = (f c.before).flags_at-at.ensures in record { flags_in_bounds = omega (arith, interfaces-are (r c.before) is from (there (f c.before)), masses-here c.before, (d c.before).requires.sound.masses.inside); flags_in_bounds_2 = omega (arith, liquids-are (r c.before) is from (there (f c.before)), parts-here c.before, (d c.before).requires.sound.parts.inside) }
 
 pub returns-then-unfair-n : goal.returns-then-unfair-n
 returns-then-unfair-n c =
@@ -265,10 +265,10 @@ returns-then-not-fair_carry c =
     ∙ sym (skip (n u) 5 (place u) (six u) (shut u) ∙ stop (suc (n u)) 6 (bad_rule d3q19 (n u) (state_in (r (i u)))) (last u) (omega (arith, b)))
 
 pub later_in-requires : goal.later_in-requires
-later_in-requires c =  record { rec_in_bounds = (d (i (u c.before))).requires.sound.totals.inside; i_bound = omega arith }
+later_in-requires c = record { rec_in_bounds = (d (i (u c.before))).requires.sound.totals.inside; i_bound = omega arith }
 
 pub later_in-requires-2 : goal.later_in-requires-2
-later_in-requires-2 c =  record { rec_in_bounds = (d (i (u c.before.before))).requires.sound.totals.inside; i_bound = omega arith }
+later_in-requires-2 c = record { rec_in_bounds = (d (i (u c.before.before))).requires.sound.totals.inside; i_bound = omega arith }
 
 pub returns-then-not-good_totals : goal.returns-then-not-good_totals
 returns-then-not-good_totals c =

@@ -1,5 +1,4 @@
 -- `reading::content::content` tests settings and origin, and then the cells. Assumes nothing.
-use borrow.Author.Rules.{rules}
 use mathlib.Core.Path.{◌≡◌, sym, ap₂, ◌∙◌}
 use Prim.Native.Nat.{suc}
 use borrow.Author.Tests.{not-true, not-false}
@@ -16,10 +15,6 @@ use Rattle.record.specs.Reading.{sides_in, settings_in, site_in, poured_in, take
 use Rattle.record.proofs.Answers.{or-pass, or-fail}
 use Rattle.reading.proofs.content.content.Reads as reads
 use Rattle.reading.proofs.content.content.Lts as lts
-use Rattle.reading.proofs.content.cell_tests.Reads as cell-tests-reads
-use Rattle.record.proofs.given.good_site.Reads as good-site-reads
-use Rattle.record.proofs.given.settings_in.Reads as settings-in-reads
-use Rattle.record.proofs.given.site_in.Reads as site-in-reads
 use Rattle.reading.proofs.content.content.Lts as lts
 use Rattle.reading.proofs.content.content.Reads as reads
 use Rattle.reading.proofs.content.content.Tie as tie

@@ -1,5 +1,4 @@
 -- `reading::fair::fair_cell` tests a liquid cell's parts, and an interface cell's mass too. Assumes nothing.
-use borrow.Author.Rules.{rules}
 use mathlib.Core.Path.{◌≡◌, sym, ap, ◌∙◌, subst}
 use mathlib.Core.Bool.{cond}
 use mathlib.Core.List.{List}
@@ -19,12 +18,6 @@ use Rattle.record.specs.Bytes.{i32_at}
 use Rattle.reading.proofs.Fairness.{body-tab, fair-dry, fair-not, fair-fluid, fair-interface}
 use Rattle.reading.proofs.fair.fair_cell.Reads as reads
 use Rattle.reading.proofs.fair.fair_cell.Lts as lts
-use Rattle.lattice.proofs.limits.fair_mass.Reads as fair-mass-reads
-use Rattle.record.proofs.count.one_liquid.Reads as one-liquid-reads
-use Rattle.reading.proofs.fair.good_body.Reads as good-body-reads
-use Rattle.reading.proofs.load.parts_at.Reads as parts-at-reads
-use Rattle.record.proofs.number.i32_at.Reads as i32-at-reads
-use Rattle.whole.proofs.wide.Reads as wide-reads
 use Rattle.reading.proofs.fair.fair_cell.Lts as lts
 use Rattle.reading.proofs.fair.fair_cell.Reads as reads
 use Rattle.reading.proofs.fair.fair_cell.Tie as tie

@@ -1,11 +1,10 @@
 use mathlib.Core.Path.{◌≡◌, sym, ap, ◌∙◌}
 use mathlib.Core.Bool.{Bool, true, not, cond}
-use Prim.Native.Nat.{ℕ, ◌+◌, ◌*◌, ◌-◌, ◌≤◌, ◌<◌}
+use Prim.Native.Nat.{ℕ, ◌+◌, ◌*◌, ◌-◌, ◌≤◌}
 use native.Mathlib.Nat.{not-suc-le-zero}
 use native.Mathlib.Omega.{arith}
 use lib.Dec.{eqb}
 use lib.ListN.{length, get_or}
-use borrow.Author.Rules.{rules}
 use borrow.Author.Tests.{not-false}
 use borrow.Author.Count.{below_more}
 use Rattle.whole.specs.Fold.{count}
@@ -18,9 +17,6 @@ use Rattle.record.proofs.Gathered.{interfaces-more, interfaces-le, liquids-more,
 use Rattle.reading.proofs.Fairness.{fair-at}
 use Rattle.reading.proofs.fair.first_unfair.Reads as reads
 use Rattle.reading.proofs.fair.first_unfair.Lts as lts
-use Rattle.record.proofs.count.one_interface.Reads as one-interface-reads
-use Rattle.record.proofs.count.one_liquid.Reads as one-liquid-reads
-use Rattle.reading.proofs.fair.fair_cell.Reads as fair-cell-reads
 use Rattle.reading.proofs.fair.first_unfair.Lts as lts
 use Rattle.reading.proofs.fair.first_unfair.Reads as reads
 use Rattle.reading.proofs.fair.first_unfair.Tie as tie
@@ -64,7 +60,7 @@ pub bounds-flags-c : goal.bounds-flags-c
 bounds-flags-c c = omega arith
 
 pub fair_cell-requires : goal.fair_cell-requires
-fair_cell-requires c =  record { flag_in_bounds = masses-inside c.before.before; flag_in_bounds_2 = parts-inside c.before.before }
+fair_cell-requires c = record { flag_in_bounds = masses-inside c.before.before; flag_in_bounds_2 = parts-inside c.before.before }
 
 pub returns-then-not-fair_cell : goal.returns-then-not-fair_cell
 returns-then-not-fair_cell c =

@@ -1,27 +1,11 @@
 -- `reading::fair::first_unfair`: every cell passed keeps its rules, and the places advance as the counts do. Assumes nothing.
-use mathlib.Core.Path.{◌≡◌, sym, ap, ◌∙◌}
-use mathlib.Core.Bool.{Bool, true, not, cond}
+use mathlib.Core.Path.{◌≡◌}
+use mathlib.Core.Bool.{true}
 use Prim.Native.Nat.{ℕ, ◌+◌, ◌*◌, ◌-◌, ◌≤◌, ◌<◌}
-use native.Mathlib.Nat.{not-suc-le-zero}
-use native.Mathlib.Omega.{arith}
-use lib.Dec.{eqb}
-use lib.ListN.{length, get_or}
-use borrow.Author.Rules.{rules}
-use borrow.Author.Tests.{not-false}
-use borrow.Author.Count.{below_more}
-use Rattle.whole.specs.Fold.{count}
-use Rattle.whole.specs.laws.Search.{first-is, first-all}
-use Rattle.lattice.specs.Lattice.{d3q19}
-use Rattle.grid.specs.State.{liquid, flag_of}
+use lib.ListN.{length}
+use Rattle.grid.specs.State.{flag_of}
 use Rattle.record.specs.Layout.{interfaces, liquids}
 use Rattle.record.specs.inner.Passes.{fair_at}
-use Rattle.record.proofs.Gathered.{interfaces-more, interfaces-le, liquids-more, liquids-le}
-use Rattle.reading.proofs.Fairness.{fair-at}
-use Rattle.reading.proofs.fair.first_unfair.Reads as reads
-use Rattle.reading.proofs.fair.first_unfair.Lts as lts
-use Rattle.record.proofs.count.one_interface.Reads as one-interface-reads
-use Rattle.record.proofs.count.one_liquid.Reads as one-liquid-reads
-use Rattle.reading.proofs.fair.fair_cell.Reads as fair-cell-reads
 use Rattle.reading.proofs.fair.first_unfair.Given as goal
 
 abbrev pub invariant-loop-c : goal.invariant-loop-c

@@ -1,12 +1,7 @@
 -- `reading::fair::good_body`: parts in their range have a density and a speed that fit. Assumes nothing.
-use borrow.Author.Rules.{rules}
 use mathlib.Core.Path.{sym, ◌∙◌}
 use borrow.Author.Tests.{not-true, not-false}
 use Rattle.lattice.proofs.Bodies.{inside-bounded, no-parts}
-use Rattle.reading.proofs.fair.good_body.Reads as reads
-use Rattle.reading.proofs.fair.good_body.Lts as lts
-use Rattle.lattice.proofs.rules.all_inside.Reads as all-inside-reads
-use Rattle.lattice.proofs.rules.fair_parts.Reads as fair-parts-reads
 use Rattle.reading.proofs.fair.good_body.Goals as goal
 
 pub returns-then-not-all_inside : goal.returns-then-not-all_inside

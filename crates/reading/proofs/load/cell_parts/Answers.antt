@@ -1,5 +1,4 @@
 -- `reading::load::cell_parts` is 0 at a dry cell, and what the record holds at a liquid one. Assumes nothing.
-use borrow.Author.Rules.{rules}
 use mathlib.Core.Path.{◌≡◌, refl, sym, ◌∙◌}
 use mathlib.Core.Bool.{cond}
 use Prim.Native.Nat.{ℕ, zero, suc, ◌+◌, ◌*◌}
@@ -9,10 +8,6 @@ use lib.ListN.{replicate}
 use Rattle.whole.specs.Fold.{tab, tab_from}
 use Rattle.grid.specs.State.{by_flag, liquid}
 use Rattle.record.specs.Bytes.{i32_at}
-use Rattle.reading.proofs.load.cell_parts.Reads as reads
-use Rattle.reading.proofs.load.cell_parts.Lts as lts
-use Rattle.record.proofs.count.one_liquid.Reads as one-liquid-reads
-use Rattle.reading.proofs.load.parts_at.Reads as parts-at-reads
 use Rattle.reading.proofs.load.cell_parts.Goals as goal
 
 abbrev held : ℕ → (ℕ → ℤ) → ℕ → ℤ

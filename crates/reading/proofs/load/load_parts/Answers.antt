@@ -5,7 +5,6 @@ use Prim.Native.Nat.{ℕ, ◌+◌, ◌*◌, ◌-◌, ◌≤◌, ◌<◌}
 use native.Mathlib.Omega.{arith}
 use lib.IntN.{ℤ, pos}
 use lib.ListN.{length, get_or}
-use borrow.Author.Rules.{rules}
 use Rattle.whole.specs.Fold.{tab, count}
 use Rattle.whole.specs.laws.Tab.{tab-cong, length-tab}
 use Rattle.grid.specs.State.{by_flag, liquid, flag_of}
@@ -16,9 +15,6 @@ use Rattle.record.proofs.Gathered.{liquids-more, liquids-le}
 use Rattle.grid.proofs.Lists.{get_or-there}
 use Rattle.reading.proofs.load.load_parts.Reads as reads
 use Rattle.reading.proofs.load.load_parts.Lts as lts
-use Rattle.grid.proofs.cells.paste.Reads as paste-reads
-use Rattle.record.proofs.count.one_liquid.Reads as one-liquid-reads
-use Rattle.reading.proofs.load.cell_parts.Reads as cell-parts-reads
 use Rattle.reading.proofs.load.load_parts.Invariants.{held}
 use Rattle.reading.proofs.load.load_parts.Lts as lts
 use Rattle.reading.proofs.load.load_parts.Reads as reads

@@ -1,25 +1,13 @@
 -- `reading::load::load_parts` pastes the parts of cell after cell; the place advances as the count of liquid cells does. Assumes nothing.
-use mathlib.Core.Path.{◌≡◌, refl, sym, ap, ◌∙◌, ap₂, subst}
-use mathlib.Core.Bool.{cond}
+use mathlib.Core.Path.{◌≡◌}
 use mathlib.Core.List.{List}
-use Prim.Native.Nat.{ℕ, ◌+◌, ◌*◌, ◌-◌, ◌≤◌, ◌<◌}
-use native.Mathlib.Omega.{arith}
+use Prim.Native.Nat.{ℕ, ◌+◌, ◌*◌, ◌-◌, ◌≤◌}
 use lib.IntN.{ℤ, pos}
-use lib.ListN.{length, get_or}
-use borrow.Author.Rules.{rules}
-use Rattle.whole.specs.Fold.{tab, count}
-use Rattle.whole.specs.laws.Tab.{tab-cong, length-tab}
-use Rattle.grid.specs.State.{by_flag, liquid, flag_of}
-use Rattle.grid.proofs.Blocks.{Blocks, blocks-zero, blocks_more, blocks-all, length-pasted}
+use lib.ListN.{length}
+use Rattle.grid.specs.State.{by_flag, flag_of}
+use Rattle.grid.proofs.Blocks.{Blocks}
 use Rattle.record.specs.Bytes.{i32_at}
 use Rattle.record.specs.Layout.{liquids}
-use Rattle.record.proofs.Gathered.{liquids-more, liquids-le}
-use Rattle.grid.proofs.Lists.{get_or-there}
-use Rattle.reading.proofs.load.load_parts.Reads as reads
-use Rattle.reading.proofs.load.load_parts.Lts as lts
-use Rattle.grid.proofs.cells.paste.Reads as paste-reads
-use Rattle.record.proofs.count.one_liquid.Reads as one-liquid-reads
-use Rattle.reading.proofs.load.cell_parts.Reads as cell-parts-reads
 use Rattle.reading.proofs.load.load_parts.Given as goal
 
 -- part k of cell c, by the flags

@@ -1,16 +1,12 @@
 use mathlib.Core.Path.{◌≡◌, refl, ◌∙◌}
-use Prim.Native.Nat.{◌+◌, ◌*◌, ◌-◌, ◌≤◌, ◌<◌}
+use Prim.Native.Nat.{◌+◌, ◌*◌, ◌-◌, ◌<◌}
 use native.Mathlib.Omega.{arith}
 use lib.IntN.{pos}
 use lib.ListN.{length, replicate, length-set}
-use borrow.Author.Rules.{rules}
 use mir.Syntax.{w32}
 use mir.ValLaws.{to_z-of_z}
-use Rattle.whole.specs.laws.Tab.{Upto, upto_zero, upto-more, upto_all}
+use Rattle.whole.specs.laws.Tab.{upto_zero, upto-more, upto_all}
 use Rattle.record.specs.Bytes.{i32_at}
-use Rattle.reading.proofs.load.parts_at.Reads as reads
-use Rattle.reading.proofs.load.parts_at.Lts as lts
-use Rattle.record.proofs.number.i32_at.Reads as i32-at-reads
 use Rattle.reading.proofs.load.parts_at.Goals as goal
 
 pub loop-k-init : goal.loop-k-init

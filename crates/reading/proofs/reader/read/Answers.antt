@@ -1,8 +1,6 @@
 -- `reading::reader::read`: the sections, then the content, and only then the lent slices. Assumes nothing.
-use borrow.Author.Rules.{rules}
 use mathlib.Core.Path.{◌≡◌, sym, ap, ◌∙◌}
 use mathlib.Core.Bool.{true}
-use mathlib.Core.List.{[]}
 use Prim.Native.Nat.{ℕ, ◌*◌}
 use lib.ListN.{length}
 use borrow.Author.Tests.{not-true, not-false}
@@ -19,15 +17,6 @@ use Rattle.record.proofs.Shaped.{chain-shape, sound, fitting}
 use Rattle.reading.proofs.ReadBy.{read-refused, read-accepted, Fitting, fits}
 use Rattle.reading.proofs.reader.read.Reads as reads
 use Rattle.reading.proofs.reader.read.Lts as lts
-use Rattle.grid.proofs.extent.cells.Reads as cells-reads
-use Rattle.reading.proofs.content.content.Reads as content-reads
-use Rattle.record.proofs.given.settings_in.Reads as settings-in-reads
-use Rattle.record.proofs.given.sides_in.Reads as sides-in-reads
-use Rattle.record.proofs.given.site_in.Reads as site-in-reads
-use Rattle.reading.proofs.reader.refused.Reads as refused-reads
-use Rattle.record.proofs.section.passed.Reads as Passed-reads
-use Rattle.reading.proofs.shape.shape.Reads as shape-reads
-use Rattle.reading.proofs.take.take.Reads as take-reads
 use Rattle.reading.proofs.reader.read.Lts as lts
 use Rattle.reading.proofs.reader.read.Reads as reads
 use Rattle.reading.proofs.reader.read.Tie as tie
@@ -103,7 +92,7 @@ pub sides_in-s-requires : goal.sides_in-s-requires
 sides_in-s-requires c = (is-sound c.before).first.inside
 
 pub content-tested-requires : goal.content-tested-requires
-content-tested-requires c =  record { sound = is-sound c.before.before; s_value = c.sides_in-s.ensures }
+content-tested-requires c = record { sound = is-sound c.before.before; s_value = c.sides_in-s.ensures }
 
 pub returns-then-not-passed-2 : goal.returns-then-not-passed-2
 returns-then-not-passed-2 c =
@@ -121,7 +110,7 @@ take-requires c =
     let e = c in
     let one = e in
     let is = cells_are c.before.before.before.before.before in
-    let fit = is-fit one.before.before.before.before.before.before.before.before.before.before in  record { sound = is-sound one.before.before.before.before.before.before.before.before.before.before; rec_value = done e.before.before.before.before.before.before; n_value = is; parts_len = fit.parts ∙ ap (λ (n : ℕ). 19 * n) (sym is); masses_len = fit.masses ∙ sym is; fills_len = fit.fills ∙ sym is; carry_len = fit.carry }
+    let fit = is-fit one.before.before.before.before.before.before.before.before.before.before in record { sound = is-sound one.before.before.before.before.before.before.before.before.before.before; rec_value = done e.before.before.before.before.before.before; n_value = is; parts_len = fit.parts ∙ ap (λ (n : ℕ). 19 * n) (sym is); masses_len = fit.masses ∙ sym is; fills_len = fit.fills ∙ sym is; carry_len = fit.carry }
 
 pub settings_in-g-requires : goal.settings_in-g-requires
 settings_in-g-requires c = (is-sound c.before.before.before.before.before.before.before.before.before.before.before.before.before.before.before.before).settings.inside

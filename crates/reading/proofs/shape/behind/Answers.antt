@@ -1,5 +1,4 @@
 -- `reading::shape::behind` tests the flags, a part of the record, and then the sections behind them. Assumes nothing.
-use borrow.Author.Rules.{rules}
 use mathlib.Core.Path.{◌≡◌, sym, ap, ap₂, ◌∙◌}
 use mathlib.Core.Bool.{true}
 use Prim.Native.Nat.{ℕ, ◌+◌, ◌≤◌}
@@ -78,7 +77,7 @@ cell_sections-requires c =
     let f = flags-at c.before.before.before.before in
     let d = start f in
     let r = d.args.rec.now in
-    let is = cells_are f.before in  record { from_bound = omega (arith, small f.before, low f); i_bound = omega (arith, c.interface_cells.ensures ∙ interfaces-are r is f.flags_at-at.ensures d.requires.rec_in_bounds, interfaces-most (cells_in r) (flag_in r), is, small f.before); l_bound = omega (arith, c.liquid_cells.ensures ∙ liquids-are r is f.flags_at-at.ensures d.requires.rec_in_bounds, liquids-most (cells_in r) (flag_in r), is, small f.before) }
+    let is = cells_are f.before in record { from_bound = omega (arith, small f.before, low f); i_bound = omega (arith, c.interface_cells.ensures ∙ interfaces-are r is f.flags_at-at.ensures d.requires.rec_in_bounds, interfaces-most (cells_in r) (flag_in r), is, small f.before); l_bound = omega (arith, c.liquid_cells.ensures ∙ liquids-are r is f.flags_at-at.ensures d.requires.rec_in_bounds, liquids-most (cells_in r) (flag_in r), is, small f.before) }
 
 pub returns : goal.returns
 returns c =

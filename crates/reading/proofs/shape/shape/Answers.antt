@@ -1,5 +1,4 @@
 -- `reading::shape::shape` goes through the four groups of sections. Assumes nothing.
-use borrow.Author.Rules.{rules}
 use mathlib.Core.Path.{◌≡◌, sym, ap, ◌∙◌, subst}
 use mathlib.Core.Bool.{true}
 use Prim.Native.Nat.{ℕ, ◌≤◌}
@@ -90,7 +89,7 @@ pub behind-requires : goal.behind-requires
 behind-requires c =
     let r = c.args.rec.now in
     let e = c.sides_in-s.ensures in
-    let h = (fronted r (cells_in r) (front-is c.before)).3.inside in 
+    let h = (fronted r (cells_in r) (front-is c.before)).3.inside in
     record { s_value = e; s_value_2 = ap sides_good e ∙ sides-good c.before.before.before.before.before.before; rec_in_bounds = omega (arith, h) }
 
 pub returns : goal.returns

@@ -1,7 +1,6 @@
 -- `reading::take::take`: the passes leave the state of the record, and behind them the three totals are written. Assumes nothing.
-use borrow.Author.Rules.{rules}
 use mathlib.Core.Path.{◌≡◌, sym, ap, ◌∙◌, subst}
-use mathlib.Core.List.{List, [], ◌∷◌}
+use mathlib.Core.List.{List, ◌∷◌}
 use Prim.Native.Nat.{ℕ, ◌+◌, ◌*◌, ◌-◌, ◌≤◌, ◌<◌}
 use native.Mathlib.Omega.{arith}
 use lib.IntN.{ℤ}
@@ -136,7 +135,7 @@ overflow_add-end-3 c = record { fits = omega (arith, few c.before, low (f c.befo
 pub load_parts-requires : goal.load_parts-requires
 load_parts-requires c =
     let i = c in
-    let g = f i.before.before in  record { flags_in_bounds = omega (arith, liquids-are (r g) (is g) g.flags_at-at.ensures (there g), parts_from_lem i.before.before, (d g).requires.sound.parts.inside); parts_len = (d g).requires.parts_len ∙ ap (λ (k : ℕ). 19 * k) (is g ∙ sym (count-so g)) }
+    let g = f i.before.before in record { flags_in_bounds = omega (arith, liquids-are (r g) (is g) g.flags_at-at.ensures (there g), parts_from_lem i.before.before, (d g).requires.sound.parts.inside); parts_len = (d g).requires.parts_len ∙ ap (λ (k : ℕ). 19 * k) (is g ∙ sym (count-so g)) }
 
 pub overflow_add-end-4 : goal.overflow_add-end-4
 overflow_add-end-4 c = let g = f (counted c.before.before) in record { fits = omega (arith, low g, small g) }
@@ -145,16 +144,16 @@ pub load_masses-requires : goal.load_masses-requires
 load_masses-requires c =
     let l = c in
     let g = f (counted l.before.before.before.before) in
-    let p = (d g).requires.1.1.1 in  record { flags_in_bounds = omega (arith, interfaces-are (r g) (is g) g.flags_at-at.ensures (there g), masses-from g, (d g).requires.sound.masses.inside); parts_len = l.load_parts.auto.1.1.1.0 ∙ p.0 ∙ ap (λ (k : ℕ). 19 * k) (is g ∙ sym (count-so g)); masses_len = p.1.0 ∙ is g ∙ sym (count-so g); fills_len = p.1.1.0 ∙ is g ∙ sym (count-so g); weighed = weighed (r g) (d g).requires.rec_value (part g) _ (flags-so g) (count-so g) (parts-so l.before.before.before.before) }
+    let p = (d g).requires.1.1.1 in record { flags_in_bounds = omega (arith, interfaces-are (r g) (is g) g.flags_at-at.ensures (there g), masses-from g, (d g).requires.sound.masses.inside); parts_len = l.load_parts.auto.1.1.1.0 ∙ p.0 ∙ ap (λ (k : ℕ). 19 * k) (is g ∙ sym (count-so g)); masses_len = p.1.0 ∙ is g ∙ sym (count-so g); fills_len = p.1.1.0 ∙ is g ∙ sym (count-so g); weighed = weighed (r g) (d g).requires.rec_value (part g) _ (flags-so g) (count-so g) (parts-so l.before.before.before.before) }
 
 pub i64_at-kept-requires : goal.i64_at-kept-requires
 i64_at-kept-requires c = let g = f (counted c.before.before.before.before.before.before.before.before) in omega (arith, (d g).requires.sound.flags.inside)
 
 pub later_in-poured-requires : goal.later_in-poured-requires
-later_in-poured-requires c =  record { rec_in_bounds = (d (first c.before)).requires.sound.totals.inside; i_bound = omega arith }
+later_in-poured-requires c = record { rec_in_bounds = (d (first c.before)).requires.sound.totals.inside; i_bound = omega arith }
 
 pub later_in-taken-requires : goal.later_in-taken-requires
-later_in-taken-requires c =  record { rec_in_bounds = (d (first c.before.before)).requires.sound.totals.inside; i_bound = omega arith }
+later_in-taken-requires c = record { rec_in_bounds = (d (first c.before.before)).requires.sound.totals.inside; i_bound = omega arith }
 
 pub bounds-carry-0 : goal.bounds-carry-0
 bounds-carry-0 c = omega (arith, held c.before)

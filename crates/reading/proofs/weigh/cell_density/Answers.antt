@@ -1,6 +1,5 @@
 -- `reading::weigh::cell_density` adds up the parts of a liquid cell. Assumes nothing.
-use borrow.Author.Rules.{rules}
-use mathlib.Core.Path.{◌≡◌, sym, ◌∙◌}
+use mathlib.Core.Path.{sym, ◌∙◌}
 use Prim.Native.Nat.{◌+◌, ◌*◌}
 use lib.IntN.{pos}
 use lib.ListN.{get_or}
@@ -10,9 +9,6 @@ use Rattle.lattice.specs.Lattice.{d3q19, density}
 use Rattle.record.proofs.ByFlag.{Dry, by-dry, by-wet, wet, bounded-by, density-by}
 use Rattle.reading.proofs.weigh.cell_density.Reads as reads
 use Rattle.reading.proofs.weigh.cell_density.Lts as lts
-use Rattle.grid.proofs.cells.own.Reads as own-reads
-use Rattle.lattice.proofs.moments.density.Reads as density-reads
-use Rattle.record.proofs.count.one_liquid.Reads as one-liquid-reads
 use Rattle.reading.proofs.weigh.cell_density.Lts as lts
 use Rattle.reading.proofs.weigh.cell_density.Reads as reads
 use Rattle.reading.proofs.weigh.cell_density.Tie as tie

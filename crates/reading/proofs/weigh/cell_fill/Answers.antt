@@ -1,5 +1,4 @@
 -- `reading::weigh::cell_fill` goes by the flag; an interface cell has a density to divide by. Assumes nothing.
-use borrow.Author.Rules.{rules}
 use mathlib.Core.Path.{◌≡◌, sym, ap, ap₂, ◌∙◌, subst}
 use Prim.Native.Nat.{ℕ}
 use native.Mathlib.Omega.{arith}
@@ -13,10 +12,6 @@ use Rattle.lattice.specs.Cell.{fill_of}
 use Rattle.lattice.proofs.Bodies.{dense-positive}
 use Rattle.grid.specs.Step.{fill_for}
 use Rattle.record.proofs.ByFlag.{by-other}
-use Rattle.reading.proofs.weigh.cell_fill.Reads as reads
-use Rattle.reading.proofs.weigh.cell_fill.Lts as lts
-use Rattle.lattice.proofs.fill.part_fill.Reads as part-fill-reads
-use Rattle.whole.proofs.wide.Reads as wide-reads
 use Rattle.reading.proofs.weigh.cell_fill.Goals as goal
 
 -- the density as it passed the calls

@@ -10,9 +10,6 @@ use mir.ValLaws.{to_z-of_z}
 use Rattle.grid.specs.State.{by_flag}
 use Rattle.record.specs.Bytes.{i32_at}
 use Rattle.record.proofs.ByFlag.{by-other}
-use Rattle.reading.proofs.weigh.cell_mass.Reads as reads
-use Rattle.reading.proofs.weigh.cell_mass.Lts as lts
-use Rattle.record.proofs.number.i32_at.Reads as i32-at-reads
 use Rattle.reading.proofs.weigh.cell_mass.Goals as goal
 
 pub i32_at-requires : goal.i32_at-requires

@@ -6,7 +6,6 @@ use native.Mathlib.Omega.{arith}
 use lib.Dec.{eqb}
 use lib.IntN.{ℤ, pos}
 use lib.ListN.{length, get_or, length-set}
-use borrow.Author.Rules.{rules}
 use mir.Syntax.{w32}
 use mir.ValLaws.{to_z-of_z}
 use lib.Signed.{◌≤ℤ◌}
@@ -24,10 +23,6 @@ use Rattle.record.proofs.Gathered.{interfaces-more, interfaces-le}
 use Rattle.record.proofs.ByFlag.{by-twice, fill-twice}
 use Rattle.reading.proofs.weigh.load_masses.Reads as reads
 use Rattle.reading.proofs.weigh.load_masses.Lts as lts
-use Rattle.record.proofs.count.one_interface.Reads as one-interface-reads
-use Rattle.reading.proofs.weigh.cell_density.Reads as cell-density-reads
-use Rattle.reading.proofs.weigh.cell_fill.Reads as cell-fill-reads
-use Rattle.reading.proofs.weigh.cell_mass.Reads as cell-mass-reads
 use Rattle.reading.proofs.weigh.load_masses.Lts as lts
 use Rattle.reading.proofs.weigh.load_masses.Reads as reads
 use Rattle.reading.proofs.weigh.load_masses.Tie as tie
@@ -103,7 +98,7 @@ pub cell_density-rho-requires : goal.cell_density-rho-requires
 cell_density-rho-requires c =
     let l = c in
     let d = l in
-    let h = c.loop-c-test.true in 
+    let h = c.loop-c-test.true in
     record { c_in_bounds = omega (arith, d.requires.parts_len, h); within = λ e. d.requires.weighed.inside l.loop-c.c h (ap liquid (sym (get_or-there d.args.flags.now l.loop-c.c 0 3 h)) ∙ e) }
 
 pub cell_mass-m-requires : goal.cell_mass-m-requires

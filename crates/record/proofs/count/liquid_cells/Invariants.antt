@@ -1,13 +1,9 @@
 -- `record::count::liquid_cells` counts the flags passed. Assumes nothing.
-use borrow.Author.Rules.{rules}
-use mathlib.Core.Path.{◌≡◌, refl, ap, ap₂, ◌∙◌}
-use Prim.Native.Nat.{ℕ, ◌+◌, ◌-◌, ◌≤◌}
-use native.Mathlib.Omega.{arith}
+use mathlib.Core.Path.{◌≡◌}
+use Prim.Native.Nat.{◌-◌, ◌≤◌}
 use lib.ListN.{length}
-use Rattle.whole.specs.Fold.{count}
 use Rattle.grid.specs.State.{flag_of}
 use Rattle.record.specs.Layout.{liquids}
-use Rattle.record.proofs.Gathered.{liquids-more, liquids-most}
 use Rattle.record.proofs.count.liquid_cells.Given as goal
 
 abbrev pub invariant-loop-c : goal.invariant-loop-c

@@ -1,5 +1,4 @@
 -- `record::flags::flags_of`: the span lies within the bytes, and the part begins where it says. Assumes nothing.
-use borrow.Author.Rules.{rules}
 use mathlib.Core.Path.{refl, sym, subst, ap, ◌∙◌}
 use native.Mathlib.Nat.{add_comm}
 use lib.ListN.{length, take, drop}
@@ -8,7 +7,6 @@ use Rattle.record.specs.declared.Span.{Span}
 use Rattle.record.proofs.Spanned.{Inside, span-inside}
 use Rattle.record.proofs.flags.flags_of.Reads as reads
 use Rattle.record.proofs.flags.flags_of.Lts as lts
-use Rattle.record.proofs.flags.span.Reads as span-reads
 use Rattle.record.proofs.flags.flags_of.Lts as lts
 use Rattle.record.proofs.flags.flags_of.Reads as reads
 use Rattle.record.proofs.flags.flags_of.Tie as tie

@@ -1,5 +1,4 @@
 -- `record::flags::span`: an accepted head with good sides has its flags where the record's own count says, if they fit. Assumes nothing.
-use borrow.Author.Rules.{rules}
 use mathlib.Core.Path.{◌≡◌, refl, sym, ap₂, ◌∙◌}
 use mathlib.Core.Bool.{true}
 use Prim.Native.Nat.{ℕ, ◌+◌}

@@ -1,5 +1,4 @@
 -- `record::given::good_site` joins the tests of settings, edge and origin. Assumes nothing.
-use borrow.Author.Rules.{rules}
 use mathlib.Core.Path.{ap₂}
 use mir.Syntax.{w64}
 use mathlib.Core.Bool.{◌&&◌}

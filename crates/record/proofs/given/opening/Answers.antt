@@ -1,5 +1,4 @@
 -- `record::given::opening` tests section 1, the sides, and the slices against them. Assumes nothing.
-use borrow.Author.Rules.{rules}
 use mathlib.Core.Path.{◌≡◌, sym, ap, ◌∙◌, subst}
 use mathlib.Core.Bool.{true}
 use Prim.Native.Nat.{ℕ, ◌≤◌}
@@ -66,7 +65,7 @@ pub slices_fit-requires : goal.slices_fit-requires
 unfolding cells_in cells_of
 slices_fit-requires c =
     let s = sides_in c.args.rec.now in
-    let g = (good-sides s (sides-good c.before.before)).all in 
+    let g = (good-sides s (sides-good c.before.before)).all in
     record { w_bound = omega arith; n_bound = subst (λ (n : ℕ). n ≤ 262144) (sym (cells_are c.before)) g }
 
 pub returns-then-not-slices_fit : goal.returns-then-not-slices_fit

@@ -1,5 +1,4 @@
 -- `record::given::sides_in` reads the three sides. Assumes nothing.
-use borrow.Author.Rules.{rules}
 use Rattle.record.specs.Reading.{sides_in}
 use Rattle.record.proofs.given.sides_in.Goals as goal
 

@@ -1,5 +1,4 @@
 -- `record::given::site_in` reads the edge and the origin. Assumes nothing.
-use borrow.Author.Rules.{rules}
 use mathlib.Core.Path.{◌∙◌}
 use mir.Syntax.{w64}
 use mir.ValLaws.{to_z-of_z}

@@ -5,7 +5,6 @@ use lib.Seq.{sets}
 use mir.Syntax.{w64}
 use mir.Val.{of_z}
 use mir.ValLaws.{to_z-of_z}
-use borrow.Author.Rules.{rules}
 use Rattle.record.specs.Bytes.{bytes_of}
 use Rattle.record.proofs.number.put_i64.Goals as goal
 

@@ -1,9 +1,8 @@
 -- `record::number::put_u64` writes eight bytes: the low four, then the high four. Assumes nothing.
 use mathlib.Core.Path.{sym, ap, ◌∙◌}
-use mathlib.Core.List.{List, ◌++◌}
+use mathlib.Core.List.{List}
 use Prim.Native.Nat.{ℕ, ◌+◌, ◌/◌, ◌%◌}
 use lib.Seq.{sets}
-use borrow.Author.Rules.{rules}
 use Rattle.record.specs.Bytes.{bytes_of}
 use Rattle.record.proofs.Numbers.{length-bytes_of, sets_then, eight-of}
 use Rattle.record.proofs.number.put_u64.Goals as goal

@@ -4,7 +4,6 @@ use Prim.Native.Nat.{◌-◌}
 use native.Mathlib.Omega.{arith}
 use mir.Syntax.{w32}
 use mir.Val.{to_z}
-use borrow.Author.Rules.{rules}
 use Rattle.record.proofs.number.signed_word.Goals as goal
 
 pub returns : goal.returns

@@ -1,6 +1,5 @@
 -- `record::number::u32_at` is the number of four bytes. Assumes nothing.
 use mathlib.Core.Path.{sym, ◌∙◌}
-use borrow.Author.Rules.{rules}
 use Rattle.record.proofs.Numbers.{four}
 use Rattle.record.proofs.number.u32_at.Goals as goal
 

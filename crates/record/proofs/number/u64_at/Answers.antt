@@ -1,7 +1,6 @@
 -- `record::number::u64_at` is the number of eight bytes: the low four and the high four. Assumes nothing.
 use mathlib.Core.Path.{sym, ap₂, ◌∙◌}
 use Prim.Native.Nat.{ℕ, ◌+◌, ◌*◌}
-use borrow.Author.Rules.{rules}
 use Rattle.record.proofs.Numbers.{eight}
 use Rattle.record.proofs.number.u64_at.Goals as goal
 

@@ -1,5 +1,4 @@
 -- `record::number::word_bits` is two's complement: a cast of the number, or of what it lacks. Assumes nothing.
-use mathlib.Core.Path.{◌≡◌}
 use mir.Syntax.{w32}
 use mir.ValLaws.{to_z-of_z}
 use Rattle.record.proofs.Numbers.{Negative, Positive, negative-bits, positive-bits}

@@ -1,6 +1,5 @@
 -- `record::places::flags_at`: behind four sections and the count of the fifth. Assumes nothing.
-use borrow.Author.Rules.{rules}
-use mathlib.Core.Path.{◌≡◌, sym, ◌∙◌, subst}
+use mathlib.Core.Path.{sym, subst}
 use Prim.Native.Nat.{ℕ, ◌≤◌}
 use native.Mathlib.Omega.{arith}
 use Rattle.record.proofs.FlagPart.{totals-few}

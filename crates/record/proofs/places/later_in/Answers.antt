@@ -1,5 +1,4 @@
 -- `record::places::later_in`: a number of section 4 where three are there, else 0. Assumes nothing.
-use borrow.Author.Rules.{rules}
 use mathlib.Core.Path.{◌≡◌, sym, ap, ◌∙◌}
 use mathlib.Core.Bool.{Bool, cond}
 use Prim.Native.Nat.{◌+◌, ◌*◌}

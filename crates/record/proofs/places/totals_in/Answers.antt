@@ -1,6 +1,5 @@
 -- `record::places::totals_in`: one where the count is there and is 1, else three. Assumes nothing.
-use borrow.Author.Rules.{rules}
-use mathlib.Core.Path.{◌≡◌, sym, ap, ap₂, ◌∙◌}
+use mathlib.Core.Path.{sym, ap, ap₂, ◌∙◌}
 use mathlib.Core.Bool.{Bool, ◌&&◌, cond}
 use native.Mathlib.Omega.{arith}
 use lib.Dec.{eqb}

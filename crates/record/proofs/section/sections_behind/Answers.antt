@@ -1,5 +1,4 @@
 -- `record::section::sections_behind`: a section that is refused answers, else the next one is tested. Assumes nothing.
-use borrow.Author.Rules.{rules}
 use mathlib.Core.Path.{◌≡◌, sym, ◌∙◌}
 use Prim.Native.Nat.{◌≤◌}
 use native.Mathlib.Omega.{arith}
@@ -78,7 +77,7 @@ pub overflow_add-second : goal.overflow_add-second
 overflow_add-second c = record { fits = omega (arith, few c.before.before.before) }
 
 pub section-settings-requires : goal.section-settings-requires
-section-settings-requires c = let f = few c.before.before.before in  record { from_bound = omega (arith, f); n_bound = omega (arith, f); size_bound = omega arith }
+section-settings-requires c = let f = few c.before.before.before in record { from_bound = omega (arith, f); n_bound = omega (arith, f); size_bound = omega arith }
 
 pub returns-then-not-passed : goal.returns-then-not-passed
 returns-then-not-passed c =
@@ -96,7 +95,7 @@ pub overflow_add-third-2 : goal.overflow_add-third-2
 overflow_add-third-2 c = record { fits = omega (arith, few (first c.before.before)) }
 
 pub section-origin-requires : goal.section-origin-requires
-section-origin-requires c = let f = few (first c.before.before) in  record { from_bound = omega (arith, f); n_bound = omega (arith, f); size_bound = omega arith }
+section-origin-requires c = let f = few (first c.before.before) in record { from_bound = omega (arith, f); n_bound = omega (arith, f); size_bound = omega arith }
 
 pub returns-then-not-passed-2 : goal.returns-then-not-passed-2
 returns-then-not-passed-2 c =
@@ -116,7 +115,7 @@ pub overflow_add-fourth-2 : goal.overflow_add-fourth-2
 overflow_add-fourth-2 c = record { fits = omega (arith, few (second c.before.before)) }
 
 pub section-totals-requires : goal.section-totals-requires
-section-totals-requires c = let f = few (second c.before.before) in  record { from_bound = omega (arith, f); n_bound = omega (arith, f); size_bound = omega arith }
+section-totals-requires c = let f = few (second c.before.before) in record { from_bound = omega (arith, f); n_bound = omega (arith, f); size_bound = omega arith }
 
 pub returns-then-not-passed-3 : goal.returns-then-not-passed-3
 returns-then-not-passed-3 c =
@@ -136,7 +135,7 @@ pub overflow_add-fourth-4 : goal.overflow_add-fourth-4
 overflow_add-fourth-4 c = record { fits = omega (arith, few (third c.before)) }
 
 pub section-requires : goal.section-requires
-section-requires c = let f = few (third c.before) in  record { from_bound = omega (arith, f); n_bound = omega (arith, f); size_bound = omega arith }
+section-requires c = let f = few (third c.before) in record { from_bound = omega (arith, f); n_bound = omega (arith, f); size_bound = omega arith }
 
 pub returns : goal.returns
 returns c =

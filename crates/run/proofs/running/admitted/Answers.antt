@@ -1,5 +1,4 @@
 -- `run::running::admitted`: the number of steps first, then tests 1 to 6. Assumes nothing.
-use borrow.Author.Rules.{rules}
 use mathlib.Core.Path.{◌∙◌}
 use Rattle.run.proofs.Runs.{refuses-steps, then-entered}
 use Rattle.run.proofs.running.admitted.Lts as lts

@@ -1,11 +1,10 @@
-use borrow.Author.Rules.{rules}
 use mathlib.Core.Path.{sym, ◌∙◌}
 use Prim.Native.Nat.{◌-◌}
 use native.Mathlib.Omega.{arith}
 use Rattle.grid.specs.inner.Halfway.{Alike}
 use Rattle.step.proofs.Finishes.{alike-sized, like-sized, soiled}
 use Rattle.grid.specs.State.{lent}
-use Rattle.run.proofs.Runs.{Dry, Going, going-first, going-resuming, going-dry, going-alike, going_on, going-stops, going-ends}
+use Rattle.run.proofs.Runs.{going-first, going-resuming, going-dry, going-alike, going_on, going-stops, going-ends}
 use Rattle.run.proofs.running.going.Lts as lts
 use Rattle.run.proofs.running.going.Reads as reads
 use Rattle.run.proofs.running.going.Tie as tie

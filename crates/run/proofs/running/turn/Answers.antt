@@ -1,5 +1,4 @@
 -- `run::running::turn`: the step goes from the set that holds the state to the other one, and leaves the first as it is. Assumes nothing.
-use borrow.Author.Rules.{rules}
 use mathlib.Core.Path.{refl}
 use Rattle.run.proofs.Runs.{resuming-back, resuming-forth, crossed-back, crossed-forth}
 use Rattle.run.proofs.running.turn.Lts as lts

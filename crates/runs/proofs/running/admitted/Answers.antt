@@ -4,7 +4,6 @@ use Rattle.grid.specs.State.{lent}
 use Rattle.index.specs.Index.{index}
 use Rattle.index.specs.Held.{Held, held}
 use Rattle.runs.proofs.Outcomes.{refuses-steps, then-entered}
-use borrow.Author.Rules.{rules}
 use Rattle.runs.proofs.running.admitted.Lts as lts
 use Rattle.runs.proofs.running.admitted.Reads as reads
 use Rattle.runs.proofs.running.admitted.Tie as tie

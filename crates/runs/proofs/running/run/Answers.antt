@@ -1,6 +1,6 @@
 -- `runs::running::run`: what does not admit it is answered and nothing is written; else the base's run of the heads, and both sets' totals and indexes put.
 -- Assumes nothing.
-use borrow.Author.Rules.{rules, sfits_of}
+use borrow.Author.Rules.{sfits_of}
 use mathlib.Core.Path.{◌≡◌, refl, sym, ap, ◌∙◌, subst}
 use Prim.Native.Nat.{ℕ}
 use native.Mathlib.Omega.{arith}

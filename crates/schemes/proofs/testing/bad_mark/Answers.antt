@@ -1,5 +1,4 @@
 -- `schemes::testing::bad_mark` is the negation of test 4's rule. Assumes nothing.
-use borrow.Author.Rules.{rules}
 use mathlib.Core.Path.{◌∙◌}
 use native.Mathlib.Omega.{arith}
 use Rattle.grid.specs.Grid.{grid_of}

@@ -1,14 +1,11 @@
 -- `schemes::testing::empty_beside` asks all eighteen: before the turn at i it has asked the directions 1 to i − 1. Assumes nothing.
-use borrow.Author.Rules.{rules}
-use mathlib.Core.Path.{◌≡◌, refl, sym, ap, ap₂, ◌∙◌}
-use mathlib.Core.Bool.{Bool, ◌||◌, ◌&&◌, not}
+use mathlib.Core.Path.{◌≡◌}
+use mathlib.Core.Bool.{Bool, ◌&&◌, not}
 use mathlib.Core.List.{List}
 use Prim.Native.Nat.{ℕ, suc, ◌+◌, ◌-◌, ◌≤◌}
-use native.Mathlib.Omega.{arith}
 use lib.Dec.{eqb}
 use lib.ListN.{get_or}
 use Rattle.whole.specs.Fold.{any}
-use Rattle.schemes.specs.inner.Between.{empty_at}
 use Rattle.schemes.proofs.testing.empty_beside.Given as goal
 
 -- direction a + 1 leads to an empty cell

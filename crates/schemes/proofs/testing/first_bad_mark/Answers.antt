@@ -1,12 +1,9 @@
-use borrow.Author.Rules.{rules}
 use borrow.Author.Count.{below_more}
-use mathlib.Core.Path.{◌≡◌, sym, ◌∙◌}
-use mathlib.Core.Bool.{false, not}
-use Prim.Native.Nat.{ℕ, ◌-◌, ◌≤◌, ◌<◌}
+use mathlib.Core.Path.{sym, ◌∙◌}
+use mathlib.Core.Bool.{false}
+use Prim.Native.Nat.{◌-◌}
 use native.Mathlib.Nat.{not-suc-le-zero}
 use native.Mathlib.Omega.{arith}
-use lib.ListN.{length}
-use Rattle.schemes.specs.Scheme.{mark_good}
 use Rattle.schemes.proofs.Passing.{mark-here, mark-found, mark-none}
 use Rattle.schemes.proofs.testing.first_bad_mark.Goals as goal
 

@@ -1,14 +1,9 @@
 -- `schemes::testing::first_bad_mark` is test 4's place: no cell passed breaks the rule. Assumes nothing.
-use borrow.Author.Rules.{rules}
-use borrow.Author.Count.{below_more}
-use mathlib.Core.Path.{◌≡◌, sym, ◌∙◌}
+use mathlib.Core.Path.{◌≡◌}
 use mathlib.Core.Bool.{false, not}
 use Prim.Native.Nat.{ℕ, ◌-◌, ◌≤◌, ◌<◌}
-use native.Mathlib.Nat.{not-suc-le-zero}
-use native.Mathlib.Omega.{arith}
 use lib.ListN.{length}
 use Rattle.schemes.specs.Scheme.{mark_good}
-use Rattle.schemes.proofs.Passing.{mark-here, mark-found, mark-none}
 use Rattle.schemes.proofs.testing.first_bad_mark.Given as goal
 
 abbrev pub invariant-loop-c : goal.invariant-loop-c

@@ -1,14 +1,9 @@
 -- `schemes::testing::first_open` is test 5's place in the joined grid. Assumes nothing.
-use borrow.Author.Rules.{rules}
-use borrow.Author.Count.{below_more}
-use mathlib.Core.Path.{◌≡◌, sym, ◌∙◌}
+use mathlib.Core.Path.{◌≡◌}
 use mathlib.Core.Bool.{false}
 use Prim.Native.Nat.{ℕ, ◌-◌, ◌≤◌, ◌<◌}
-use native.Mathlib.Nat.{not-suc-le-zero}
-use native.Mathlib.Omega.{arith}
 use lib.ListN.{length}
 use Rattle.schemes.specs.inner.Between.{opened}
-use Rattle.schemes.proofs.Passing.{open-found, open_none}
 use Rattle.schemes.proofs.testing.first_open.Given as goal
 
 abbrev pub invariant-loop-c : goal.invariant-loop-c

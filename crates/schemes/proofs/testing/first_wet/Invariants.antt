@@ -1,14 +1,9 @@
 -- `schemes::testing::first_wet`: no wall passed is wet. Assumes nothing.
-use borrow.Author.Rules.{rules}
-use borrow.Author.Count.{below_more}
-use mathlib.Core.Path.{◌≡◌, sym, ◌∙◌}
+use mathlib.Core.Path.{◌≡◌}
 use mathlib.Core.Bool.{false}
 use Prim.Native.Nat.{ℕ, ◌-◌, ◌≤◌, ◌<◌}
-use native.Mathlib.Nat.{not-suc-le-zero}
-use native.Mathlib.Omega.{arith}
 use lib.ListN.{length}
 use Rattle.schemes.specs.Scheme.{wet_wall}
-use Rattle.schemes.proofs.Passing.{found, none_found, wet-here}
 use Rattle.schemes.proofs.testing.first_wet.Given as goal
 
 abbrev pub invariant-loop-c : goal.invariant-loop-c

@@ -1,13 +1,9 @@
 -- `solids::clearing::clear_waters` leaves zeros. Assumes nothing.
-use borrow.Author.Rules.{rules}
-use Rattle.solids.proofs.Cleared.{clear_none, clear-more}
-use mathlib.Core.Path.{◌≡◌, refl, ◌∙◌}
-use mathlib.Core.List.{◌++◌, append-nil}
-use Prim.Native.Nat.{◌-◌, ◌≤◌, ◌<◌}
-use native.Mathlib.Omega.{arith}
+use mathlib.Core.Path.{◌≡◌}
+use mathlib.Core.List.{◌++◌}
+use Prim.Native.Nat.{◌-◌, ◌≤◌}
 use lib.IntN.{pos}
-use lib.ListN.{length, replicate, drop, length-set}
-use lib.Seq.{drop-length}
+use lib.ListN.{length, replicate, drop}
 use Rattle.solids.proofs.clearing.clear_waters.Given as goal
 
 abbrev pub invariant-loop-i : goal.invariant-loop-i

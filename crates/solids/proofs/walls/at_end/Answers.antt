@@ -1,7 +1,6 @@
 -- `solids::walls::at_end`: the first or the last. Assumes nothing.
 use borrow.Author.Tests.{eq-eqb}
 use Rattle.solids.proofs.Spread.{end_is}
-use borrow.Author.Rules.{rules}
 use Rattle.solids.proofs.walls.at_end.Goals as goal
 
 pub returns-then-x-eq0 : goal.returns-then-x-eq0

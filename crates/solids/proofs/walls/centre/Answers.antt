@@ -3,7 +3,6 @@ use native.Mathlib.Omega.{arith}
 use mir.Syntax.{w64}
 use mir.ValLaws.{to_z_pos}
 use Rattle.solids.proofs.Heights.{centre-small}
-use borrow.Author.Rules.{rules}
 use Rattle.solids.proofs.walls.centre.Goals as goal
 
 pub overflow_mul-result-2 : goal.overflow_mul-result-2

@@ -1,7 +1,6 @@
-use mathlib.Core.Path.{◌≡◌, ◌∙◌}
-use Prim.Native.Nat.{◌+◌, ◌-◌, ◌*◌, ◌≤◌}
+use Prim.Native.Nat.{◌-◌}
 use native.Mathlib.Omega.{arith}
-use Rattle.solids.proofs.Heights.{Stacking, stack-begin, stack-long, stack-more, stack-end, base-fits}
+use Rattle.solids.proofs.Heights.{stack-begin, stack-long, stack-more, stack-end, base-fits}
 use Rattle.solids.proofs.walls.layer.Goals as goal
 
 pub loop-i-init : goal.loop-i-init
@@ -19,7 +18,7 @@ overflow_mul-i c =
 pub row_walls-requires : goal.row_walls-requires
 row_walls-requires c =
     let l = c in
-    let s = l in 
+    let s = l in
     record { at_in_bounds = l.loop-i.invariant.inside; n_in_bounds = omega (arith, base-fits l.loop-i.i s.args.n s.args.m _ (omega arith) l.loop-i.invariant.few s.requires.n_in_bounds, stack-long l.loop-i.invariant); edge_bound = s.requires.edge_bound; nz_bound = s.requires.nz_bound }
 
 pub next_line-p-requires : goal.next_line-p-requires

@@ -1,8 +1,6 @@
 -- `solids::walls::layer`: row by row, the highest first. Assumes nothing.
-use mathlib.Core.Path.{◌≡◌, ◌∙◌}
-use Prim.Native.Nat.{◌+◌, ◌-◌, ◌*◌, ◌≤◌}
-use native.Mathlib.Omega.{arith}
-use Rattle.solids.proofs.Heights.{Stacking, stack-begin, stack-long, stack-more, stack-end, base-fits}
+use Prim.Native.Nat.{◌-◌}
+use Rattle.solids.proofs.Heights.{Stacking}
 use Rattle.solids.proofs.walls.layer.Given as goal
 
 abbrev pub invariant-loop-i : goal.invariant-loop-i

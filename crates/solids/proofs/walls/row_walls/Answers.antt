@@ -1,8 +1,7 @@
-use mathlib.Core.Path.{◌≡◌, ◌∙◌}
-use Prim.Native.Nat.{◌-◌, ◌≤◌}
+use Prim.Native.Nat.{◌-◌}
 use native.Mathlib.Omega.{arith}
 use Rattle.numerals.proofs.Words.{Found, found}
-use Rattle.solids.proofs.Heights.{Laying, lay-begin, lay-long, lay-more, lay-end}
+use Rattle.solids.proofs.Heights.{lay-begin, lay-long, lay-more, lay-end}
 use Rattle.solids.proofs.walls.row_walls.Lts as lts
 use Rattle.solids.proofs.walls.row_walls.Reads as reads
 use Rattle.solids.proofs.walls.row_walls.Tie as tie
@@ -23,7 +22,7 @@ next_word-w-requires c = c.loop-i.invariant.inside
 
 pub walls_at-k-requires : goal.walls_at-k-requires
 walls_at-k-requires c =
-    let s = c in 
+    let s = c in
     record { from_le_to = (here c.before).ordered; to_in_bounds = (here c.before).inside; edge_bound = s.requires.edge_bound; nz_bound = s.requires.nz_bound }
 
 pub overflow_cast-flags : goal.overflow_cast-flags

@@ -1,9 +1,6 @@
 -- `solids::walls::row_walls`: column by column. Assumes nothing.
-use mathlib.Core.Path.{◌≡◌, ◌∙◌}
-use Prim.Native.Nat.{◌-◌, ◌≤◌}
-use native.Mathlib.Omega.{arith}
-use Rattle.numerals.proofs.Words.{Found, found}
-use Rattle.solids.proofs.Heights.{Laying, lay-begin, lay-long, lay-more, lay-end}
+use Prim.Native.Nat.{◌-◌}
+use Rattle.solids.proofs.Heights.{Laying}
 use Rattle.solids.proofs.walls.row_walls.Given as goal
 
 abbrev pub invariant-loop-i : goal.invariant-loop-i

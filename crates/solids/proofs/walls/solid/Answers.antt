@@ -7,7 +7,6 @@ use mir.Val.{to_z, of_z}
 use mir.Facts.{to_z-of_z}
 use Rattle.heights.specs.Header.{is_no_data}
 use Rattle.solids.proofs.Heights.{solid-none, solid-by}
-use borrow.Author.Rules.{rules}
 use Rattle.solids.proofs.walls.solid.Lts as lts
 use Rattle.solids.proofs.walls.solid.Reads as reads
 use Rattle.solids.proofs.walls.solid.Tie as tie

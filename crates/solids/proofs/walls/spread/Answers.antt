@@ -1,9 +1,8 @@
 use Rattle.solids.proofs.Spread.{cells-few}
-use mathlib.Core.Path.{◌≡◌, ◌∙◌}
-use Prim.Native.Nat.{◌-◌, ◌*◌, ◌%◌, ◌≤◌}
+use Prim.Native.Nat.{◌-◌, ◌*◌}
 use native.Mathlib.Nat.{mod-le}
 use native.Mathlib.Omega.{arith}
-use Rattle.solids.proofs.Spread.{plane, Spreading, spread-begin, spread-more, spread_end}
+use Rattle.solids.proofs.Spread.{plane, spread-begin, spread-more, spread_end}
 use Rattle.solids.proofs.walls.spread.Goals as goal
 
 pub overflow_mul-plane : goal.overflow_mul-plane
@@ -29,7 +28,7 @@ bounds-flags-i c =
 pub cell_wall-requires : goal.cell_wall-requires
 cell_wall-requires c =
     let l = c in
-    let s = l in 
+    let s = l in
     record { s_value = s.requires.s_value; c_bound = omega (arith, l.loop-i.invariant.few, cells-few s.args.s _ s.requires.s_value s.requires.flags_len) }
 
 pub bounds-flags-i-in-loop-i : goal.bounds-flags-i-in-loop-i

@@ -1,10 +1,6 @@
 -- `solids::walls::spread`: from the last cell down. Assumes nothing.
-use Rattle.solids.proofs.Spread.{cells-few}
-use mathlib.Core.Path.{◌≡◌, ◌∙◌}
-use Prim.Native.Nat.{◌-◌, ◌*◌, ◌%◌, ◌≤◌}
-use native.Mathlib.Nat.{mod-le}
-use native.Mathlib.Omega.{arith}
-use Rattle.solids.proofs.Spread.{plane, Spreading, spread-begin, spread-more, spread_end}
+use Prim.Native.Nat.{◌-◌}
+use Rattle.solids.proofs.Spread.{Spreading}
 use Rattle.solids.proofs.walls.spread.Given as goal
 
 abbrev pub invariant-loop-i : goal.invariant-loop-i

@@ -6,7 +6,6 @@ use mir.Syntax.{w64}
 use mir.Val.{SFits, to_z, of_z}
 use mir.Facts.{to_z-of_z}
 use Rattle.solids.proofs.Heights.{twice-fits}
-use borrow.Author.Rules.{rules}
 use Rattle.solids.proofs.walls.twice.Goals as goal
 
 -- what the units are

@@ -4,7 +4,6 @@ use mir.Syntax.{w64}
 use mir.Val.{to_z, of_z}
 use mir.Facts.{to_z-of_z}
 use Rattle.solids.specs.Invert.{or_zero}
-use borrow.Author.Rules.{rules}
 use Rattle.solids.proofs.walls.value_or_zero.Goals as goal
 
 held : (c : goal.In-Thousandths) → to_z w64 (of_z w64 c.in-Thousandths.z) ≡ c.in-Thousandths.z

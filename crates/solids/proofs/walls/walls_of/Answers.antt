@@ -1,20 +1,17 @@
-use mir.Syntax.{w64}
-use mir.Val.{to_z}
 use Rattle.solids.specs.inner.Walls.{height_of}
-use borrow.Author.Rules.{rules}
 use borrow.Author.Tests.{not-true, not-false}
-use mathlib.Core.Path.{◌≡◌, sym, ap, ◌∙◌}
-use Prim.Native.Nat.{◌-◌, ◌≤◌, ◌<◌}
+use mathlib.Core.Path.{sym, ap, ◌∙◌}
+use Prim.Native.Nat.{◌-◌}
 use native.Mathlib.Omega.{arith}
 use mir.Facts.{to_z-of_z}
-use Rattle.solids.proofs.Heights.{Rising, rise-more, rise-stop, rise-end}
+use Rattle.solids.proofs.Heights.{rise-more, rise-stop, rise-end}
 use Rattle.solids.proofs.walls.walls_of.Goals as goal
 
 pub loop-z-init : goal.loop-z-init
 loop-z-init c = record { few = omega arith; walls = λ k h. absurd (omega arith) }
 
 pub solid-requires : goal.solid-requires
-solid-requires c =  record { edge_bound = c.requires.edge_bound; z_bound = omega (arith, c.requires.nz_bound) }
+solid-requires c = record { edge_bound = c.requires.edge_bound; z_bound = omega (arith, c.requires.nz_bound) }
 
 pub returns-then-not-solid : goal.returns-then-not-solid
 returns-then-not-solid c =

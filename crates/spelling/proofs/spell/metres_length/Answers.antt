@@ -1,5 +1,5 @@
 -- `spelling::spell::metres_length`: the sign, the whole metres, and four bytes. Assumes nothing.
-use mathlib.Core.Path.{◌≡◌, ap, ◌∙◌}
+use mathlib.Core.Path.{ap, ◌∙◌}
 use Prim.Native.Nat.{ℕ, ◌/◌}
 use native.Mathlib.Omega.{arith}
 use lib.IntN.{ℤ, nat_abs}
@@ -7,7 +7,6 @@ use lib.ListN.{length}
 use mir.Facts.{to_z-of_z}
 use Rattle.spelling.specs.Spelling.{sign_of, width}
 use Rattle.spelling.proofs.Putting.{metres-long, spell-long, width-most, sign-most}
-use borrow.Author.Rules.{rules}
 use Rattle.spelling.proofs.spell.metres_length.Goals as goal
 
 pub overflow_add-result : goal.overflow_add-result

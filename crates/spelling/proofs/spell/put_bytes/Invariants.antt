@@ -1,11 +1,8 @@
 -- `spelling::spell::put_bytes` copies byte by byte. Assumes nothing.
-use mathlib.Core.Path.{◌≡◌, refl, ap, ◌∙◌}
-use mathlib.Core.List.{List}
-use Prim.Native.Nat.{ℕ, ◌+◌, ◌-◌, ◌≤◌}
-use native.Mathlib.Omega.{arith}
-use lib.ListN.{length, take, get_or, set}
-use lib.Seq.{sets, length-sets, take-length}
-use Rattle.record.proofs.Gathered.{copy-turn}
+use mathlib.Core.Path.{◌≡◌}
+use Prim.Native.Nat.{◌-◌, ◌≤◌}
+use lib.ListN.{length, take}
+use lib.Seq.{sets}
 use Rattle.spelling.proofs.spell.put_bytes.Given as goal
 
 abbrev pub invariant-loop-c : goal.invariant-loop-c

@@ -1,8 +1,8 @@
-use mathlib.Core.Path.{◌≡◌, sym, ap, ◌∙◌}
-use Prim.Native.Nat.{ℕ, ◌+◌, ◌-◌, ◌≤◌}
+use mathlib.Core.Path.{sym, ap}
+use Prim.Native.Nat.{ℕ, ◌+◌, ◌-◌}
 use native.Mathlib.Omega.{arith}
 use Rattle.spelling.proofs.Widths.{length_digits}
-use Rattle.spelling.proofs.Putting.{Backwards, back-begin, back_more, back_end, back_long}
+use Rattle.spelling.proofs.Putting.{back-begin, back_more, back_end, back_long}
 use Rattle.spelling.proofs.spell.put_digits.Goals as goal
 
 pub loop-i-init : goal.loop-i-init

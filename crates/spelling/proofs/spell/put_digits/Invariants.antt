@@ -1,9 +1,6 @@
 -- `spelling::spell::put_digits`: the digits from the last on. Assumes nothing.
-use mathlib.Core.Path.{◌≡◌, sym, ap, ◌∙◌}
-use Prim.Native.Nat.{ℕ, ◌+◌, ◌-◌, ◌≤◌}
-use native.Mathlib.Omega.{arith}
-use Rattle.spelling.proofs.Widths.{length_digits}
-use Rattle.spelling.proofs.Putting.{Backwards, back-begin, back_more, back_end, back_long}
+use Prim.Native.Nat.{◌-◌}
+use Rattle.spelling.proofs.Putting.{Backwards}
 use Rattle.spelling.proofs.spell.put_digits.Given as goal
 
 abbrev pub invariant-loop-i : goal.invariant-loop-i

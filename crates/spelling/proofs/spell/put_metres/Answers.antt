@@ -8,7 +8,6 @@ use mir.Facts.{to_z-of_z}
 use Rattle.spelling.specs.Spelling.{sign_of, spell_of}
 use Rattle.spelling.specs.inner.Put.{Put}
 use Rattle.spelling.proofs.Putting.{put-long, sign-told, metres-put, metres-long}
-use borrow.Author.Rules.{rules}
 use Rattle.spelling.proofs.spell.put_metres.Lts as lts
 use Rattle.spelling.proofs.spell.put_metres.Reads as reads
 use Rattle.spelling.proofs.spell.put_metres.Tie as tie

@@ -1,8 +1,6 @@
 -- `spelling::spell::put_number`: as many digits as it has. Assumes nothing.
-use mathlib.Core.Path.{◌≡◌, ◌∙◌}
 use native.Mathlib.Omega.{arith}
 use Rattle.spelling.proofs.Putting.{put_as, spell-is, spell-long}
-use borrow.Author.Rules.{rules}
 use Rattle.spelling.proofs.spell.put_number.Goals as goal
 
 pub put_digits-requires : goal.put_digits-requires

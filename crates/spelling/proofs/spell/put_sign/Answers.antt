@@ -1,5 +1,5 @@
 -- `spelling::spell::put_sign`: a minus where the number is below 0. Assumes nothing.
-use mathlib.Core.Path.{◌≡◌, ap, ◌∙◌}
+use mathlib.Core.Path.{◌≡◌, ap}
 use mathlib.Core.Bool.{false}
 use native.Mathlib.Omega.{arith}
 use lib.IntN.{pos}
@@ -7,7 +7,6 @@ use lib.ListN.{length}
 use lib.Signed.{le_z}
 use mir.Facts.{to_z-of_z}
 use Rattle.spelling.proofs.Putting.{put-none, put_as, sign-none, sign-minus}
-use borrow.Author.Rules.{rules}
 use Rattle.spelling.proofs.spell.put_sign.Lts as lts
 use Rattle.spelling.proofs.spell.put_sign.Reads as reads
 use Rattle.spelling.proofs.spell.put_sign.Tie as tie

@@ -1,5 +1,5 @@
 -- `spelling::spell::put_whole`: the sign, then the magnitude. Assumes nothing.
-use mathlib.Core.Path.{◌≡◌, ap, ◌∙◌}
+use mathlib.Core.Path.{ap, ◌∙◌}
 use Prim.Native.Nat.{ℕ}
 use native.Mathlib.Omega.{arith}
 use lib.IntN.{ℤ, nat_abs}
@@ -7,7 +7,6 @@ use lib.ListN.{length}
 use mir.Facts.{to_z-of_z}
 use Rattle.spelling.specs.Spelling.{sign_of, spell_of}
 use Rattle.spelling.proofs.Putting.{put-long, sign-told, whole-put, whole_long}
-use borrow.Author.Rules.{rules}
 use Rattle.spelling.proofs.spell.put_whole.Goals as goal
 
 pub put_sign-p-requires : goal.put_sign-p-requires

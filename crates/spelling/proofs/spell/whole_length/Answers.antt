@@ -1,12 +1,11 @@
 -- `spelling::spell::whole_length`: the sign and the digits. Assumes nothing.
-use mathlib.Core.Path.{◌≡◌, ap, ◌∙◌}
+use mathlib.Core.Path.{ap, ◌∙◌}
 use native.Mathlib.Omega.{arith}
 use lib.IntN.{ℤ, nat_abs}
 use lib.ListN.{length}
 use mir.Facts.{to_z-of_z}
 use Rattle.spelling.specs.Spelling.{sign_of, width}
 use Rattle.spelling.proofs.Putting.{whole_long, spell-long, width-most, sign-most}
-use borrow.Author.Rules.{rules}
 use Rattle.spelling.proofs.spell.whole_length.Goals as goal
 
 pub overflow_add-result : goal.overflow_add-result

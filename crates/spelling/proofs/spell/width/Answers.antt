@@ -1,7 +1,5 @@
-use mathlib.Core.Path.{◌≡◌}
-use Prim.Native.Nat.{◌≤◌, ◌<◌}
 use native.Mathlib.Omega.{arith}
-use Rattle.spelling.proofs.Putting.{Narrow, narrow-begin, narrow-room, narrow-more, narrow-end}
+use Rattle.spelling.proofs.Putting.{narrow-begin, narrow-room, narrow-more, narrow-end}
 use Rattle.spelling.proofs.spell.width.Goals as goal
 
 pub loop-m-init : goal.loop-m-init

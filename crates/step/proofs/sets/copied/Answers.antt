@@ -1,5 +1,4 @@
 -- `step::sets::copied`: five copies make the second set the first. Assumes nothing.
-use borrow.Author.Rules.{rules}
 use Rattle.step.proofs.sets.copied.Lts as lts
 use Rattle.step.proofs.sets.copied.Reads as reads
 use Rattle.step.proofs.sets.copied.Tie as tie

@@ -1,5 +1,4 @@
 -- `step::stepping::advanced`: a step onto a set whose flags are all 1, of which nothing is known. Assumes nothing.
-use borrow.Author.Rules.{rules}
 use mathlib.Core.Path.{◌∙◌}
 use Rattle.step.proofs.Finishes.{soiled}
 use Rattle.step.proofs.stepping.advanced.Lts as lts

@@ -1,5 +1,4 @@
 -- `step::stepping::resumed`: the next state, or after a refusal the copy. Assumes nothing.
-use borrow.Author.Rules.{rules}
 use mathlib.Core.Path.{◌∙◌}
 use Rattle.step.proofs.Finishes.{refused-advanced, done-advanced}
 use Rattle.step.proofs.stepping.resumed.Lts as lts

@@ -1,5 +1,4 @@
 -- `step::stepping::tried`: pass 0, pass 1, and the rest where pass 1 went through. Assumes nothing.
-use borrow.Author.Rules.{rules}
 use mathlib.Core.Path.{refl, ap, ◌∙◌}
 use lib.ListN.{length}
 use Rattle.whole.specs.laws.Tab.{length-tab}

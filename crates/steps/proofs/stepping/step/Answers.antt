@@ -1,5 +1,5 @@
 -- `steps::stepping::step`: the outcome's definition, whatever is lent. Assumes nothing.
-use borrow.Author.Rules.{rules, sfits_of}
+use borrow.Author.Rules.{sfits_of}
 use mathlib.Core.Path.{◌≡◌, refl, sym, ◌∙◌, subst}
 use Prim.Native.Nat.{ℕ}
 use mir.Syntax.{w64}

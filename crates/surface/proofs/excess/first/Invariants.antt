@@ -1,18 +1,9 @@
 -- `surface::excess::first`: no direction passed has positive weight, and the one found has. Assumes nothing.
-use mathlib.Core.Path.{◌≡◌, sym}
+use mathlib.Core.Path.{◌≡◌}
 use mathlib.Core.Bool.{false}
 use Prim.Native.Nat.{ℕ, ◌-◌, ◌<◌, ◌≤◌}
-use native.Mathlib.Omega.{arith}
-use borrow.Author.Rules.{rules}
-use borrow.Author.Count.{below_more}
-use lib.IntN.{pos}
-use mir.Syntax.{w64}
-use mir.Facts.{sfits_lit}
-use Rattle.whole.specs.laws.Order.{lt_z-true, lt_z-false}
-use Rattle.whole.specs.laws.Tests.{lt_test}
 use Rattle.lattice.specs.Cell.{is_positive}
 use Rattle.lattice.specs.inner.Held.{parts_of}
-use Rattle.surface.proofs.Weights.{is-positive-yes, is-positive-no, lowest-is, lowest-none}
 use Rattle.surface.proofs.excess.first.Given as goal
 
 abbrev pub invariant-loop-i : goal.invariant-loop-i

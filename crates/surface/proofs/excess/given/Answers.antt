@@ -12,7 +12,6 @@ use Rattle.lattice.specs.Cell.{cut_share, remainder, lowest_dir, share}
 use Rattle.lattice.specs.inner.Held.{parts_of}
 use Rattle.lattice.proofs.Reading.{reading, inside}
 use Rattle.surface.proofs.Weights.{total-in}
-use borrow.Author.Rules.{rules}
 use Rattle.surface.proofs.excess.given.Lts as lts
 use Rattle.surface.proofs.excess.given.Reads as reads
 use Rattle.surface.proofs.excess.given.Tie as tie

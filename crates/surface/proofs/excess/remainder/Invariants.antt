@@ -1,22 +1,12 @@
 -- `surface::excess::remainder`: what the eighteen cut shares leave of the excess. Assumes nothing.
-use mathlib.Core.Path.{◌≡◌, sym, ◌∙◌, ap, ap₂}
-use mathlib.Core.List.{List, [], ◌∷◌}
+use mathlib.Core.Path.{◌≡◌}
+use mathlib.Core.List.{List}
 use Prim.Native.Nat.{ℕ, ◌+◌, ◌-◌, ◌*◌, ◌<◌, ◌≤◌}
-use native.Mathlib.Omega.{arith}
-use borrow.Author.Rules.{rules}
-use lib.IntN.{ℤ, nat_abs, ◌+ℤ◌, ◌-ℤ◌, ◌*ℤ◌, +ℤ_idr}
+use lib.IntN.{ℤ, nat_abs, ◌-ℤ◌, ◌*ℤ◌}
 use lib.Signed.{quot_z}
-use mir.Syntax.{w64}
-use mir.Val.{to_z, of_z}
-use mir.Facts.{to_z-of_z}
-use Rattle.whole.specs.Fold.{sum, dirs}
-use Rattle.whole.specs.laws.Bounds.{abs-sub}
-use Rattle.whole.specs.laws.Ring.{ring-by, quotes}
-use Rattle.whole.specs.laws.Machine.{known, within_by, does-fit, reads_as}
-use Rattle.lattice.specs.Cell.{remainder, cut_share}
+use Rattle.whole.specs.Fold.{sum}
 use Rattle.lattice.specs.inner.Held.{parts_of}
-use Rattle.lattice.proofs.Pairs.{off_rest, off-one, off_next, off-dirs}
-use Rattle.lattice.proofs.Reading.{reading}
+use Rattle.lattice.proofs.Pairs.{off_rest}
 use Rattle.surface.proofs.excess.remainder.Given as goal
 
 -- the cut share of direction j, as the code works it out

@@ -1,18 +1,10 @@
 -- `surface::excess::total` is the sum over the eighteen directions. Assumes nothing.
-use mathlib.Core.Path.{◌≡◌, sym, ◌∙◌, ap}
-use Prim.Native.Nat.{ℕ, ◌-◌, ◌*◌, ◌<◌, ◌≤◌}
-use native.Mathlib.Omega.{arith}
-use borrow.Author.Rules.{rules}
-use lib.ListN.{get_or}
-use lib.IntN.{ℤ, pos, nat_abs, ◌+ℤ◌}
-use mir.Syntax.{w64}
-use mir.Val.{to_z, of_z}
+use mathlib.Core.Path.{◌≡◌}
+use Prim.Native.Nat.{◌-◌, ◌*◌, ◌<◌, ◌≤◌}
+use lib.IntN.{nat_abs}
 use Rattle.whole.specs.Fold.{sum}
-use Rattle.whole.specs.laws.Bounds.{abs-add}
-use Rattle.whole.specs.laws.Machine.{known, does-fit, reads_as}
 use Rattle.lattice.specs.inner.Held.{parts_of}
-use Rattle.lattice.proofs.Pairs.{off_rest, off-one, off_next, off-dirs}
-use Rattle.lattice.proofs.Reading.{reading}
+use Rattle.lattice.proofs.Pairs.{off_rest}
 use Rattle.surface.proofs.excess.total.Given as goal
 
 abbrev pub invariant-loop-i : goal.invariant-loop-i

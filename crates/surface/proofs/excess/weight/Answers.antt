@@ -8,7 +8,6 @@ use Rattle.whole.specs.laws.Machine.{machine, same, reads_as}
 use Rattle.whole.specs.laws.Tests.{lt_test}
 use Rattle.lattice.proofs.Reading.{whole32}
 use Rattle.surface.proofs.Weights.{positive-yes, positive-no}
-use borrow.Author.Rules.{rules}
 use Rattle.surface.proofs.excess.weight.Goals as goal
 
 pub returns-then-d-gt0 : goal.returns-then-d-gt0

@@ -1,5 +1,4 @@
 -- `surface::stream::gas_pair`: every product fits for a tame flow, and the density's square is not 0. Assumes nothing.
-use borrow.Author.Rules.{rules}
 use mathlib.Core.Path.{sym, ◌∙◌, ap}
 use Prim.Native.Nat.{◌<◌, ◌≤◌}
 use native.Mathlib.Nat.{mul-le-mul}

@@ -1,8 +1,6 @@
-use borrow.Author.Rules.{rules}
 use mathlib.Core.Path.{subst}
 use Prim.Native.Nat.{ℕ, ◌-◌, ◌≤◌, ◌<◌}
 use native.Mathlib.Omega.{arith}
-use lib.ListN.{length}
 use Rattle.index.specs.Index.{words_of}
 use Rattle.index.proofs.Questions.{Going, begin, seen_none, seen-found, going_on}
 use Rattle.sweep.proofs.asking.seek.Lts as lts

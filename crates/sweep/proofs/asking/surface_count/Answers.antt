@@ -5,7 +5,6 @@ use mathlib.Core.Bool.{true}
 use native.Mathlib.Omega.{arith}
 use Rattle.grid.specs.Grid.{sides_good}
 use Rattle.index.proofs.Answers.{asked, count-sides, count-length, count-told}
-use borrow.Author.Rules.{rules}
 use Rattle.grid.proofs.Inside.{few as few-cells}
 use Rattle.sweep.proofs.asking.surface_count.Lts as lts
 use Rattle.sweep.proofs.asking.surface_count.Reads as reads

@@ -6,7 +6,6 @@ use native.Mathlib.Omega.{arith}
 use lib.Arith.{lt_of_le-ne}
 use Rattle.grid.specs.Grid.{sides_good}
 use Rattle.index.proofs.Answers.{asked, next-sides, next-length, next-outside, next-end, next-found, next-none}
-use borrow.Author.Rules.{rules}
 use Rattle.grid.proofs.Inside.{few as few-cells}
 use Rattle.sweep.proofs.asking.surface_next.Lts as lts
 use Rattle.sweep.proofs.asking.surface_next.Reads as reads

@@ -1,5 +1,4 @@
 -- `tally::asking::entered`: tests 1, 2, 4, 5 and 6 in the outcome's order. Assumes nothing.
-use borrow.Author.Rules.{rules}
 use borrow.Author.Tests.{not-true, not-false}
 use mathlib.Core.Path.{◌≡◌, sym, ◌∙◌}
 use mathlib.Core.Bool.{true}

@@ -1,5 +1,4 @@
 -- `tally::asking::pools`: the outcome's definition, whatever is lent. Assumes nothing.
-use borrow.Author.Rules.{rules}
 use mathlib.Core.Path.{◌≡◌, sym, ◌∙◌}
 use Rattle.grid.specs.declared.Answer.TheVariants.{Done}
 use Rattle.grid.specs.State.{Lent, lent}

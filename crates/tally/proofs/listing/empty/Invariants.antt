@@ -1,11 +1,6 @@
 -- `tally::listing::empty`: the entries below k hold 0. Assumes nothing.
-use borrow.Author.Rules.{rules}
-use mathlib.Core.Path.{◌≡◌, subst}
-use Prim.Native.Nat.{ℕ, ◌-◌, ◌≤◌, ◌<◌}
-use native.Mathlib.Omega.{arith}
-use lib.ListN.{length}
+use Prim.Native.Nat.{◌-◌, ◌≤◌}
 use Rattle.pools.specs.inner.Listing.{Emptied}
-use Rattle.pools.proofs.Listings.{emptied-none, emptied-more}
 use Rattle.tally.proofs.listing.empty.Given as goal
 
 abbrev pub invariant-loop-k : goal.invariant-loop-k

@@ -1,5 +1,4 @@
 -- `tunnel::answers::depth_value`: in each case but the last the literal 0.0. Assumes nothing.
-use borrow.Author.Rules.{rules}
 use lib.Ieee.{of_bits}
 use Rattle.tunnel.proofs.answers.depth_value.Goals as goal
 

@@ -1,5 +1,4 @@
 -- `tunnel::cell::accepted`: the coordinates of a cell below N are below 128, so their centres are exact. Assumes nothing.
-use borrow.Author.Rules.{rules}
 use native.Mathlib.Omega.{arith}
 use Rattle.grid.proofs.GoodSides.{good-sides}
 use Rattle.tunnel.proofs.Cells.{Coordinates, coordinates}

@@ -1,5 +1,4 @@
 -- `tunnel::cell::cell_point`: each return is the definition with the tests that led there. Assumes nothing.
-use borrow.Author.Rules.{rules}
 use borrow.Author.Tests.{not-true, not-false, eq-eqb, ne_eqb, lt-ltb, le-ltb, le-leb, lt-leb}
 use mathlib.Core.Path.{◌≡◌, sym, ◌∙◌, subst}
 use mathlib.Core.Bool.{true}
@@ -59,7 +58,7 @@ returns-then-m-gt65536 c =
     simp (good d.before.before.before, whole d.before, lt-ltb _ _ (inside d), lt-leb _ _ c.if-m-gt65536.true) c.refusal-then-m-gt65536.ensures
 
 pub accepted-requires : goal.accepted-requires
-accepted-requires c =  record { s_value = good c.before.before.before.before.before.before; c_bound = inside c.before.before.before; m_bound = c.if-m-gt65536.false }
+accepted-requires c = record { s_value = good c.before.before.before.before.before.before; c_bound = inside c.before.before.before; m_bound = c.if-m-gt65536.false }
 
 pub returns : goal.returns
 unfolding point_of

@@ -1,6 +1,5 @@
 -- `tunnel::cell::number`: the number of a cell inside good sides fits, as does all that leads to it. Assumes nothing.
 use native.Mathlib.Omega.{arith}
-use borrow.Author.Rules.{rules}
 use Rattle.tunnel.proofs.Cells.{small}
 use Rattle.tunnel.proofs.cell.number.Goals as goal
 

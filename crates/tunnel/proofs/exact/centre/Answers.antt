@@ -1,5 +1,4 @@
 -- `tunnel::exact::centre` is exact: 2x + 1 is below 2^24, and 2 is a power of two. Assumes nothing.
-use borrow.Author.Rules.{rules}
 use lib.Dec.{le→leb}
 use lib.Ieee.{of_bits, in_float}
 use native.Mathlib.Omega.{arith}

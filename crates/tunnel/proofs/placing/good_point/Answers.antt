@@ -1,5 +1,4 @@
 -- `tunnel::placing::good_point`: each coordinate by itself. Assumes nothing.
-use borrow.Author.Rules.{rules}
 use mir.Syntax.{w64}
 use mir.ValLaws.{to_z-of_z}
 use Rattle.tunnel.specs.Place.{point_good}

@@ -1,5 +1,4 @@
 -- `tunnel::placing::place`: each return is the definition with the tests that led there. Assumes nothing.
-use borrow.Author.Rules.{rules}
 use borrow.Author.Tests.{not-true, not-false}
 use mathlib.Core.Path.{◌≡◌, sym, ◌∙◌}
 use mathlib.Core.Bool.{true}
@@ -64,7 +63,7 @@ returns-then-not-good_point-2 c =
 pub found-requires : goal.found-requires
 found-requires c =
     let d = c.before.before in
-    let s = d.before.before.before.before.before.before in 
+    let s = d.before.before.before.before.before.before in
     record { s_value = sides d.before.before.before.before; edge_value = rw (to_z-of_z w64 s.args.edge s.ranges.edge) (edge d.before.before); origin_value = origin d; point_value = point c }
 
 pub returns : goal.returns

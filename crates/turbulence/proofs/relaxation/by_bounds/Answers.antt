@@ -6,7 +6,6 @@ use native.Mathlib.Nat.{mul-le-mul}
 use native.Mathlib.Omega.{arith}
 use Rattle.turbulence.specs.Turbulence.{under, divisor, nearest}
 use Rattle.turbulence.proofs.Own.{nearest-under, own-free, second-fit, decided}
-use borrow.Author.Rules.{rules}
 use Rattle.turbulence.proofs.relaxation.by_bounds.Goals as goal
 
 -- p is held only where it would be 0, which is what 0 says here

@@ -1,5 +1,4 @@
 -- `turbulence::relaxation::by_roots`: by the definition; p is held only where it would be 0. Assumes nothing.
-use borrow.Author.Rules.{rules}
 use mathlib.Core.Path.{◌≡◌, sym, ◌∙◌, ap}
 use Prim.Native.Nat.{◌<◌, ◌≤◌}
 use native.Mathlib.Omega.{arith}

@@ -2,7 +2,6 @@
 use mathlib.Core.Path.{refl}
 use native.Mathlib.Omega.{arith}
 use Rattle.turbulence.specs.Turbulence.{divisor}
-use borrow.Author.Rules.{rules}
 use Rattle.turbulence.proofs.relaxation.divisor.Goals as goal
 
 pub returns : goal.returns

@@ -1,7 +1,5 @@
-use Prim.Native.Nat.{◌+◌, ◌*◌, ◌/◌, ◌≤◌}
 use native.Mathlib.Nat.{div-add-mod}
 use native.Mathlib.Omega.{arith}
-use Rattle.turbulence.specs.inner.Post.{Keeps}
 use Rattle.turbulence.proofs.Own.{own-keeps}
 use Rattle.turbulence.proofs.relaxation.kept.Goals as goal
 

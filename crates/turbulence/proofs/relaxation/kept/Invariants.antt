@@ -1,9 +1,6 @@
 -- `turbulence::relaxation::kept`: no tension keeps p, and a digit is added only where p is still kept. Assumes nothing.
-use Prim.Native.Nat.{◌+◌, ◌*◌, ◌/◌, ◌≤◌}
-use native.Mathlib.Nat.{div-add-mod}
-use native.Mathlib.Omega.{arith}
+use Prim.Native.Nat.{◌+◌, ◌*◌, ◌≤◌}
 use Rattle.turbulence.specs.inner.Post.{Keeps}
-use Rattle.turbulence.proofs.Own.{own-keeps}
 use Rattle.turbulence.proofs.relaxation.kept.Given as goal
 
 abbrev pub invariant-loop-d : goal.invariant-loop-d

@@ -3,7 +3,6 @@ use mathlib.Core.Path.{refl}
 use native.Mathlib.Omega.{arith}
 use Rattle.turbulence.specs.Turbulence.{nearest}
 use Rattle.turbulence.proofs.Own.{nearest-under}
-use borrow.Author.Rules.{rules}
 use Rattle.turbulence.proofs.relaxation.nearest.Goals as goal
 
 pub returns : goal.returns

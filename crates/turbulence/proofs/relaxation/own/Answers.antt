@@ -1,5 +1,4 @@
 -- `turbulence::relaxation::own`: no tension keeps p, and of the two ways to p the second decides what the first does not. Assumes nothing.
-use borrow.Author.Rules.{rules}
 use mathlib.Core.Path.{◌≡◌, sym, ◌∙◌, ap}
 use mathlib.Core.Logic.{◌⊎◌, inl, inr}
 use Prim.Native.Nat.{ℕ}

@@ -1,5 +1,4 @@
 -- `turbulence::relaxation::own_from`: what a tension that keeps p is not below, keeps p. Assumes nothing.
-use borrow.Author.Rules.{rules}
 use mathlib.Core.Path.{sym}
 use Rattle.turbulence.proofs.Laws.{keeps-under}
 use Rattle.turbulence.proofs.relaxation.own_from.Goals as goal

@@ -1,5 +1,4 @@
 -- `turbulence::relaxation::own_relaxation`: by the definition, pair by pair. Assumes nothing.
-use borrow.Author.Rules.{rules}
 use mathlib.Core.Path.{◌≡◌, sym, ◌∙◌, ap, ap₂, subst}
 use mathlib.Core.Bool.{true}
 use Prim.Native.Nat.{◌≤◌}

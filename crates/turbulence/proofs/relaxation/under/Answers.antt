@@ -5,7 +5,6 @@ use native.Mathlib.Nat.{mul-le-mul, mul-le-mul_left}
 use native.Mathlib.Omega.{arith}
 use Rattle.turbulence.specs.Turbulence.{under}
 use Rattle.turbulence.proofs.Own.{under-most, under_some}
-use borrow.Author.Rules.{rules}
 use Rattle.turbulence.proofs.relaxation.under.Goals as goal
 
 pub overflow_mul-result : goal.overflow_mul-result

@@ -2,7 +2,6 @@
 use native.Mathlib.Nat.{div-le_self}
 use native.Mathlib.Omega.{arith}
 use Rattle.turbulence.proofs.Roots.{step-above}
-use borrow.Author.Rules.{rules}
 use Rattle.turbulence.proofs.root.above.Goals as goal
 
 pub overflow_add-r : goal.overflow_add-r

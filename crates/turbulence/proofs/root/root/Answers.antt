@@ -1,5 +1,4 @@
-use borrow.Author.Rules.{rules}
-use Prim.Native.Nat.{ℕ, zero, suc, ◌+◌, ◌*◌, ◌≤◌, ◌<◌}
+use Prim.Native.Nat.{ℕ, zero, suc, ◌*◌, ◌<◌}
 use native.Mathlib.Nat.{div-le_self, mul-le-mul}
 use native.Mathlib.Omega.{arith}
 use Rattle.turbulence.proofs.Roots.{root_by, step-above, step_less}

@@ -1,9 +1,5 @@
 -- `turbulence::root::root`: the number is never below the root, and where its square is not above n it is the root. Assumes nothing.
-use borrow.Author.Rules.{rules}
-use Prim.Native.Nat.{ℕ, zero, suc, ◌+◌, ◌*◌, ◌≤◌, ◌<◌}
-use native.Mathlib.Nat.{div-le_self, mul-le-mul}
-use native.Mathlib.Omega.{arith}
-use Rattle.turbulence.proofs.Roots.{root_by, step-above, step_less}
+use Prim.Native.Nat.{◌+◌, ◌*◌, ◌≤◌, ◌<◌}
 use Rattle.turbulence.proofs.root.root.Given as goal
 
 abbrev pub invariant-loop-r : goal.invariant-loop-r

@@ -3,7 +3,6 @@ use Prim.Native.Nat.{ℕ, zero, suc, ◌+◌, ◌^◌, ◌≤◌, ◌<◌}
 use mathlib.Core.Path.{◌≡◌}
 use native.Mathlib.Omega.{arith}
 use lib.Count.{count_leading_zeros, leading_length}
-use borrow.Author.Rules.{rules}
 use Rattle.turbulence.proofs.root.start.Goals as goal
 
 zeros-most : (n : ℕ) → 0 < n → n < 2 ^ 64 → count_leading_zeros 64 n ≤ 63

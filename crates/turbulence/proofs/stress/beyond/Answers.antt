@@ -1,5 +1,4 @@
 -- `turbulence::stress::beyond`: nine pairs, each by two calls. Assumes nothing.
-use borrow.Author.Rules.{rules}
 use mathlib.Core.Path.{◌≡◌, ◌∙◌}
 use lib.Dec.{lit<}
 use lib.IntN.{ℤ, ◌+ℤ◌, ◌-ℤ◌}

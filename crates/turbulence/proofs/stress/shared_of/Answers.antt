@@ -1,5 +1,4 @@
 -- `turbulence::stress::shared_of`: a flow that passes stage 3's test is tame, so every product fits and 6ρ is not 0. Assumes nothing.
-use borrow.Author.Rules.{rules}
 use mathlib.Core.Path.{◌≡◌, ap}
 use Prim.Native.Nat.{ℕ, ◌*◌, ◌<◌, ◌≤◌}
 use native.Mathlib.Omega.{arith}

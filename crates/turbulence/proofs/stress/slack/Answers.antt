@@ -3,7 +3,6 @@ use Prim.Native.Nat.{◌+◌, ◌*◌}
 use native.Mathlib.Omega.{arith}
 use Rattle.whole.specs.laws.Machine.{does-fit, reads_as, within_by}
 use Rattle.lattice.proofs.Reading.{reading}
-use borrow.Author.Rules.{rules}
 use Rattle.turbulence.proofs.stress.slack.Goals as goal
 
 pub overflow_add-result-3 : goal.overflow_add-result-3

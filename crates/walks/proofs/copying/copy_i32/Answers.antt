@@ -3,9 +3,9 @@ use Prim.Native.Nat.{◌-◌, ◌<◌}
 use native.Mathlib.Omega.{arith}
 use lib.ListN.{length, get_or, length-set}
 use Rattle.whole.specs.laws.Tab.{upto_zero, upto-more}
-use Rattle.grid.proofs.Copies.{Copied, copied}
+use Rattle.grid.proofs.Copies.{copied}
 use lib.IntN.{pos}
-use borrow.Author.Rules.{sfits_of, rules}
+use borrow.Author.Rules.{sfits_of}
 use mir.Syntax.{w32}
 use mir.Facts.{to_z-of_z}
 use Rattle.walks.proofs.copying.copy_i32.Goals as goal

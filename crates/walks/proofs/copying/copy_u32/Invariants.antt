@@ -1,11 +1,7 @@
 -- `walks::copying::copy_u32` makes dst the same as src: element by element. Assumes nothing.
-use borrow.Author.Rules.{rules}
-use mathlib.Core.Path.{refl}
-use Prim.Native.Nat.{◌-◌, ◌<◌}
-use native.Mathlib.Omega.{arith}
-use lib.ListN.{length, get_or, length-set}
-use Rattle.whole.specs.laws.Tab.{upto_zero, upto-more}
-use Rattle.grid.proofs.Copies.{Copied, copied}
+use Prim.Native.Nat.{◌-◌}
+use lib.ListN.{length}
+use Rattle.grid.proofs.Copies.{Copied}
 use Rattle.walks.proofs.copying.copy_u32.Given as goal
 
 abbrev pub invariant-loop-i : goal.invariant-loop-i

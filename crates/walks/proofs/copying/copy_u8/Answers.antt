@@ -1,10 +1,9 @@
-use borrow.Author.Rules.{rules}
 use mathlib.Core.Path.{refl}
 use Prim.Native.Nat.{◌-◌, ◌<◌}
 use native.Mathlib.Omega.{arith}
 use lib.ListN.{length, get_or, length-set}
 use Rattle.whole.specs.laws.Tab.{upto_zero, upto-more}
-use Rattle.grid.proofs.Copies.{Copied, copied}
+use Rattle.grid.proofs.Copies.{copied}
 use Rattle.walks.proofs.copying.copy_u8.Goals as goal
 
 pub loop-i-init : goal.loop-i-init

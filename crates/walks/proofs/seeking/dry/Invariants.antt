@@ -1,11 +1,8 @@
 -- `walks::seeking::dry`: the cells passed are dry in both sets, as far as it says so. Assumes nothing.
-use borrow.Author.Rules.{rules}
-use mathlib.Core.Path.{◌≡◌, ap, ap₂, ◌∙◌}
-use mathlib.Core.Bool.{Bool, ◌&&◌, not}
-use Prim.Native.Nat.{ℕ, ◌+◌, ◌-◌, ◌≤◌}
-use native.Mathlib.Omega.{arith}
+use mathlib.Core.Path.{◌≡◌}
+use mathlib.Core.Bool.{not}
+use Prim.Native.Nat.{◌+◌, ◌-◌, ◌≤◌}
 use Rattle.whole.specs.Fold.{all}
-use Rattle.whole.specs.laws.Search.{all_none, all_more}
 use Rattle.grid.specs.inner.Passes.{either_liquid}
 use Rattle.walks.proofs.seeking.dry.Given as goal
 

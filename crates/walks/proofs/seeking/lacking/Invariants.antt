@@ -1,13 +1,10 @@
 -- `walks::seeking::lacking`: the cells passed are of another kind, as far as it says so. Assumes nothing.
-use borrow.Author.Rules.{rules}
-use mathlib.Core.Path.{◌≡◌, ap, ◌∙◌}
-use mathlib.Core.Bool.{Bool, ◌&&◌, not}
-use Prim.Native.Nat.{ℕ, ◌+◌, ◌-◌, ◌≤◌}
-use native.Mathlib.Omega.{arith}
+use mathlib.Core.Path.{◌≡◌}
+use mathlib.Core.Bool.{not}
+use Prim.Native.Nat.{◌+◌, ◌-◌, ◌≤◌}
 use lib.Dec.{eqb}
 use lib.ListN.{get_or}
 use Rattle.whole.specs.Fold.{all}
-use Rattle.whole.specs.laws.Search.{all_none, all_more}
 use Rattle.walks.proofs.seeking.lacking.Given as goal
 
 abbrev pub invariant-loop-k : goal.invariant-loop-k

@@ -1,9 +1,7 @@
-use borrow.Author.Rules.{rules}
-use mathlib.Core.Path.{◌≡◌, ap, ◌∙◌}
-use Prim.Native.Nat.{ℕ, ◌+◌, ◌-◌, ◌≤◌}
+use mathlib.Core.Path.{ap, ◌∙◌}
+use Prim.Native.Nat.{ℕ, ◌-◌}
 use native.Mathlib.Omega.{arith}
-use lib.ListN.{length, get_or}
-use Rattle.grid.specs.inner.Passes.{Unmarked}
+use lib.ListN.{get_or}
 use Rattle.grid.proofs.Ranges.{past_more}
 use Rattle.walks.proofs.seeking.next_marked.Goals as goal
 

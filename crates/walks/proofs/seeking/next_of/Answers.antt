@@ -1,9 +1,7 @@
-use borrow.Author.Rules.{rules}
-use mathlib.Core.Path.{◌≡◌, ap, ◌∙◌}
-use Prim.Native.Nat.{ℕ, ◌+◌, ◌-◌, ◌≤◌, ◌<◌}
+use mathlib.Core.Path.{ap, ◌∙◌}
+use Prim.Native.Nat.{ℕ, ◌-◌}
 use native.Mathlib.Omega.{arith}
-use lib.ListN.{length, get_or}
-use Rattle.grid.specs.inner.Passes.{Lacking}
+use lib.ListN.{get_or}
 use Rattle.grid.proofs.Ranges.{past_more, past-on}
 use Rattle.walks.proofs.seeking.next_of.Lts as lts
 use Rattle.walks.proofs.seeking.next_of.Reads as reads

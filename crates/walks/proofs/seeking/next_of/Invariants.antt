@@ -1,11 +1,7 @@
 -- `walks::seeking::next_of`: no cell that was passed is of the kind. Assumes nothing.
-use borrow.Author.Rules.{rules}
-use mathlib.Core.Path.{◌≡◌, ap, ◌∙◌}
-use Prim.Native.Nat.{ℕ, ◌+◌, ◌-◌, ◌≤◌, ◌<◌}
-use native.Mathlib.Omega.{arith}
-use lib.ListN.{length, get_or}
+use Prim.Native.Nat.{◌-◌}
+use lib.ListN.{length}
 use Rattle.grid.specs.inner.Passes.{Lacking}
-use Rattle.grid.proofs.Ranges.{past_more, past-on}
 use Rattle.walks.proofs.seeking.next_of.Given as goal
 
 abbrev pub invariant-loop-c : goal.invariant-loop-c

@@ -1,9 +1,7 @@
-use borrow.Author.Rules.{rules}
 use mathlib.Core.Path.{ap, sym, ◌∙◌}
 use Prim.Native.Nat.{ℕ, ◌-◌}
 use native.Mathlib.Omega.{arith}
-use lib.ListN.{length}
-use Rattle.grid.specs.inner.Passes.{Dry, either_liquid}
+use Rattle.grid.specs.inner.Passes.{either_liquid}
 use Rattle.grid.proofs.Ranges.{past_more, past-on}
 use Rattle.walks.proofs.seeking.next_wet.Lts as lts
 use Rattle.walks.proofs.seeking.next_wet.Reads as reads

@@ -1,11 +1,9 @@
-use borrow.Author.Rules.{rules}
 use borrow.Author.Tests.{not-false, not-true}
 use mathlib.Core.Path.{sym, ◌∙◌}
 use mathlib.Core.Bool.{not}
 use Prim.Native.Nat.{◌-◌}
 use native.Mathlib.Omega.{arith}
-use lib.ListN.{length}
-use Rattle.grid.specs.inner.Passes.{Dry, either_liquid}
+use Rattle.grid.specs.inner.Passes.{either_liquid}
 use Rattle.grid.proofs.Ranges.{past_first, past-together}
 use Rattle.walks.proofs.seeking.past_dry.Lts as lts
 use Rattle.walks.proofs.seeking.past_dry.Reads as reads

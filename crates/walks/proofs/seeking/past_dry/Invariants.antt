@@ -1,13 +1,7 @@
 -- `walks::seeking::past_dry`: n cells more that are dry in both sets at each turn. Assumes nothing.
-use borrow.Author.Rules.{rules}
-use borrow.Author.Tests.{not-false, not-true}
-use mathlib.Core.Path.{sym, ◌∙◌}
-use mathlib.Core.Bool.{not}
 use Prim.Native.Nat.{◌-◌}
-use native.Mathlib.Omega.{arith}
 use lib.ListN.{length}
-use Rattle.grid.specs.inner.Passes.{Dry, either_liquid}
-use Rattle.grid.proofs.Ranges.{past_first, past-together}
+use Rattle.grid.specs.inner.Passes.{Dry}
 use Rattle.walks.proofs.seeking.past_dry.Given as goal
 
 abbrev pub invariant-loop-c : goal.invariant-loop-c

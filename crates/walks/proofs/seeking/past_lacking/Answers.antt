@@ -1,12 +1,10 @@
-use borrow.Author.Rules.{rules}
 use borrow.Author.Tests.{eq-eqb, not-false}
 use mathlib.Core.Path.{sym, ap, ◌∙◌}
 use mathlib.Core.Bool.{not, false≢true}
 use Prim.Native.Nat.{◌-◌}
 use native.Mathlib.Omega.{arith}
 use lib.Dec.{eqb}
-use lib.ListN.{length, get_or}
-use Rattle.grid.specs.inner.Passes.{Lacking}
+use lib.ListN.{get_or}
 use Rattle.grid.proofs.Ranges.{past_first, past-together}
 use Rattle.walks.proofs.seeking.past_lacking.Lts as lts
 use Rattle.walks.proofs.seeking.past_lacking.Reads as reads

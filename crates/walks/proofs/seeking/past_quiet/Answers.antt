@@ -1,11 +1,9 @@
-use borrow.Author.Rules.{rules}
 use borrow.Author.Tests.{eqb-true, not-false}
 use mathlib.Core.Path.{sym, ◌∙◌}
 use Prim.Native.Nat.{◌-◌}
 use native.Mathlib.Omega.{arith}
 use lib.Dec.{eqb}
-use lib.ListN.{length, get_or}
-use Rattle.grid.specs.inner.Passes.{Unmarked}
+use lib.ListN.{get_or}
 use Rattle.grid.proofs.Ranges.{past_first, past-together}
 use Rattle.walks.proofs.seeking.past_quiet.Goals as goal
 

@@ -1,5 +1,4 @@
 -- `walls::changes::answered`: the asker's tests, the other's, 13, 17 and 18 in the outcome's order. Assumes nothing.
-use borrow.Author.Rules.{rules}
 use mathlib.Core.Path.{◌≡◌, sym, ap₂, ◌∙◌}
 use mathlib.Core.Bool.{Bool, true, ◌||◌}
 use native.Mathlib.Omega.{arith}

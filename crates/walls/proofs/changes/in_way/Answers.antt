@@ -1,5 +1,4 @@
 -- `walls::changes::in_way`: the cell itself, or its neighbours by offsets. Assumes nothing.
-use borrow.Author.Rules.{rules}
 use mathlib.Core.Path.{sym, ◌∙◌}
 use mathlib.Core.Bool.{not}
 use native.Mathlib.Omega.{arith}

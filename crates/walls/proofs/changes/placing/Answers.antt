@@ -1,5 +1,4 @@
 -- `walls::changes::placing`: tests 13 and 17. Assumes nothing.
-use borrow.Author.Rules.{rules}
 use mathlib.Core.Path.{sym, ◌∙◌}
 use native.Mathlib.Omega.{arith}
 use Rattle.walls.proofs.Answers.{place-outside, place-outer, place-already, place-free}

@@ -1,5 +1,4 @@
 -- `walls::changes::wall_remove`: the outcome's definition, whatever is lent. Assumes nothing.
-use borrow.Author.Rules.{rules}
 use mathlib.Core.Path.{sym, ◌∙◌}
 use mathlib.Core.Bool.{true, false}
 use native.Mathlib.Omega.{arith}

@@ -1,5 +1,4 @@
 -- `writing::cells::put_cells` writes sections 5 to 7, one after the other. Assumes nothing.
-use borrow.Author.Rules.{rules}
 use mathlib.Core.Path.{refl}
 use Prim.Native.Nat.{◌+◌, ◌*◌}
 use native.Mathlib.Omega.{arith}

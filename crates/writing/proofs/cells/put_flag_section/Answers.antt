@@ -1,5 +1,4 @@
 -- `writing::cells::put_flag_section` writes section 5. Assumes nothing.
-use borrow.Author.Rules.{rules}
 use mathlib.Core.Path.{refl}
 use lib.ListN.{length}
 use Rattle.record.proofs.Gathered.{section-put}

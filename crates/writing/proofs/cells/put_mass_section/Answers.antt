@@ -1,6 +1,4 @@
 -- `writing::cells::put_mass_section` writes section 6. Assumes nothing.
-use borrow.Author.Rules.{rules}
-use Prim.Native.Nat.{◌+◌, ◌*◌}
 use native.Mathlib.Omega.{arith}
 use lib.IntN.{pos}
 use lib.ListN.{length, get_or}
@@ -12,7 +10,7 @@ use Rattle.writing.proofs.cells.put_mass_section.Goals as goal
 pub put_count-requires : goal.put_count-requires
 put_count-requires c =
     let d = c in
-    let s = d.args.flags.now in 
+    let s = d.args.flags.now in
     record { at_in_bounds = omega (arith, d.requires.flags_in_bounds); n_bound = omega (arith, d.requires.1, c.interface_cells.ensures, interfaces-most (length s) (flag_of s)) }
 
 pub returns : goal.returns

@@ -1,5 +1,4 @@
 -- `writing::cells::put_part_section` writes section 7. Assumes nothing.
-use borrow.Author.Rules.{rules}
 use mathlib.Core.Path.{ap}
 use Prim.Native.Nat.{ℕ, ◌+◌, ◌*◌, ◌≤◌}
 use native.Mathlib.Nat.{mul-le-mul}
@@ -29,7 +28,7 @@ overflow_mul-w c = record { fits = omega (arith, few c.before) }
 
 pub put_count-requires : goal.put_count-requires
 put_count-requires c =
-    let d = c in 
+    let d = c in
     record { at_in_bounds = omega (arith, d.requires.flags_in_bounds); n_bound = omega (arith, few c.before) }
 
 pub returns : goal.returns

@@ -1,5 +1,4 @@
 -- `writing::cells::record_length` adds up the sections; with N at most 262,144 the sum fits. Assumes nothing.
-use borrow.Author.Rules.{rules}
 use mathlib.Core.Path.{ap}
 use Prim.Native.Nat.{ℕ, ◌*◌, ◌≤◌}
 use native.Mathlib.Nat.{mul-le-mul}

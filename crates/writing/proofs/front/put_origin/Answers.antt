@@ -1,5 +1,4 @@
 -- `writing::front::put_origin` writes section 3, number after number. Assumes nothing.
-use borrow.Author.Rules.{rules}
 use mathlib.Core.Path.{refl}
 use mathlib.Core.List.{◌++◌}
 use mir.Syntax.{w64}

@@ -1,5 +1,4 @@
 -- `writing::front::put_setting` writes a number that fits. Assumes nothing.
-use borrow.Author.Rules.{rules}
 use mathlib.Core.Path.{ap, ◌∙◌}
 use lib.IntN.{ℤ}
 use lib.Seq.{sets}

@@ -1,5 +1,4 @@
 -- `writing::front::put_settings` writes section 2, number after number. Assumes nothing.
-use borrow.Author.Rules.{rules}
 use mathlib.Core.Path.{refl, sym, subst}
 use mathlib.Core.List.{◌++◌}
 use lib.IntN.{ℤ}
@@ -13,7 +12,8 @@ use Rattle.writing.proofs.front.put_settings.Goals as goal
 
 pub put_setting-requires-5 : goal.put_setting-requires-5
 put_setting-requires-5 c =
-    let d = c in  record { at_in_bounds = omega (
+    let d = c in record {
+      at_in_bounds = omega (
         arith,
         d.requires.in_bounds,
         c.put_setting-4.auto.0,
@@ -21,7 +21,9 @@ put_setting-requires-5 c =
         c.put_setting-2.auto.0,
         c.put_setting.auto.0,
         c.put_count.auto.0,
-      ); within = subst (λ (z : ℤ). Within z 2147483647) (sym (to_z-of_z w64 d.args.t.edge (record { sfits = c.struct_told-5-1.given.0.1 }))) d.requires.small.edge }
+      );
+      within = subst (λ (z : ℤ). Within z 2147483647) (sym (to_z-of_z w64 d.args.t.edge (record { sfits = c.struct_told-5-1.given.0.1 }))) d.requires.small.edge;
+    }
 
 pub returns : goal.returns
 unfolding bytes_of join

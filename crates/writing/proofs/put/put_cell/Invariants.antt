@@ -1,15 +1,10 @@
 -- `writing::put::put_cell` writes part after part, four bytes each. Assumes nothing.
-use mathlib.Core.Path.{◌≡◌, refl, ap, ◌∙◌}
-use Prim.Native.Nat.{ℕ, ◌+◌, ◌*◌, ◌-◌, ◌≤◌}
-use native.Mathlib.Omega.{arith}
-use lib.IntN.{ℤ, pos}
-use lib.ListN.{length, get_or}
-use lib.Seq.{sets, length-sets}
-use mir.ValLaws.{to_z-of_z}
-use mir.Syntax.{w32}
-use Rattle.record.proofs.Gathered.{cell-turn}
+use mathlib.Core.Path.{◌≡◌}
+use Prim.Native.Nat.{◌+◌, ◌-◌, ◌≤◌}
+use lib.IntN.{pos}
+use lib.ListN.{get_or}
+use lib.Seq.{sets}
 use Rattle.record.specs.Bytes.{gathered, i32_of}
-use Rattle.record.specs.Layout.{cell_numbers}
 use Rattle.writing.proofs.put.put_cell.Given as goal
 
 abbrev pub invariant-loop-k : goal.invariant-loop-k

@@ -1,8 +1,7 @@
 -- `writing::put::put_liquid` writes the parts of a liquid cell alone. Assumes nothing.
 use mathlib.Core.Path.{◌≡◌, refl, sym, ap, ◌∙◌, subst}
-use borrow.Author.Rules.{rules}
 use mathlib.Core.Bool.{cond}
-use mathlib.Core.List.{List, []}
+use mathlib.Core.List.{List}
 use Prim.Native.Nat.{ℕ, zero, suc, ◌+◌, ◌*◌, ◌≤◌}
 use native.Mathlib.Omega.{arith}
 use lib.IntN.{ℤ, pos}
@@ -44,7 +43,7 @@ put_cell-requires c =
     let d = c in
     let a = d.args in
     let is = one a.flag (λ e. c.if-one_liquid-eq0.false (c.one_liquid.ensures ∙ e)) in
-    let room : a.at + 4 * a.w * 1 ≤ length a.room.now = subst (λ (k : ℕ). a.at + 4 * a.w * k ≤ length a.room.now) is d.requires.flag_in_bounds in 
+    let room : a.at + 4 * a.w * 1 ≤ length a.room.now = subst (λ (k : ℕ). a.at + 4 * a.w * k ≤ length a.room.now) is d.requires.flag_in_bounds in
     record { w_in_bounds = omega (arith, room); w_in_bounds_2 = d.requires.w_in_bounds }
 
 pub returns : goal.returns

@@ -1,6 +1,5 @@
 -- `writing::put::put_mass` writes an interface mass alone. Assumes nothing.
 use mathlib.Core.Path.{◌≡◌, refl, sym, ap, ◌∙◌, subst}
-use borrow.Author.Rules.{rules}
 use mathlib.Core.Bool.{cond}
 use native.Mathlib.Omega.{arith}
 use lib.Dec.{eqb}
@@ -12,7 +11,7 @@ use Rattle.record.specs.Bytes.{i32_of}
 use Rattle.grid.specs.State.{by_flag}
 use lib.Seq.{sets}
 use Prim.Native.Nat.{ℕ, zero, suc, ◌+◌, ◌*◌, ◌≤◌}
-use mathlib.Core.List.{List, []}
+use mathlib.Core.List.{List}
 use Rattle.writing.proofs.put.put_mass.Lts as lts
 use Rattle.writing.proofs.put.put_mass.Reads as reads
 use Rattle.writing.proofs.put.put_mass.Tie as tie

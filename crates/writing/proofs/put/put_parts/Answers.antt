@@ -1,11 +1,8 @@
-use borrow.Author.Rules.{rules}
 use mathlib.Core.Path.{◌≡◌, refl, sym, ap, ap₂, ◌∙◌, subst}
 use mathlib.Core.Bool.{cond}
-use mathlib.Core.List.{List, []}
 use Prim.Native.Nat.{ℕ, ◌+◌, ◌*◌, ◌-◌, ◌≤◌}
 use native.Mathlib.Nat.{mul-le-mul}
 use native.Mathlib.Omega.{arith}
-use lib.IntN.{ℤ, pos}
 use lib.ListN.{length, get_or}
 use lib.Seq.{sets, length-sets}
 use Rattle.whole.specs.Fold.{count}
@@ -71,7 +68,7 @@ overflow_mul-w c =
     record { fits = omega (arith, among c.before.before.before, c.requires.parts_len, c.well_formed.1.1.1.0.1) }
 
 pub put_liquid-requires : goal.put_liquid-requires
-put_liquid-requires c =  record { flag_in_bounds = omega (arith, inside c.before.before.before, long c.before.before.before.before); w_in_bounds = omega (arith, among c.before.before.before, c.requires.parts_len) }
+put_liquid-requires c = record { flag_in_bounds = omega (arith, inside c.before.before.before, long c.before.before.before.before); w_in_bounds = omega (arith, among c.before.before.before, c.requires.parts_len) }
 
 pub overflow_mul-at : goal.overflow_mul-at
 overflow_mul-at c = record { fits = omega (arith, c.requires.w_bound) }

@@ -1,19 +1,12 @@
 -- `writing::put::put_parts`: the place advances as the count of liquid cells does. Assumes nothing.
-use borrow.Author.Rules.{rules}
-use mathlib.Core.Path.{◌≡◌, refl, sym, ap, ap₂, ◌∙◌, subst}
-use mathlib.Core.Bool.{cond}
-use mathlib.Core.List.{List, []}
+use mathlib.Core.Path.{◌≡◌}
+use mathlib.Core.List.{List}
 use Prim.Native.Nat.{ℕ, ◌+◌, ◌*◌, ◌-◌, ◌≤◌}
-use native.Mathlib.Nat.{mul-le-mul}
-use native.Mathlib.Omega.{arith}
 use lib.IntN.{ℤ, pos}
 use lib.ListN.{length, get_or}
-use lib.Seq.{sets, length-sets}
-use Rattle.whole.specs.Fold.{count}
-use Rattle.grid.specs.State.{liquid, flag_of}
-use Rattle.record.specs.Bytes.{gathered}
+use lib.Seq.{sets}
+use Rattle.grid.specs.State.{flag_of}
 use Rattle.record.specs.Layout.{liquids, part_numbers}
-use Rattle.record.proofs.Gathered.{liquids-more, liquids-le, part-turn}
 use Rattle.writing.proofs.put.put_parts.Given as goal
 
 abbrev pub part-at : ℕ → List ℤ → ℕ → ℕ → ℤ

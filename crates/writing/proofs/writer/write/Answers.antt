@@ -1,9 +1,8 @@
 -- `writing::writer::write`: tests, the room, and then the record from the front. Assumes nothing.
-use borrow.Author.Rules.{rules}
 use mathlib.Core.Path.{◌≡◌, sym, ap, ap₂, ◌∙◌}
 use mathlib.Core.Bool.{true}
 use mathlib.Core.List.{List, ◌++◌}
-use Prim.Native.Nat.{ℕ, ◌+◌, ◌*◌, ◌≤◌}
+use Prim.Native.Nat.{ℕ, ◌+◌, ◌*◌}
 use native.Mathlib.Omega.{arith}
 use lib.IntN.{ℤ, pos}
 use lib.ListN.{length, get_or}
@@ -63,7 +62,7 @@ returns-then-not-passed c =
 pub record_length-long-requires : goal.record_length-long-requires
 unfolding cells_of
 record_length-long-requires c =
-    let d = c in 
+    let d = c in
     record { flags_len_bound = omega (arith, (is-fit c.before).lengths.flags, (good-sides d.args.s (is-fit c.before).sides).all); from_bound = omega arith; w_bound = omega arith }
 
 pub returns-then-room-long : goal.returns-then-room-long
@@ -84,7 +83,7 @@ pub put_record-requires : goal.put_record-requires
 put_record-requires c =
     let else = c in
     let d = c in
-    let e = is-fit else.before.before.before.before.before.before.before in  record { s_value = e.sides; small = small d.args.g d.args.t e.site; flags_len = e.lengths.flags; parts_len = e.lengths.parts; masses_len = e.lengths.masses; flags_in_bounds = omega (arith, else.record_length-long.ensures, else.if-room-long.false) }
+    let e = is-fit else.before.before.before.before.before.before.before in record { s_value = e.sides; small = small d.args.g d.args.t e.site; flags_len = e.lengths.flags; parts_len = e.lengths.parts; masses_len = e.lengths.masses; flags_in_bounds = omega (arith, else.record_length-long.ensures, else.if-room-long.false) }
 
 pub returns : goal.returns
 unfolding record_of state_of
