@@ -1,7 +1,7 @@
 -- `calls::totals::put_totals`: three numbers, the last two another set's. Assumes nothing.
 use borrow.Author.Rules.{sfits_of}
 use mathlib.Core.Path.{◌≡◌, ◌∙◌}
-use mathlib.Core.List.{◌∷◌}
+use mathlib.Core.List.{[], ◌∷◌}
 use lib.IntN.{pos}
 use lib.ListN.{get_or}
 use mir.Syntax.{w64}

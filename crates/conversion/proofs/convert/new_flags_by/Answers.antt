@@ -47,9 +47,9 @@ filled-done b =
     let l : At-At-loop-c = search in let start : At-Start = search in
     let a = start.args in
     ⊎_elim
-    (λ w. inl (w.0.taken, underway-mark _ _ _ _ start.requires.0 start.requires.2 l.loop-c.c 1 0 (is-cell (search)) w.0.taken (inl (refl, refl)) l.loop-c.next _ l.loop-c.invariant (w.5 ∙ w.2.ensures)))
-    (λ w. inr (w.0.left, subst (λ (m : List ℕ). Underway a.flags.now a.marks.now a.off.now a.low m l.loop-c.c) (sym w.1) l.loop-c.invariant))
-    b.if-m-eq1.branch
+    (λ w. inl (w.if-m-eq1.true, underway-mark _ _ _ _ start.requires.0 start.requires.2 l.loop-c.c 1 0 (is-cell (search)) w.if-m-eq1.true (inl (refl, refl)) l.loop-c.next _ l.loop-c.invariant (w.next-is ∙ w.turn_around.ensures)))
+    (λ w. inr (w.if-m-eq1.false, subst (λ (m : List ℕ). Underway a.flags.now a.marks.now a.off.now a.low m l.loop-c.c) (sym w.next-is) l.loop-c.invariant))
+    b.if-m-eq1.branch-raw
 
 -- so is an emptied one, and one that does not turn
 done : (b : At-Joined-m-eq2)
@@ -61,12 +61,12 @@ done b =
     let a = start.args in
     ⊎_elim
     (λ w. ⊎_elim
-    (λ v. absurd (omega (arith, v.0, w.0.taken)))
-    (λ v. underway-mark _ _ _ _ start.requires.0 start.requires.2 l.loop-c.c 2 2 (is-cell (search)) w.0.taken (inr (refl, refl)) d.if-m-eq1.next _ v.1 (w.5 ∙ w.2.ensures))
+    (λ v. absurd (omega (arith, v.0, w.if-m-eq2.true)))
+    (λ v. underway-mark _ _ _ _ start.requires.0 start.requires.2 l.loop-c.c 2 2 (is-cell (search)) w.if-m-eq2.true (inr (refl, refl)) d.if-m-eq1.next _ v.1 (w.next-is ∙ w.turn_around-then-m-eq2.ensures))
     (filled-done d))
-    (λ w. subst (λ (m : List ℕ). Underway a.flags.now a.marks.now a.off.now a.low m (l.loop-c.c + 1)) (sym w.1)
-    (⊎_elim (λ v. v.1) (λ v. underway-skip _ _ _ _ d.if-m-eq1.next l.loop-c.c v.1 (is-cell (search)) v.0 w.0.left) (filled-done d)))
-    b.if-m-eq2.branch
+    (λ w. subst (λ (m : List ℕ). Underway a.flags.now a.marks.now a.off.now a.low m (l.loop-c.c + 1)) (sym w.next-is)
+    (⊎_elim (λ v. v.1) (λ v. underway-skip _ _ _ _ d.if-m-eq1.next l.loop-c.c v.1 (is-cell (search)) v.0 w.if-m-eq2.false) (filled-done d)))
+    b.if-m-eq2.branch-raw
 
 pub loop-c-init : goal.loop-c-init
 loop-c-init c = let start : At-Start = search in underway-first _ _ _ _ _ start.requires.1

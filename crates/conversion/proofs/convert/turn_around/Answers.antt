@@ -45,13 +45,13 @@ loop-i-preserved c =
     let a = start.args in (
       omega arith,
       omega (arith, in-loop.loop-i-test.true),
-      ⊎_elim (λ w. ap length w.1 ∙ simp length-set l.loop-i.invariant.2) (λ w. ap length w.1 ∙ l.loop-i.invariant.2) c.if-flags-b.branch,
+      ⊎_elim (λ w. ap length w.next-is ∙ simp length-set l.loop-i.invariant.2) (λ w. ap length w.next-is ∙ l.loop-i.invariant.2) c.if-flags-b.branch-raw,
       λ b. ⊎_elim
-          (λ w. ap (λ (m : List ℕ). get_or m b 0) w.1
-          ∙ partly-write a.flags.now a.off.now a.low a.c a.kind l.loop-i.i l.loop-i.invariant.0 l.loop-i.next _ b (omega (arith, l.loop-i.invariant.2, reached in-loop)) w.0.taken (l.loop-i.invariant.3 b))
-          (λ w. ap (λ (m : List ℕ). get_or m b 0) w.1 ∙ l.loop-i.invariant.3 b
-          ∙ partly-keep a.flags.now a.off.now a.low a.c a.kind l.loop-i.i l.loop-i.invariant.0 _ b w.0.left)
-          c.if-flags-b.branch,
+          (λ w. ap (λ (m : List ℕ). get_or m b 0) w.next-is
+          ∙ partly-write a.flags.now a.off.now a.low a.c a.kind l.loop-i.i l.loop-i.invariant.0 l.loop-i.next _ b (omega (arith, l.loop-i.invariant.2, reached in-loop)) w.if-flags-b.true (l.loop-i.invariant.3 b))
+          (λ w. ap (λ (m : List ℕ). get_or m b 0) w.next-is ∙ l.loop-i.invariant.3 b
+          ∙ partly-keep a.flags.now a.off.now a.low a.c a.kind l.loop-i.i l.loop-i.invariant.0 _ b w.if-flags-b.false)
+          c.if-flags-b.branch-raw,
     )
 
 pub shape_of-next : goal.shape_of-next

@@ -41,12 +41,12 @@ turned b =
     let low = start.args.low in
     let h : l.loop-c.c < length a = omega (arith, l.loop-c.invariant.size, in-loop.loop-c-test.true) in
     ⊎_elim
-    (λ w. subst (λ (m : List ℕ). Ranged 0 (kept_by a off low) a 0 (length a) m (l.loop-c.c + 1)) (sym w.4)
+    (λ w. subst (λ (m : List ℕ). Ranged 0 (kept_by a off low) a 0 (length a) m (l.loop-c.c + 1)) (sym w.marks-is)
     (ranged-more 0 (kept_by a off low) a 0 (length a) l.loop-c.marks l.loop-c.c _ l.loop-c.invariant h (omega arith)
-    (settled-turn a off low (length a) l.loop-c.invariant _ w.0.taken (w.3.ensures ∙ ap (λ (b : Bool). cond b 0 2) w.2.ensures))))
-    (λ w. subst (λ (m : List ℕ). Ranged 0 (kept_by a off low) a 0 (length a) m (l.loop-c.c + 1)) (sym w.1)
-    (ranged-keep 0 (kept_by a off low) a 0 (length a) l.loop-c.marks l.loop-c.c l.loop-c.invariant h (settled-skip a off low (length a) l.loop-c.invariant w.0.left)))
-    b.if-marks-c-eq2.branch
+    (settled-turn a off low (length a) l.loop-c.invariant _ w.if-marks-c-eq2.true (w.kept.ensures ∙ ap (λ (b : Bool). cond b 0 2) w.beside.ensures))))
+    (λ w. subst (λ (m : List ℕ). Ranged 0 (kept_by a off low) a 0 (length a) m (l.loop-c.c + 1)) (sym w.marks-is)
+    (ranged-keep 0 (kept_by a off low) a 0 (length a) l.loop-c.marks l.loop-c.c l.loop-c.invariant h (settled-skip a off low (length a) l.loop-c.invariant w.if-marks-c-eq2.false)))
+    b.if-marks-c-eq2.branch-raw
 
 pub loop-c-init : goal.loop-c-init
 loop-c-init c = ranged-first 0 _ _ 0 _ (omega arith)

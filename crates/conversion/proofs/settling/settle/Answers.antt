@@ -26,16 +26,16 @@ turned b =
     let h : l.loop-c.c < length s.args.marks.now = omega (arith, l.loop-c.invariant.1.marks-size, b.loop-c-test.true) in
     ⊎_elim
     (λ w. (
-      ap length w.6 ∙ settled-size l.loop-c.parts l.loop-c.c (room b) w.3.ensures ∙ l.loop-c.invariant.0,
-      upon-as part_of _ _ _ (l.loop-c.c + 1) w.6 w.7 w.8
-          (upon-settle _ _ _ (part_of l.loop-c.parts) l.loop-c.masses l.loop-c.marks l.loop-c.c l.loop-c.invariant.1 h w.0.taken
-          (omega (arith, l.loop-c.invariant.1.masses-size, s.requires.masses-there)) _ _ (settled-list l.loop-c.parts l.loop-c.c (room b) w.3.ensures)),
+      ap length w.parts-is ∙ settled-size l.loop-c.parts l.loop-c.c (room b) w.settle_cell.ensures ∙ l.loop-c.invariant.0,
+      upon-as part_of _ _ _ (l.loop-c.c + 1) w.parts-is w.masses-is w.marks-is
+          (upon-settle _ _ _ (part_of l.loop-c.parts) l.loop-c.masses l.loop-c.marks l.loop-c.c l.loop-c.invariant.1 h w.if-m-ne0.true
+          (omega (arith, l.loop-c.invariant.1.masses-size, s.requires.masses-there)) _ _ (settled-list l.loop-c.parts l.loop-c.c (room b) w.settle_cell.ensures)),
     ))
     (λ w. (
-      ap length w.1 ∙ l.loop-c.invariant.0,
-      upon-as part_of _ _ _ (l.loop-c.c + 1) w.1 w.2 w.3 (upon-keep _ _ _ (part_of l.loop-c.parts) l.loop-c.masses l.loop-c.marks l.loop-c.c l.loop-c.invariant.1 h w.0.left),
+      ap length w.parts-is ∙ l.loop-c.invariant.0,
+      upon-as part_of _ _ _ (l.loop-c.c + 1) w.parts-is w.masses-is w.marks-is (upon-keep _ _ _ (part_of l.loop-c.parts) l.loop-c.masses l.loop-c.marks l.loop-c.c l.loop-c.invariant.1 h w.if-m-ne0.false),
     ))
-    b.if-m-ne0.branch
+    b.if-m-ne0.branch-raw
 
 pub loop-c-init : goal.loop-c-init
 loop-c-init c = (refl, upon-first _ _ _)

@@ -1,5 +1,5 @@
 -- `depths::put::put_cells`: the keyword with its space, the number, LF. Assumes nothing.
-use mathlib.Core.List.{◌∷◌, ◌++◌}
+use mathlib.Core.List.{[], ◌∷◌, ◌++◌}
 use native.Mathlib.Omega.{arith}
 use lib.ListN.{length-append}
 use Rattle.spelling.specs.Spelling.{spell_of}

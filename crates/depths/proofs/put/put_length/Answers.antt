@@ -1,6 +1,6 @@
 -- `depths::put::put_length`: the keyword with its space, the metres, LF. Assumes nothing.
 use mathlib.Core.Path.{ap}
-use mathlib.Core.List.{◌∷◌, ◌++◌}
+use mathlib.Core.List.{[], ◌∷◌, ◌++◌}
 use native.Mathlib.Omega.{arith}
 use lib.IntN.{ℤ}
 use lib.ListN.{length, length-append}

@@ -1,6 +1,6 @@
 -- `depths::put::put_value`: a value, and what stands behind it. Assumes nothing.
 use mathlib.Core.Path.{ap}
-use mathlib.Core.List.{◌∷◌}
+use mathlib.Core.List.{[], ◌∷◌}
 use Prim.Native.Nat.{ℕ}
 use native.Mathlib.Omega.{arith}
 use lib.IntN.{ℤ}

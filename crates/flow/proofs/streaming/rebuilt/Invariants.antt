@@ -1,4 +1,5 @@
 -- `flow::streaming::rebuilt` is what streams into a liquid cell. Each turn stores a pair: i is odd, so that its opposite is i + 1. Assumes nothing.
+use mathlib.Core.List.{[]}
 use mathlib.Core.Path.{◌≡◌}
 use Prim.Native.Nat.{◌-◌, ◌%◌, ◌≤◌}
 use lib.IntN.{pos}

@@ -1,6 +1,6 @@
 -- `flow::streaming::reflected` is what streams into a fluid cell. Each turn stores a pair: i is odd, so that its opposite is i + 1. Assumes nothing.
 use mathlib.Core.Path.{◌≡◌}
-use mathlib.Core.List.{List}
+use mathlib.Core.List.{[], List}
 use Prim.Native.Nat.{ℕ, ◌-◌, ◌%◌, ◌≤◌}
 use lib.IntN.{pos}
 use lib.ListN.{length}

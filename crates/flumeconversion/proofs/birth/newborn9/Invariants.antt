@@ -1,4 +1,5 @@
 -- `flumeconversion::birth::newborn9`: visit after visit; the cells passed have their parts, the others are as they were. Assumes nothing.
+use mathlib.Core.List.{[]}
 use mathlib.Core.Path.{◌≡◌}
 use Prim.Native.Nat.{◌-◌, ◌≤◌}
 use lib.ListN.{length}

@@ -109,13 +109,13 @@ loop-c-preserved c =
     (λ j k m r. ranged-keep (pos 0) (taking g) a.masses.now 0 (length a.flags.now) b.if-flags-c-eq1.masses j r (omega (arith, c.next_of-c.ensures.most)) (kept g j (c.next_of-c.ensures.before j k m)))
     (⊎_elim
     (λ w.
-    let d : At-After-wide = record { before = record { before = record { before = record { before = record { before = b.before.before; if1 = w.0 }; gifts9-arg = w.1 }; gifts9 = w.2 }; wide-arg = w.3 }; wide = w.4 } in
-    subst (λ (m : List ℤ). Ranged (pos 0) (taking g) a.masses.now 0 (length a.flags.now) m (l.loop-c.c + 1)) (sym w.5)
+    let d : At-After-wide = record { before = record { before = record { before = record { before = b.before.before.before; if-flags-c-eq1 = w.if-flags-c-eq1 }; gifts9-t = w.gifts9-t }; wide-arg-1 = w.wide-arg-1 }; wide = w.wide } in
+    subst (λ (m : List ℤ). Ranged (pos 0) (taking g) a.masses.now 0 (length a.flags.now) m (l.loop-c.c + 1)) (sym w.masses-is)
     (ranged-more (pos 0) (taking g) a.masses.now 0 (length a.flags.now) l.loop-c.masses l.loop-c.c _ l.loop-c.invariant h n
-    (reads_as (v32 (v64 (both d))) tt ∙ took g l.loop-c.c w.0.taken)))
-    (λ w. subst (λ (m : List ℤ). Ranged (pos 0) (taking g) a.masses.now 0 (length a.flags.now) m (l.loop-c.c + 1)) (sym w.1)
-    (ranged-keep (pos 0) (taking g) a.masses.now 0 (length a.flags.now) l.loop-c.masses l.loop-c.c l.loop-c.invariant h (kept g l.loop-c.c w.0.left)))
-    b.if-flags-c-eq1.branch)
+    (reads_as (v32 (v64 (both d))) tt ∙ took g l.loop-c.c w.if-flags-c-eq1.true)))
+    (λ w. subst (λ (m : List ℤ). Ranged (pos 0) (taking g) a.masses.now 0 (length a.flags.now) m (l.loop-c.c + 1)) (sym w.masses-is)
+    (ranged-keep (pos 0) (taking g) a.masses.now 0 (length a.flags.now) l.loop-c.masses l.loop-c.c l.loop-c.invariant h (kept g l.loop-c.c w.if-flags-c-eq1.false)))
+    b.if-flags-c-eq1.branch-raw)
 
 pub shape_of-masses : goal.shape_of-masses
 shape_of-masses c = c.loop-c.invariant.size

@@ -94,12 +94,12 @@ loop-c-preserved c =
           (λ j h i e. e ∙ strays-keep a.flags.now (part_of9 a.parts.now) a.masses.now a.marks.now a.off.now a.low k j (n.before j h i))
           (⊎_elim
           (λ w.
-          let d : At-After-lost9-t = record { before = record { before = b.before.before; if1 = w.0 }; lost9 = w.1 } in
-          ap (to_z w64) w.2 ∙ reads_as (v64 (both d)) tt
+          let d : At-After-lost9-t = record { before = record { before = b.before.before.before; if-m-ne0 = w.if-m-ne0 }; lost9-t = w.lost9-t } in
+          ap (to_z w64) w.t-is-bits ∙ reads_as (v64 (both d)) tt
           ∙ strays-more a.flags.now (part_of9 a.parts.now) a.masses.now a.marks.now a.off.now a.low k l.loop-c.c)
-          (λ w. ap (to_z w64) w.1 ∙ l.loop-c.invariant.1
-          ∙ strays-keep a.flags.now (part_of9 a.parts.now) a.masses.now a.marks.now a.off.now a.low k l.loop-c.c w.0.left)
-          b.if-m-ne0.branch),
+          (λ w. ap (to_z w64) w.t-is-bits ∙ l.loop-c.invariant.1
+          ∙ strays-keep a.flags.now (part_of9 a.parts.now) a.masses.now a.marks.now a.off.now a.low k l.loop-c.c w.if-m-ne0.false)
+          b.if-m-ne0.branch-raw),
     )
 
 pub returns : goal.returns

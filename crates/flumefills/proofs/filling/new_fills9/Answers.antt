@@ -92,21 +92,21 @@ loop-c-preserved c =
     let h : l.c < length a.flags.now = in-loop.loop-c-test.true in
     let is = after-plain-fills.plain_fills.ensures in
     let n = c.next_of-c.ensures in
-    let P : List ℕ → Bool → ℕ → Type 0 = Passed a.flags.now (part_of9 a.parts.now) a.masses.now after-plain-fills.plain_fills.last.1.0 in
+    let P : List ℕ → Bool → ℕ → Type 0 = Passed a.flags.now (part_of9 a.parts.now) a.masses.now after-plain-fills.plain_fills.new.fills in
     passed-gap a.flags.now (part_of9 a.parts.now) a.masses.now _ is b.if-flags-c-eq1.fills b.if-flags-c-eq1.fair (l.c + 1) c.next_of-c.result n.least n.most n.before
     (⊎_elim
     (λ w.
-    let m = mass-of (record { before = record { before = record { before = after-shared-slice-known2; if1 = w.0 }; wide-arg = w.1 }; wide = w.2 }) in
-    let fill : b.if-flags-c-eq1.fills ≡ set l.fills l.c w.3.result = w.5 in
-    let fair : b.if-flags-c-eq1.fair ≡ (l.fair && w.4.result) = w.6 in
+    let m = mass-of (record { before = record { before = record { before = after-shared-slice-known2; if-flags-c-eq1 = w.if-flags-c-eq1 }; wide-arg-1 = w.wide-arg-1 }; wide-m = w.wide-m }) in
+    let fill : b.if-flags-c-eq1.fills ≡ set l.fills l.c w.interface_fill9.result = w.fills-is in
+    let fair : b.if-flags-c-eq1.fair ≡ (l.fair && w.fair_mass-fair.result) = w.fair-is in
     subst₂ (λ (x : List ℕ) (y : Bool). P x y (l.c + 1)) (sym fill) (sym fair)
-    (passed-interface a.flags.now (part_of9 a.parts.now) a.masses.now _ is l.fills l.fair l.c w.3.result w.4.result h
-    (w.3.ensures ∙ ap (λ (z : ℤ). fill_of z (density d3q19 (part_of9 a.parts.now l.c))) m ∙ fill_here a.flags.now (part_of9 a.parts.now) a.masses.now l.c h w.0.taken)
-    (w.4.ensures ∙ ap mass_good m ∙ fair-here a.flags.now (part_of9 a.parts.now) a.masses.now l.c h w.0.taken)
+    (passed-interface a.flags.now (part_of9 a.parts.now) a.masses.now _ is l.fills l.fair l.c w.interface_fill9.result w.fair_mass-fair.result h
+    (w.interface_fill9.ensures ∙ ap (λ (z : ℤ). fill_of z (density d3q19 (part_of9 a.parts.now l.c))) m ∙ fill_here a.flags.now (part_of9 a.parts.now) a.masses.now l.c h w.if-flags-c-eq1.true)
+    (w.fair_mass-fair.ensures ∙ ap mass_good m ∙ fair-here a.flags.now (part_of9 a.parts.now) a.masses.now l.c h w.if-flags-c-eq1.true)
     l.invariant))
-    (λ w. subst₂ (λ (x : List ℕ) (y : Bool). P x y (l.c + 1)) (sym w.1) (sym w.2)
-    (passed-other a.flags.now (part_of9 a.parts.now) a.masses.now _ is l.fills l.fair l.c h w.0.left l.invariant))
-    b.if-flags-c-eq1.came)
+    (λ w. subst₂ (λ (x : List ℕ) (y : Bool). P x y (l.c + 1)) (sym w.fills-is) (sym w.fair-is)
+    (passed-other a.flags.now (part_of9 a.parts.now) a.masses.now _ is l.fills l.fair l.c h w.if-flags-c-eq1.false l.invariant))
+    b.if-flags-c-eq1.branch-raw)
 
 pub shape_of-fills : goal.shape_of-fills
 shape_of-fills c = let s = c in long c.before.before ∙ sym s.requires.1

@@ -1,5 +1,6 @@
 -- `flumeflow::streaming::streamed9` is what streams into a liquid cell. Each turn stores a pair: k is odd, and its opposite k + 1 stands at the next place.
 -- Assumes nothing.
+use mathlib.Core.List.{[]}
 use mathlib.Core.Path.{◌≡◌}
 use Prim.Native.Nat.{ℕ, ◌-◌, ◌%◌}
 use Rattle.grid.specs.Step.{streamed}

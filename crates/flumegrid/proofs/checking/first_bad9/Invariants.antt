@@ -1,7 +1,7 @@
 -- `flumegrid::checking::first_bad9` is test 6's place: every cell passed keeps the rules. Assumes nothing.
 use mathlib.Core.Path.{◌≡◌}
 use mathlib.Core.Bool.{true}
-use mathlib.Core.List.{◌∷◌}
+use mathlib.Core.List.{[], ◌∷◌}
 use Prim.Native.Nat.{ℕ, ◌-◌, ◌≤◌, ◌<◌}
 use lib.IntN.{pos}
 use lib.ListN.{length}

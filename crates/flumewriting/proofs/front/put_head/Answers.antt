@@ -1,6 +1,6 @@
 -- `flumewriting::front::put_head` writes sections 1 to 4, one after the other. Assumes nothing.
 use mathlib.Core.Path.{refl, ap, ◌∙◌}
-use mathlib.Core.List.{◌∷◌, ◌++◌}
+use mathlib.Core.List.{[], ◌∷◌, ◌++◌}
 use lib.IntN.{ℤ}
 use lib.Seq.{sets}
 use mir.Syntax.{w64}

@@ -1,4 +1,5 @@
 -- `intake::reader::read`: the outcome's definition, whatever is lent. Assumes nothing.
+use mathlib.Core.List.{[]}
 use Rattle.grid.specs.State.{lent}
 use Rattle.index.specs.Index.{index}
 use Rattle.index.specs.Held.{Held, held}

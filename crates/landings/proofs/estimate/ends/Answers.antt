@@ -1,6 +1,6 @@
 -- `landings::estimate::ends`: what each axis and each pair of axes asks holds of a steady flow's rates, and each end brackets its direction. Assumes nothing.
 use mathlib.Core.Path.{◌≡◌, refl}
-use mathlib.Core.List.{◌∷◌}
+use mathlib.Core.List.{[], ◌∷◌}
 use Prim.Native.Nat.{ℕ, suc, ◌<◌}
 use lib.IntN.{neg_ℤ, ◌+ℤ◌, ◌-ℤ◌}
 use lib.ListN.{get_or}

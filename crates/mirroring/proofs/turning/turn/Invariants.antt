@@ -1,4 +1,5 @@
 -- `mirroring::turning::turn`: cell after cell; the cells passed are made, and in the end the second set is the reflected one, totals aside. Assumes nothing.
+use mathlib.Core.List.{[]}
 use Prim.Native.Nat.{◌-◌, ◌≤◌}
 use lib.ListN.{length}
 use Rattle.grid.specs.Grid.{cells_of}
