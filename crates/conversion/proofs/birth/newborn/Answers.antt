@@ -83,9 +83,9 @@ loop-c-preserved c =
     let m : c.next_of-c.result ≤ length a.flags.now = omega (arith, n.most, s.requires.1.count) in
     -- up to the next interface cell nothing is born
     let r =
-    reached-past S w (part_of a.parts2-1.now) (part_of after-visit.visit-fair.last.1.1.1.1.0) (l.c + 1) c.next_of-c.result _ n.least
+    reached-past S w (part_of a.parts2-1.now) (part_of after-visit.visit-fair.new.parts2) (l.c + 1) c.next_of-c.result _ n.least
     (λ j k i. unborn a.flags.now a.flags2.now j (omega arith) s.requires.1.count (n.before j k i)) (
-      reached-more S w (part_of a.parts2-1.now) (part_of l.parts2-1) (part_of after-visit.visit-fair.last.1.1.1.1.0) l.c l.invariant.1 (visited-list S w l.parts2-1 l.c room after-visit.visit-fair.ensures),
+      reached-more S w (part_of a.parts2-1.now) (part_of l.parts2-1) (part_of after-visit.visit-fair.new.parts2) l.c l.invariant.1 (visited-list S w l.parts2-1 l.c room after-visit.visit-fair.ensures),
       ap₂ (λ (x y : Bool). x && y) l.invariant.3 (visited-fair S w (part_of a.parts2-1.now) after-visit.visit-fair.ensures) ∙ all_more l.c (later_fair S w),
     ) in
     (m, r.0, visited-size S w l.parts2-1 l.c room after-visit.visit-fair.ensures ∙ l.invariant.2, r.1)

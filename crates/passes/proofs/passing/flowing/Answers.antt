@@ -243,14 +243,14 @@ loop-c-preserved-then-either_liquid c =
       simp length-set l.invariant.2,
       simp length-set l.invariant.3,
       walked-turn d3q19.weight t.args.flags.now (part_of t.args.parts.now) t.args.masses.now t.args.fills.now (off d.before.before) (low d.before.before) t.args.g t.args.marks.now
-          (part_of l.parts2-1) (part_of put.last.1.1.1.0) l.masses2-1 l.marks l.fair l.calm l.c (walked d.before.before) put.result put.ensures.told ok
-          (put-more _ l.parts2-1 put.last.1.1.1.0 l.c fits (put.ensures.parts ok))
+          (part_of l.parts2-1) (part_of put.new.parts2) l.masses2-1 l.marks l.fair l.calm l.c (walked d.before.before) put.result put.ensures.told ok
+          (put-more _ l.parts2-1 put.new.parts2 l.c fits (put.ensures.parts ok))
           gained.result _ _ _ _ mark.result _ (get_or-there t.args.flags.now l.c 0 3 d.loop-c-test.true)
           (omega (arith, l.invariant.2, t.requires.masses-room)) (omega (arith, l.invariant.3, t.requires.marks-room))
           (gained.ensures t.args.g) (to_z-of_z {w = w32} (record { sfits = after-struct-told.struct_told-1.given.1.1.0.1 }))
           (to_z-of_z {w = w32} (record { sfits = gained.ok })) mark.ensures (to_z-of_z {w = w32} (record { sfits = gained.ok }))
           (to_z-of_z {w = w32} (record { sfits = after-struct-told2.struct_told-then-either_liquid-1.given.1.1.0.1 })),
-      λ j k n. put-past _ l.parts2-1 put.last.1.1.1.0 l.c fits (put.ensures.parts ok) j k n ∙ l.invariant.5 j k (omega arith),
+      λ j k n. put-past _ l.parts2-1 put.new.parts2 l.c fits (put.ensures.parts ok) j k n ∙ l.invariant.5 j k (omega arith),
     )
 
 pub skip_dry-c-requires : goal.skip_dry-c-requires
