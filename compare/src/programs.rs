@@ -1,4 +1,4 @@
-// Starts a proved program on the bytes of its standard input, under the kit's emulator where it needs one.
+// Starts a proved program, as rt built it, on the bytes of its standard input.
 
 mod called;
 pub mod gridread;
@@ -9,41 +9,39 @@ use std::io::{ErrorKind, Read, Write};
 use std::path::{Path, PathBuf};
 use std::process::{Command, Stdio};
 
-/// The words before a program's path, as compare/start has them.
+/// Where `rt ci` and `rt run` leave programs.
 pub struct Starter {
-    words: Vec<String>,
-    programs: PathBuf,
+    crates: PathBuf,
 }
 
 impl Starter {
     pub fn find() -> Result<Starter, String> {
-        let asked = Command::new("compare/start").arg("--words").output();
-        let said = asked
-            .map_err(|error| format!("compare/start: {error}; run this from the top of the repository"))?;
-        let words: Vec<String> = String::from_utf8_lossy(&said.stdout).lines().map(str::to_string).collect();
-        if words.is_empty() {
-            return Err("compare/start has no words for this machine".to_string());
+        let crates = Path::new("crates").to_path_buf();
+        if crates.is_dir() {
+            Ok(Starter { crates })
+        } else {
+            Err("there is no crates/ here; run this from the top of the repository".to_string())
         }
-        Ok(Starter { words, programs: Path::new("target/bin").to_path_buf() })
+    }
+
+    fn path(&self, program: &str) -> PathBuf {
+        self.crates.join(program).join("out").join(program)
     }
 
     /// Whether rt has built the program.
     pub fn has(&self, program: &str) -> Result<(), String> {
-        let path = self.programs.join(program);
+        let path = self.path(program);
         if path.exists() {
             Ok(())
         } else {
-            Err(format!("no {}: rt check {program} makes it", path.display()))
+            Err(format!("no {}: rt run in crates/{program} makes it, and so does rt ci", path.display()))
         }
     }
 
     /// All that the program writes to its standard output. What keeps it from ending well is told in its place.
     pub fn output(&self, program: &str, arguments: &[String], input: &[u8]) -> Result<Vec<u8>, String> {
-        let path = self.programs.join(program);
         let told = |error: std::io::Error| format!("{program}: {error}");
-        let mut child = Command::new(&self.words[0])
-            .args(&self.words[1..])
-            .arg(&path)
+        let mut child = Command::new(self.path(program))
             .args(arguments)
             .stdin(Stdio::piped())
             .stdout(Stdio::piped())

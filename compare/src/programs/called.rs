@@ -1,4 +1,4 @@
-// gridstep called as a function: compare/callable gives its entry, its read and its write these names. What it reads and writes is kept by thread.
+// gridstep called as a function: compare/callable gives its entry, its read, its write and its lseek these names. What it reads and writes is kept by thread.
 
 use std::cell::RefCell;
 use std::slice;
@@ -52,10 +52,16 @@ extern "C" fn gridstep_write(to: i32, bytes: *const u8, length: usize) -> isize 
     length as isize
 }
 
+/// What is read has no place to go back to, as of a pipe.
+#[no_mangle]
+extern "C" fn gridstep_lseek(_from: i32, _offset: i64, _whence: i32) -> i64 {
+    -1
+}
+
 /// All that gridstep writes to its standard output, given this on its standard input.
 pub fn gridstep(input: &[u8]) -> Result<Vec<u8>, String> {
     STREAMS.set(Streams { input: input.to_vec(), ..Streams::default() });
-    // SAFETY: the program's entry takes nothing, and reads and writes only through the two functions above.
+    // SAFETY: the program's entry takes nothing, and reads and writes only through the functions above.
     let status = unsafe { gridstep_main() };
     if status != 0 {
         return Err(format!("gridstep ended with {status}"));
