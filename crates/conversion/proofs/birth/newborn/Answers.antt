@@ -48,7 +48,7 @@ loop-c-init c =
     let after-offsets : At-After-offsets-off = search in let start : At-Start = search in let a = start.args in
     let S = box_sight a.flags.now a.parts.now [] a.fills.now after-offsets.offsets-off.result c.low_of-low.result a.g in
     let w = newly_born a.flags.now a.flags2.now in
-    (omega arith, reached-zero S w (part_of a.parts2-1.now), refl, all_none (later_fair S w))
+    (omega arith, reached-zero S w (part_of a.parts2.now), refl, all_none (later_fair S w))
 
 pub visit-fair-requires : goal.visit-fair-requires
 visit-fair-requires c =
@@ -78,17 +78,17 @@ loop-c-preserved c =
     let S = box_sight a.flags.now a.parts.now [] a.fills.now after-offsets.offsets-off.result after-low-of.low_of-low.result a.g in
     let w = newly_born a.flags.now a.flags2.now in
     let h : l.c < length a.flags.now = in-loop.loop-c-test.true in
-    let room : 19 * l.c + 19 ≤ length l.parts2-1 = omega (arith, l.invariant.2, s.requires.2) in
+    let room : 19 * l.c + 19 ≤ length l.parts2 = omega (arith, l.invariant.2, s.requires.2) in
     let n = c.next_of-c.ensures in
     let m : c.next_of-c.result ≤ length a.flags.now = omega (arith, n.most, s.requires.1.count) in
     -- up to the next interface cell nothing is born
     let r =
-    reached-past S w (part_of a.parts2-1.now) (part_of after-visit.visit-fair.new.parts2) (l.c + 1) c.next_of-c.result _ n.least
+    reached-past S w (part_of a.parts2.now) (part_of after-visit.visit-fair.new.parts2) (l.c + 1) c.next_of-c.result _ n.least
     (λ j k i. unborn a.flags.now a.flags2.now j (omega arith) s.requires.1.count (n.before j k i)) (
-      reached-more S w (part_of a.parts2-1.now) (part_of l.parts2-1) (part_of after-visit.visit-fair.new.parts2) l.c l.invariant.1 (visited-list S w l.parts2-1 l.c room after-visit.visit-fair.ensures),
-      ap₂ (λ (x y : Bool). x && y) l.invariant.3 (visited-fair S w (part_of a.parts2-1.now) after-visit.visit-fair.ensures) ∙ all_more l.c (later_fair S w),
+      reached-more S w (part_of a.parts2.now) (part_of l.parts2) (part_of after-visit.visit-fair.new.parts2) l.c l.invariant.1 (visited-list S w l.parts2 l.c room after-visit.visit-fair.ensures),
+      ap₂ (λ (x y : Bool). x && y) l.invariant.3 (visited-fair S w (part_of a.parts2.now) after-visit.visit-fair.ensures) ∙ all_more l.c (later_fair S w),
     ) in
-    (m, r.0, visited-size S w l.parts2-1 l.c room after-visit.visit-fair.ensures ∙ l.invariant.2, r.1)
+    (m, r.0, visited-size S w l.parts2 l.c room after-visit.visit-fair.ensures ∙ l.invariant.2, r.1)
 
 pub shape_of-parts2 : goal.shape_of-parts2
 shape_of-parts2 c = let at-loop : At-At-loop-c = search in at-loop.loop-c.invariant.2
@@ -104,7 +104,7 @@ returns c =
     let S = box_sight a.flags.now a.parts.now [] a.fills.now o.result m.result a.g in
     let w = newly_born a.flags.now a.flags2.now in
     let e : l.c ≡ length a.flags.now = omega arith in
-    subst (λ (off : List ℕ). Peopled (box_sight a.flags.now a.parts.now [] a.fills.now off (low_of a.s) a.g) w (length a.flags.now) a.parts2-1.now l.parts2-1 l.fair) o.ensures
-    (subst (λ (low : ℕ). Peopled (box_sight a.flags.now a.parts.now [] a.fills.now o.result low a.g) w (length a.flags.now) a.parts2-1.now l.parts2-1 l.fair) m.ensures
-    (peopled S w a.parts2-1.now l.parts2-1 (length a.flags.now) l.fair (l.invariant.2 ∙ s.requires.2) (subst (Reached S w (part_of a.parts2-1.now) (part_of l.parts2-1)) e l.invariant.1)
+    subst (λ (off : List ℕ). Peopled (box_sight a.flags.now a.parts.now [] a.fills.now off (low_of a.s) a.g) w (length a.flags.now) a.parts2.now l.parts2 l.fair) o.ensures
+    (subst (λ (low : ℕ). Peopled (box_sight a.flags.now a.parts.now [] a.fills.now o.result low a.g) w (length a.flags.now) a.parts2.now l.parts2 l.fair) m.ensures
+    (peopled S w a.parts2.now l.parts2 (length a.flags.now) l.fair (l.invariant.2 ∙ s.requires.2) (subst (Reached S w (part_of a.parts2.now) (part_of l.parts2)) e l.invariant.1)
     (l.invariant.3 ∙ ap (λ (n : ℕ). all n (later_fair S w)) e)))

@@ -9,25 +9,31 @@ use Rattle.conversion.proofs.convert.turn_around.Lts as lts
 use Rattle.conversion.proofs.convert.turn_around.Reads as reads
 use Rattle.conversion.proofs.convert.turn_around.Goals as goal
 
+abbrev At-In-loop-i : Type 0
+At-In-loop-i = lts.In-loop reads.Pre reads.Post goal.the-invariant-loop-i goal.the-decreases-loop-i
+
+abbrev At-Start : Type 0
+At-Start = lts.Start reads.Pre reads.Post goal.the-invariant-loop-i goal.the-decreases-loop-i
+
 abbrev At-At-loop-i : Type 0
 At-At-loop-i = lts.At-loop reads.Pre reads.Post goal.the-invariant-loop-i goal.the-decreases-loop-i
 
 -- the neighbour is a cell
-reached : (c : goal.In-loop-i)
+reached : (c : At-In-loop-i)
     → let a = c.args in a.c - a.low + get_or a.off.now c.loop-i.i 0 < length a.flags.now
-reached c = let start : goal.Start = search in start.requires.0.all _ c.loop-i-test.true
+reached c = let start : At-Start = search in start.requires.0.all _ c.loop-i-test.true
 
 pub bounds-next-c : goal.bounds-next-c
-bounds-next-c c = let start : goal.Start = search in omega (arith, start.requires.1, start.requires.3)
+bounds-next-c c = let start : At-Start = search in omega (arith, start.requires.1, start.requires.3)
 
 pub loop-i-init : goal.loop-i-init
 loop-i-init c =
-    let start : goal.Start = search in
+    let start : At-Start = search in
     let a = start.args in
     (omega arith, omega arith, simp length-set start.requires.1, λ b. partly-first a.flags.now a.off.now a.low a.c a.kind _ b)
 
 pub overflow_sub-b : goal.overflow_sub-b
-overflow_sub-b c = let start : goal.Start = search in start.requires.2
+overflow_sub-b c = let start : At-Start = search in start.requires.2
 
 pub overflow_add-b : goal.overflow_add-b
 overflow_add-b c = record { fits = omega (arith, reached (search)) }
@@ -40,8 +46,8 @@ bounds-next-b c = let l : At-At-loop-i = search in omega (arith, l.loop-i.invari
 
 pub loop-i-preserved : goal.loop-i-preserved
 loop-i-preserved c =
-    let l : At-At-loop-i = search in let in-loop : goal.In-loop-i = search in
-    let start : goal.Start = search in
+    let l : At-At-loop-i = search in let in-loop : At-In-loop-i = search in
+    let start : At-Start = search in
     let a = start.args in (
       omega arith,
       omega (arith, in-loop.loop-i-test.true),
@@ -55,12 +61,12 @@ loop-i-preserved c =
     )
 
 pub shape_of-next : goal.shape_of-next
-shape_of-next c = let start : goal.Start = search in let l : At-At-loop-i = search in l.loop-i.invariant.2 ∙ sym start.requires.1
+shape_of-next c = let start : At-Start = search in let l : At-At-loop-i = search in l.loop-i.invariant.2 ∙ sym start.requires.1
 
 pub returns : goal.returns
 returns c =
     let l : At-At-loop-i = search in
-    let start : goal.Start = search in
+    let start : At-Start = search in
     let a = start.args in
     let e : l.loop-i.i - 1 ≡ 18 = omega (arith, l.loop-i.invariant.1, c.loop-i-test.false) in
     partly-all a.flags.now a.off.now a.low a.c a.kind a.next.now l.loop-i.next l.loop-i.invariant.2 start.requires.1 start.requires.3

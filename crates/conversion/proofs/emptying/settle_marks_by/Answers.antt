@@ -14,6 +14,12 @@ use Rattle.conversion.proofs.emptying.settle_marks_by.Reads as reads
 use Rattle.conversion.proofs.emptying.settle_marks_by.Tie as tie
 use Rattle.conversion.proofs.emptying.settle_marks_by.Goals as goal
 
+abbrev At-Then-marks-c-eq2 : Type 0
+At-Then-marks-c-eq2 = lts.Then1 tie.the-claims reads.Pre reads.Post goal.the-invariant-loop-c goal.the-decreases-loop-c
+
+abbrev At-Joined-marks-c-eq2 : Type 0
+At-Joined-marks-c-eq2 = lts.Joined1 tie.the-claims reads.Pre reads.Post goal.the-invariant-loop-c goal.the-decreases-loop-c
+
 abbrev At-In-loop-c : Type 0
 At-In-loop-c = lts.In-loop tie.the-claims reads.Pre reads.Post goal.the-invariant-loop-c goal.the-decreases-loop-c
 
@@ -24,13 +30,13 @@ abbrev At-At-loop-c : Type 0
 At-At-loop-c = lts.At-loop tie.the-claims reads.Pre reads.Post goal.the-invariant-loop-c goal.the-decreases-loop-c
 
 -- a cell to be emptied has all its neighbours
-within : (c : goal.Then-marks-c-eq2) → let l = c in Amid (length l.args.marks.now) l.args.low l.loop-c.c
+within : (c : At-Then-marks-c-eq2) → let l = c in Amid (length l.args.marks.now) l.args.low l.loop-c.c
 within c =
     let in-loop : At-In-loop-c = search in let start : At-Start = search in let l : At-At-loop-c = search in
     start.requires.inner _ (omega (arith, l.loop-c.invariant.size, in-loop.loop-c-test.true)) (sym (l.loop-c.invariant.rest _ (omega arith)) ∙ c.if-marks-c-eq2.true)
 
 -- cell c is settled, whether it was to be emptied or not
-turned : (b : goal.Joined-marks-c-eq2)
+turned : (b : At-Joined-marks-c-eq2)
     → let l = b in
     let a = l.args.marks.now in
     Ranged 0 (kept_by a l.args.off.now l.args.low) a 0 (length a) b.if-marks-c-eq2.marks (l.loop-c.c + 1)
@@ -64,13 +70,13 @@ next_marked-c-requires c = omega (arith, (turned (search)).to, (turned (search))
 
 pub loop-c-smaller : goal.loop-c-smaller
 loop-c-smaller c =
-    let b : goal.Joined-marks-c-eq2 = search in
+    let b : At-Joined-marks-c-eq2 = search in
     let n = c.next_marked-c.ensures.past in
     omega (arith, n.least, n.most, (turned b).size, (turned b).to)
 
 pub loop-c-preserved : goal.loop-c-preserved
 loop-c-preserved c =
-    let start : At-Start = search in let b : goal.Joined-marks-c-eq2 = search in
+    let start : At-Start = search in let b : At-Joined-marks-c-eq2 = search in
     let l : At-At-loop-c = search in
     let a = start.args.marks.now in
     let off = start.args.off.now in

@@ -6,16 +6,22 @@ use lib.ListN.{length}
 use Rattle.grid.specs.State.{part_of}
 use Rattle.grid.proofs.Ranges.{over-gap}
 use Rattle.conversion.proofs.Settles.{Upon, upon-as, upon-first, upon-keep, upon-settle, upon-all, parts-still, settled-size, settled-list}
+use Rattle.conversion.proofs.settling.settle.Tie as tie
+use Rattle.conversion.proofs.settling.settle.Reads as reads
+use Rattle.conversion.proofs.settling.settle.Lts as lts
 use Rattle.conversion.proofs.settling.settle.Goals as goal
 
+abbrev At-Joined-m-ne0 : Type 0
+At-Joined-m-ne0 = lts.Joined1 tie.the-claims reads.Pre reads.Post goal.the-invariant-loop-c goal.the-decreases-loop-c
+
 -- the list has room for the cell of a turn
-room : (b : goal.Joined-m-ne0) → let l = b in 19 * l.loop-c.c + 19 ≤ length l.loop-c.parts
+room : (b : At-Joined-m-ne0) → let l = b in 19 * l.loop-c.c + 19 ≤ length l.loop-c.parts
 room b =
     let l = b in
     omega (arith, l.loop-c.invariant.0, l.requires.parts-there, l.loop-c.invariant.1.marks-size, b.loop-c-test.true)
 
 -- cell c is settled, whether it had a mark or not
-turned : (b : goal.Joined-m-ne0)
+turned : (b : At-Joined-m-ne0)
     → let l = b in
     let s = l in
     (length b.if-m-ne0.parts ≡ length s.args.parts.now)

@@ -33,7 +33,7 @@ loop-c-init c =
     let start : At-Start = search in let a = start.args in
     let S = sight9 a.flags.now a.parts.now [] a.fills.now a.off.now a.low a.g in
     let w = newly_born a.flags.now a.flags2.now in
-    (omega arith, reached-zero S w (part_of9 a.parts2-1.now), refl, all_none (later_fair S w))
+    (omega arith, reached-zero S w (part_of9 a.parts2.now), refl, all_none (later_fair S w))
 
 pub visit9-fair-requires : goal.visit9-fair-requires
 visit9-fair-requires c =
@@ -59,18 +59,18 @@ loop-c-preserved c =
     let S = sight9 a.flags.now a.parts.now [] a.fills.now a.off.now a.low a.g in
     let w = newly_born a.flags.now a.flags2.now in
     let h : l.c < length a.flags.now = in-loop.loop-c-test.true in
-    let room : 9 * l.c + 9 ≤ length l.parts2-1 = omega (arith, l.invariant.2, s.requires.1) in
+    let room : 9 * l.c + 9 ≤ length l.parts2 = omega (arith, l.invariant.2, s.requires.1) in
     let n = c.next_of-c.ensures in
     let m : c.next_of-c.result ≤ length a.flags.now = omega (arith, n.most, s.requires.0.count) in
-    let seen = visited-list a.flags.now a.parts.now a.fills.now a.off.now a.low a.g w l.parts2-1 l.c room v.visit9-fair.ensures in
+    let seen = visited-list a.flags.now a.parts.now a.fills.now a.off.now a.low a.g w l.parts2 l.c room v.visit9-fair.ensures in
     -- up to the next interface cell nothing is born
     let r =
-    reached-past S w (part_of9 a.parts2-1.now) _ (l.c + 1) c.next_of-c.result _ n.least
+    reached-past S w (part_of9 a.parts2.now) _ (l.c + 1) c.next_of-c.result _ n.least
     (λ j k i. unborn a.flags.now a.flags2.now j (omega arith) s.requires.0.count (n.before j k i)) (
-      reached-more S w (part_of9 a.parts2-1.now) (part_of9 l.parts2-1) _ l.c l.invariant.1 seen,
+      reached-more S w (part_of9 a.parts2.now) (part_of9 l.parts2) _ l.c l.invariant.1 seen,
       ap₂ (λ (x y : Bool). x && y) l.invariant.3 v.visit9-fair.ensures.fair-is ∙ all_more l.c (later_fair S w),
     ) in
-    (m, r.0, visited-size a.flags.now a.parts.now a.fills.now a.off.now a.low a.g w l.parts2-1 l.c room v.visit9-fair.ensures ∙ l.invariant.2, r.1)
+    (m, r.0, visited-size a.flags.now a.parts.now a.fills.now a.off.now a.low a.g w l.parts2 l.c room v.visit9-fair.ensures ∙ l.invariant.2, r.1)
 
 pub shape_of-parts2 : goal.shape_of-parts2
 shape_of-parts2 c = c.loop-c.invariant.2
@@ -85,6 +85,6 @@ returns c =
     let e : l.c ≡ length a.flags.now = omega arith in
     record {
       parts-there = l.invariant.2 ∙ s.requires.1;
-      part-is = (subst (Reached S w (part_of9 a.parts2-1.now) (part_of9 l.parts2-1)) e l.invariant.1).done;
+      part-is = (subst (Reached S w (part_of9 a.parts2.now) (part_of9 l.parts2)) e l.invariant.1).done;
       fair-is = l.invariant.3 ∙ ap (λ (n : ℕ). all n (later_fair S w)) e;
     }

@@ -11,6 +11,9 @@ use Rattle.flumeflow.proofs.moving.fair.Reads as reads
 use Rattle.flumeflow.proofs.moving.fair.Tie as tie
 use Rattle.flumeflow.proofs.moving.fair.Goals as goal
 
+abbrev At-After-at_density : Type 0
+At-After-at_density = lts.After-at_density tie.the-claims reads.Pre reads.Post
+
 abbrev At-After-flow_of : Type 0
 At-After-flow_of = lts.After-flow_of tie.the-claims reads.Pre reads.Post
 
@@ -30,7 +33,7 @@ steady-requires c =
 
 pub returns : goal.returns
 returns c =
-    let after-at-density : goal.After-at_density = search in let after-flow-of : At-After-flow_of = search in let after-all-inside : At-After-all_inside = search in let s : At-Start = search in
+    let after-at-density : At-After-at_density = search in let after-flow-of : At-After-flow_of = search in let after-all-inside : At-After-all_inside = search in let s : At-Start = search in
     let d = after-at-density.at_density.ensures in
     ap₂ ◌&&◌ after-all-inside.all_inside.ensures c.steady.ensures
     ∙ body_is s.args.f after-at-density.at_density.result (ap (λ (w : Flow). w.rho) d ∙ to_z-of_z s.ranges.rho ∙ sym s.requires.1) (ap vec d ∙ after-flow-of.flow_of.ensures.1)

@@ -10,6 +10,9 @@ use Rattle.flumeflow.proofs.streaming.sources9.Reads as reads
 use Rattle.flumeflow.proofs.streaming.sources9.Tie as tie
 use Rattle.flumeflow.proofs.streaming.sources9.Goals as goal
 
+abbrev At-Start : Type 0
+At-Start = lts.Start tie.the-claims reads.Pre reads.Post goal.the-invariant-loop-k goal.the-decreases-loop-k
+
 abbrev At-In-loop-k : Type 0
 At-In-loop-k = lts.In-loop tie.the-claims reads.Pre reads.Post goal.the-invariant-loop-k goal.the-decreases-loop-k
 
@@ -20,11 +23,11 @@ pub loop-k-init : goal.loop-k-init
 loop-k-init c = (omega arith, refl, upto_zero 0 _ (replicate 9 0))
 
 pub overflow_sub-f : goal.overflow_sub-f
-overflow_sub-f c = let s : goal.Start = search in omega (arith, s.requires.pair c.place.result c.place.ensures.1)
+overflow_sub-f c = let s : At-Start = search in omega (arith, s.requires.pair c.place.result c.place.ensures.1)
 
 pub loop-k-preserved : goal.loop-k-preserved
 loop-k-preserved c =
-    let in-loop : At-In-loop-k = search in let start : goal.Start = search in let l : At-At-loop-k = search in
+    let in-loop : At-In-loop-k = search in let start : At-Start = search in let l : At-At-loop-k = search in
     let t = in-loop.loop-k-test.true in
     let h : l.loop-k.k < length l.loop-k.f = omega (arith, l.loop-k.invariant.1, t) in
     (omega arith, simp length-set l.loop-k.invariant.1, upto-more 0 (source_of9 start.args.off) l.loop-k.f l.loop-k.k _ h l.loop-k.invariant.2 (source_is _ _ _ _ start.requires t c.place.ensures.0))

@@ -16,6 +16,9 @@ use Rattle.flumegrid.proofs.fill.interface_fill9.Reads as reads
 use Rattle.flumegrid.proofs.fill.interface_fill9.Tie as tie
 use Rattle.flumegrid.proofs.fill.interface_fill9.Goals as goal
 
+abbrev At-After-wide : Type 0
+At-After-wide = lts.After-wide tie.the-claims reads.Pre reads.Post
+
 abbrev At-After-density : Type 0
 At-After-density = lts.After-density tie.the-claims reads.Pre reads.Post
 
@@ -26,7 +29,7 @@ sum_of c =
     let s = c in
     c.density.ensures ∙ density-is c.own9.result (part_of9 s.args.parts.now s.args.c) c.own9.ensures
 
-density-of : (c : goal.After-wide) → to_z w64 (of_z w64 c.wide.result) ≡ c.density.result
+density-of : (c : At-After-wide) → to_z w64 (of_z w64 c.wide.result) ≡ c.density.result
 density-of c =
     to_z-of_z {w = w64} {z = c.wide.result} (record { sfits = c.wide.type_inv }) ∙ c.wide.ensures
     ∙ to_z-of_z {w = w32} {z = c.density.result} (record { sfits = c.density.type_inv })

@@ -233,20 +233,20 @@ loop-c-preserved-then-either_liquid c =
     let mark = after-new-mark.new_mark-k in
     let ok = not-false _ else2.if-not-o.false in
     let h = is-cell d.before.before in
-    let fits : 9 * l.c + 9 ≤ length l.parts2-1 = omega (arith, l.invariant.1, t.requires.parts-room) in (
+    let fits : 9 * l.c + 9 ≤ length l.parts2 = omega (arith, l.invariant.1, t.requires.parts-room) in (
       omega arith,
       put.ensures.kept ∙ l.invariant.1,
       simp length-set l.invariant.2,
       simp length-set l.invariant.3,
       walked-turn spread_lattice.weight t.args.flags.now (part_of9 t.args.parts.now) t.args.masses.now t.args.fills.now (off d.before.before) (low d.before.before) t.args.g t.args.marks.now
-          (part_of9 l.parts2-1) (part_of9 put.new.parts2) l.masses2-1 l.marks l.fair l.calm l.c (walked d.before.before) put.result put.ensures.told ok
-          (put-more t.args.flags.now t.args.parts.now t.args.fills.now (off d.before.before) (low d.before.before) t.args.g l.parts2-1 put.new.parts2 l.c fits (put.ensures.parts ok))
+          (part_of9 l.parts2) (part_of9 put.new.parts2) l.masses2 l.marks l.fair l.calm l.c (walked d.before.before) put.result put.ensures.told ok
+          (put-more t.args.flags.now t.args.parts.now t.args.fills.now (off d.before.before) (low d.before.before) t.args.g l.parts2 put.new.parts2 l.c fits (put.ensures.parts ok))
           gained.result _ _ _ _ mark.result _ (get_or-there t.args.flags.now l.c 0 3 d.loop-c-test.true)
           (omega (arith, l.invariant.2, t.requires.masses-room)) (omega (arith, l.invariant.3, t.requires.marks-room))
           (gained.ensures t.args.g) (to_z-of_z {w = w32} (record { sfits = after-struct-told.struct_told-1.given.1.1.0.1 }))
           (to_z-of_z {w = w32} (record { sfits = gained.ok })) mark.ensures (to_z-of_z {w = w32} (record { sfits = gained.ok }))
           (to_z-of_z {w = w32} (record { sfits = after-struct-told2.struct_told-then-either_liquid-1.given.1.1.0.1 })),
-      λ j k n m. put-past t.args.flags.now t.args.parts.now t.args.fills.now (off d.before.before) (low d.before.before) t.args.g l.parts2-1 put.new.parts2 l.c fits (put.ensures.parts ok) j k n m ∙ l.invariant.5 j k (omega arith) m,
+      λ j k n m. put-past t.args.flags.now t.args.parts.now t.args.fills.now (off d.before.before) (low d.before.before) t.args.g l.parts2 put.new.parts2 l.c fits (put.ensures.parts ok) j k n m ∙ l.invariant.5 j k (omega arith) m,
     )
 
 pub skip_dry-c-requires : goal.skip_dry-c-requires
@@ -301,9 +301,9 @@ returns c =
       went = through
           (walked-moved spread_lattice.weight (spread_grid (flume_grid t.args.s)) t.args.g t.args.flags.now (part_of9 t.args.parts.now) t.args.masses.now t.args.fills.now
           after-offsets.offsets-off.result after-low-of.low_of-low.result (flume_cells t.args.s) (λ j h l. placed t.args.s _ _ after-offsets.offsets-off.ensures after-low-of.low_of-low.ensures j (liquid-inner t.args.s _ _ _ _ _ p j h l))
-          t.args.marks.now (part_of9 l.parts2-1) l.masses2-1 l.marks l.fair l.calm
+          t.args.marks.now (part_of9 l.parts2) l.masses2 l.marks l.fair l.calm
           (l.invariant.2 ∙ t.requires.masses-room) (l.invariant.3 ∙ t.requires.marks-room)
-          (subst (λ (n : ℕ). Walked spread_lattice.weight t.args.flags.now (part_of9 t.args.parts.now) t.args.masses.now t.args.fills.now after-offsets.offsets-off.result after-low-of.low_of-low.result t.args.g t.args.marks.now (part_of9 l.parts2-1) l.masses2-1 l.marks l.fair l.calm n) e l.invariant.4));
+          (subst (λ (n : ℕ). Walked spread_lattice.weight t.args.flags.now (part_of9 t.args.parts.now) t.args.masses.now t.args.fills.now after-offsets.offsets-off.result after-low-of.low_of-low.result t.args.g t.args.marks.now (part_of9 l.parts2) l.masses2 l.marks l.fair l.calm n) e l.invariant.4));
       parts-kept = l.invariant.1 ∙ t.requires.parts-room;
       masses-kept = l.invariant.2 ∙ t.requires.masses-room;
       marks-kept = l.invariant.3 ∙ t.requires.marks-room;

@@ -237,20 +237,20 @@ loop-c-preserved-then-either_liquid c =
     let mark = after-new-mark.new_mark-k in
     let ok = not-false _ else2.if-not-o.false in
     let h = is-cell d.before.before in
-    let fits : 19 * l.c + 19 ≤ length l.parts2-1 = omega (arith, l.invariant.1, t.requires.parts-room) in (
+    let fits : 19 * l.c + 19 ≤ length l.parts2 = omega (arith, l.invariant.1, t.requires.parts-room) in (
       omega arith,
       put.ensures.kept ∙ l.invariant.1,
       simp length-set l.invariant.2,
       simp length-set l.invariant.3,
       walked-turn d3q19.weight t.args.flags.now (part_of t.args.parts.now) t.args.masses.now t.args.fills.now (off d.before.before) (low d.before.before) t.args.g t.args.marks.now
-          (part_of l.parts2-1) (part_of put.new.parts2) l.masses2-1 l.marks l.fair l.calm l.c (walked d.before.before) put.result put.ensures.told ok
-          (put-more _ l.parts2-1 put.new.parts2 l.c fits (put.ensures.parts ok))
+          (part_of l.parts2) (part_of put.new.parts2) l.masses2 l.marks l.fair l.calm l.c (walked d.before.before) put.result put.ensures.told ok
+          (put-more _ l.parts2 put.new.parts2 l.c fits (put.ensures.parts ok))
           gained.result _ _ _ _ mark.result _ (get_or-there t.args.flags.now l.c 0 3 d.loop-c-test.true)
           (omega (arith, l.invariant.2, t.requires.masses-room)) (omega (arith, l.invariant.3, t.requires.marks-room))
           (gained.ensures t.args.g) (to_z-of_z {w = w32} (record { sfits = after-struct-told.struct_told-1.given.1.1.0.1 }))
           (to_z-of_z {w = w32} (record { sfits = gained.ok })) mark.ensures (to_z-of_z {w = w32} (record { sfits = gained.ok }))
           (to_z-of_z {w = w32} (record { sfits = after-struct-told2.struct_told-then-either_liquid-1.given.1.1.0.1 })),
-      λ j k n. put-past _ l.parts2-1 put.new.parts2 l.c fits (put.ensures.parts ok) j k n ∙ l.invariant.5 j k (omega arith),
+      λ j k n. put-past _ l.parts2 put.new.parts2 l.c fits (put.ensures.parts ok) j k n ∙ l.invariant.5 j k (omega arith),
     )
 
 pub skip_dry-c-requires : goal.skip_dry-c-requires
@@ -307,9 +307,9 @@ returns c =
       went = through (moved-list (l.invariant.1 ∙ t.requires.parts-room)
           (walked-moved d3q19.weight (grid_of t.args.s) t.args.g t.args.flags.now (part_of t.args.parts.now) t.args.masses.now t.args.fills.now
           after-offsets.offsets-off.result after-low-of.low_of-low.result (cells_of t.args.s) (placed t.args.s t.args.g _ p o)
-          t.args.marks.now (part_of l.parts2-1) l.masses2-1 l.marks l.fair l.calm
+          t.args.marks.now (part_of l.parts2) l.masses2 l.marks l.fair l.calm
           (l.invariant.2 ∙ t.requires.masses-room) (l.invariant.3 ∙ t.requires.marks-room)
-          (subst (λ (n : ℕ). Walked d3q19.weight t.args.flags.now (part_of t.args.parts.now) t.args.masses.now t.args.fills.now after-offsets.offsets-off.result after-low-of.low_of-low.result t.args.g t.args.marks.now (part_of l.parts2-1) l.masses2-1 l.marks l.fair l.calm n) e l.invariant.4)));
+          (subst (λ (n : ℕ). Walked d3q19.weight t.args.flags.now (part_of t.args.parts.now) t.args.masses.now t.args.fills.now after-offsets.offsets-off.result after-low-of.low_of-low.result t.args.g t.args.marks.now (part_of l.parts2) l.masses2 l.marks l.fair l.calm n) e l.invariant.4)));
       parts-kept = l.invariant.1 ∙ t.requires.parts-room;
       masses-kept = l.invariant.2 ∙ t.requires.masses-room;
       marks-kept = l.invariant.3 ∙ t.requires.marks-room;
