@@ -140,6 +140,6 @@ returns c flags parts fills off low l e =
     record {
       kept = ap length put ∙ length-pasted9 _ _ _ s.requires.3;
       told = told-accepted spread_lattice.weight flags (part_of9 parts) fills off low _ _ _ e _ _ u.0 u.1 after-pulled.pulled-v.ensures l w.quieted-r.result quiet _ refl
-          (sym a.steady.ensures ∙ not-false _ else1.if-not-steady.false-raw) (to_z-of_z {w = w64} (record { sfits = c.struct_told-2-1.given.0.1 })) after-fair.fair.ensures;
+          (sym a.steady.ensures ∙ not-false _ else1.if-not-steady.false-raw) (to_z-of_z {w = w32} (record { sfits = c.struct_told-2-1.given.0.1 })) after-fair.fair.ensures;
       parts = λ h. put ∙ ap (pasted9 s.args.parts2.now s.args.c) (moved spread_lattice.weight flags (part_of9 parts) fills off low _ _ _ e _ _ u.0 u.1 after-pulled.pulled-v.ensures l w.quieted-r.result quiet);
     }
