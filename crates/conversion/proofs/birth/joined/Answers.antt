@@ -41,9 +41,9 @@ returns c =
     let told = after-struct-told8.struct_told-8-1.given in
     let flow = after-struct-told9.struct_told-9-1.given in
     record {
-      n = held64 n.result n.ok ∙ n.ensures ∙ ap (λ (k : ℤ). k +ℤ pos 1) (held64 a.t.n told.0.1);
-      rho = held64 r.result r.ok ∙ r.ensures ∙ ap₂ (λ (k l : ℤ). k +ℤ l) (held64 a.t.rho told.1.0.1) (held32 a.v.rho flow.0.1);
-      x = held64 x.result x.ok ∙ x.ensures ∙ ap₂ (λ (k l : ℤ). k +ℤ l) (held64 a.t.x told.1.1.0.1) (held32 a.v.x flow.1.0.1);
-      y = held64 y.result y.ok ∙ y.ensures ∙ ap₂ (λ (k l : ℤ). k +ℤ l) (held64 a.t.y told.1.1.1.0.1) (held32 a.v.y flow.1.1.0.1);
+      n = held64 n.result n.type_inv ∙ n.ensures ∙ ap (λ (k : ℤ). k +ℤ pos 1) (held64 a.t.n told.0.1);
+      rho = held64 r.result r.type_inv ∙ r.ensures ∙ ap₂ (λ (k l : ℤ). k +ℤ l) (held64 a.t.rho told.1.0.1) (held32 a.v.rho flow.0.1);
+      x = held64 x.result x.type_inv ∙ x.ensures ∙ ap₂ (λ (k l : ℤ). k +ℤ l) (held64 a.t.x told.1.1.0.1) (held32 a.v.x flow.1.0.1);
+      y = held64 y.result y.type_inv ∙ y.ensures ∙ ap₂ (λ (k l : ℤ). k +ℤ l) (held64 a.t.y told.1.1.1.0.1) (held32 a.v.y flow.1.1.0.1);
       z = held64 z.result z.type_inv ∙ z.ensures ∙ ap₂ (λ (k l : ℤ). k +ℤ l) (held64 a.t.z told.1.1.1.1.0.1) (held32 a.v.z flow.1.1.1.0.1);
     }

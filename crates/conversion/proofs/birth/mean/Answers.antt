@@ -33,8 +33,8 @@ returns c =
     let told = after-struct-told8.struct_told-8-1.given in
     let n = held64 t.n told.0.1 in
     record {
-      rho = held32 r.result r.ok ∙ r.ensures ∙ ap₂ quot_z (held64 t.rho told.1.0.1) n;
-      x = held32 x.result x.ok ∙ x.ensures ∙ ap₂ quot_z (held64 t.x told.1.1.0.1) n;
-      y = held32 y.result y.ok ∙ y.ensures ∙ ap₂ quot_z (held64 t.y told.1.1.1.0.1) n;
+      rho = held32 r.result r.type_inv ∙ r.ensures ∙ ap₂ quot_z (held64 t.rho told.1.0.1) n;
+      x = held32 x.result x.type_inv ∙ x.ensures ∙ ap₂ quot_z (held64 t.x told.1.1.0.1) n;
+      y = held32 y.result y.type_inv ∙ y.ensures ∙ ap₂ quot_z (held64 t.y told.1.1.1.0.1) n;
       z = held32 z.result z.type_inv ∙ z.ensures ∙ ap₂ quot_z (held64 t.z told.1.1.1.1.0.1) n;
     }

@@ -248,7 +248,7 @@ loop-c-preserved-then-either_liquid c =
           gained.result _ _ _ _ mark.result _ (get_or-there t.args.flags.now l.c 0 3 d.loop-c-test.true)
           (omega (arith, l.invariant.2, t.requires.masses-room)) (omega (arith, l.invariant.3, t.requires.marks-room))
           (gained.ensures t.args.g) (to_z-of_z {w = w32} (record { sfits = after-struct-told.struct_told-1.given.1.1.0.1 }))
-          (to_z-of_z {w = w32} (record { sfits = gained.ok })) mark.ensures (to_z-of_z {w = w32} (record { sfits = gained.ok }))
+          (to_z-of_z {w = w32} (record { sfits = gained.type_inv })) mark.ensures (to_z-of_z {w = w32} (record { sfits = gained.type_inv }))
           (to_z-of_z {w = w32} (record { sfits = after-struct-told2.struct_told-then-either_liquid-1.given.1.1.0.1 })),
       λ j k n. put-past _ l.parts2 put.new.parts2 l.c fits (put.ensures.parts ok) j k n ∙ l.invariant.5 j k (omega arith),
     )
