@@ -34,5 +34,5 @@ returns c =
     record {
       bytes = ap (λ (p : Span). take (p.to - p.from) (drop p.from s.now)) e;
       block = refl;
-      place = add_comm c.span-p.result.from s.ptr.1 ∙ ap (λ (p : Span). s.ptr.1 + p.from) e;
+      place = add_comm c.span-p.result.from s.ref_ptr.1 ∙ ap (λ (p : Span). s.ref_ptr.1 + p.from) e;
     }

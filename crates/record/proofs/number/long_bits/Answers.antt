@@ -15,13 +15,13 @@ above c =
     positive-bits w64 x c.ranges.x (rw (to_z-of_z w64 x c.ranges.x) at c.if-x-lt0.false)
 
 pub overflow_cast-result : goal.overflow_cast-result
-overflow_cast-result c = ((below c).may, (below c).ranges)
+overflow_cast-result c = ((below c).may, (below c).fits)
 
 pub returns-then-x-lt0 : goal.returns-then-x-lt0
 returns-then-x-lt0 c = (below c).gives
 
 pub overflow_cast-result-2 : goal.overflow_cast-result-2
-overflow_cast-result-2 c = ((above c).may, (above c).ranges)
+overflow_cast-result-2 c = ((above c).may, (above c).fits)
 
 pub returns : goal.returns
 returns c = (above c).gives
