@@ -63,8 +63,8 @@ At-After-good_totals-arg-2-1 = lts.After-good_totals-arg2 tie.the-claims reads.P
 abbrev At-After-good_totals-arg-1 : Type 0
 At-After-good_totals-arg-1 = lts.After-good_totals-arg tie.the-claims reads.Pre reads.Post
 
-abbrev At-In-Refused-2 : Type 0
-At-In-Refused-2 = lts.Past-After-a tie.the-claims reads.Pre reads.Post
+abbrev At-In-Refused : Type 0
+At-In-Refused = lts.Past-After-known_told tie.the-claims reads.Pre reads.Post
 
 abbrev At-After-agrees : Type 0
 At-After-agrees = lts.After-agrees tie.the-claims reads.Pre reads.Post
@@ -154,7 +154,7 @@ slice_bounds-entered-end-2 c =
 
 pub returns-in-Refused : goal.returns-in-Refused
 returns-in-Refused c =
-    let after-a : At-In-Refused-2 = search in let after-entered : At-After-entered-a = search in let d : At-Else-not-three-first = search in
+    let after-a : At-In-Refused = search in let after-entered : At-After-entered-a = search in let d : At-Else-not-three-first = search in
     let v = w d in
     refuses-set v.args.s v.args.g (first v) (second v) v.args.marks.now (lengths-good d) (sym after-a.in-Refused.is ∙ after-entered.entered-a.ensures)
 

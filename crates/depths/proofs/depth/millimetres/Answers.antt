@@ -5,10 +5,15 @@ use native.Mathlib.Nat.{mul-le-mul_left}
 use native.Mathlib.Omega.{arith}
 use mir.Syntax.{w64}
 use mir.ValLaws.{to_z_pos}
+use Rattle.depths.proofs.depth.millimetres.Lts as lts
+use Rattle.depths.proofs.depth.millimetres.Reads as reads
 use Rattle.depths.proofs.depth.millimetres.Goals as goal
 
+abbrev At-Else-solid : Type 0
+At-Else-solid = lts.Else1 reads.Pre reads.Post tie.handed_clauses
+
 -- the product stays below 2^34
-small : (c : goal.Else-solid) → c.args.sum * c.args.edge ≤ 16777216000
+small : (c : At-Else-solid) → c.args.sum * c.args.edge ≤ 16777216000
 small c = let a = c.args in omega (arith, c.requires.sum_bound, mul-le-mul_left a.sum c.requires.edge_bound)
 
 pub returns-then-solid : goal.returns-then-solid

@@ -19,6 +19,9 @@ At-After-metres_length = lts.After-metres_length tie.the-claims reads.Pre reads.
 abbrev At-After-metres_length-2 : Type 0
 At-After-metres_length-2 = lts.After-metres_length2 tie.the-claims reads.Pre reads.Post
 
+abbrev At-After-metres_length-3 : Type 0
+At-After-metres_length-3 = lts.After-metres_length3 tie.the-claims reads.Pre reads.Post
+
 -- a length in metres is spelled as it stands in the corner
 west : (c : At-After-metres_length) → c.metres_length.result ≡ length (metres_of c.args.t.x)
 west c = c.metres_length.ensures ∙ ap (λ (z : ℤ). length (metres_of z)) (to_z-of_z {w = w64} (record { sfits = c.struct_told-1.given.1.0.1 }))
@@ -26,7 +29,7 @@ west c = c.metres_length.ensures ∙ ap (λ (z : ℤ). length (metres_of z)) (to
 south : (c : At-After-metres_length-2) → c.metres_length-2.result ≡ length (metres_of c.args.t.y)
 south c = c.metres_length-2.ensures ∙ ap (λ (z : ℤ). length (metres_of z)) (to_z-of_z {w = w64} (record { sfits = c.struct_told-2-1.given.1.1.0.1 }))
 
-edge : (c : goal.After-metres_length-3) → c.metres_length-3.result ≡ length (metres_of c.args.t.edge)
+edge : (c : At-After-metres_length-3) → c.metres_length-3.result ≡ length (metres_of c.args.t.edge)
 edge c = c.metres_length-3.ensures ∙ ap (λ (z : ℤ). length (metres_of z)) (to_z-of_z {w = w64} (record { sfits = c.struct_told-3-1.given.0.1 }))
 
 pub overflow_add-sides : goal.overflow_add-sides

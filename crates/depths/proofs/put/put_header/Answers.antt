@@ -1,6 +1,6 @@
 -- `depths::put::put_header`: line after line; what is stored, and the lines left, are the header. Assumes nothing.
 use mathlib.Core.Path.{refl, ap}
-use mathlib.Core.List.{[], List}
+use mathlib.Core.List.{List, []}
 use Prim.Native.Nat.{ℕ, ◌+◌, ◌≤◌}
 use native.Mathlib.Omega.{arith}
 use lib.IntN.{ℤ}

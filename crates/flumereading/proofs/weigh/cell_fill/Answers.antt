@@ -12,9 +12,9 @@ use Rattle.lattice.specs.Cell.{fill_of}
 use Rattle.lattice.proofs.Bodies.{dense-positive}
 use Rattle.grid.specs.Step.{fill_for}
 use Rattle.record.proofs.ByFlag.{by-other}
-use Rattle.flumereading.proofs.weigh.cell_fill.Tie as tie
-use Rattle.flumereading.proofs.weigh.cell_fill.Reads as reads
 use Rattle.flumereading.proofs.weigh.cell_fill.Lts as lts
+use Rattle.flumereading.proofs.weigh.cell_fill.Reads as reads
+use Rattle.flumereading.proofs.weigh.cell_fill.Tie as tie
 use Rattle.flumereading.proofs.weigh.cell_fill.Goals as goal
 
 abbrev At-After-wide-then-flag-eq1 : Type 0

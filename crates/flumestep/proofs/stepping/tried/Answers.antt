@@ -18,8 +18,8 @@ At-After-level-h = lts.After-level tie.the-claims reads.Pre reads.Post
 abbrev At-After-mark_open : Type 0
 At-After-mark_open = lts.After-mark_open tie.the-claims reads.Pre reads.Post
 
-abbrev At-In-Through-2 : Type 0
-At-In-Through-2 = lts.Past-After-a2 tie.the-claims reads.Pre reads.Post
+abbrev At-In-Through : Type 0
+At-In-Through = lts.Past-After-known_told2 tie.the-claims reads.Pre reads.Post
 
 abbrev At-After-parts2-1 : Type 0
 At-After-parts2-1 = lts.After-parts2 tie.the-claims reads.Pre reads.Post
@@ -33,8 +33,8 @@ At-After-marks-2-1 = lts.After-marks2 tie.the-claims reads.Pre reads.Post
 abbrev At-After-marks-1 : Type 0
 At-After-marks-1 = lts.After-marks tie.the-claims reads.Pre reads.Post
 
-abbrev At-In-Stopped-2 : Type 0
-At-In-Stopped-2 = lts.Past-After-a tie.the-claims reads.Pre reads.Post
+abbrev At-In-Stopped : Type 0
+At-In-Stopped = lts.Past-After-known_told tie.the-claims reads.Pre reads.Post
 
 abbrev At-After-flags2-1 : Type 0
 At-After-flags2-1 = lts.After-flags2 tie.the-claims reads.Pre reads.Post
@@ -72,7 +72,7 @@ flowing9-a-requires c = let after-level : At-After-level-h = search in let after
 
 pub finished-requires : goal.finished-requires
 finished-requires c =
-    let after-a2 : At-In-Through-2 = search in let after-flowing9 : At-After-flowing9-a = search in
+    let after-a2 : At-In-Through = search in let after-flowing9 : At-After-flowing9-a = search in
     finishing (entry after-flowing9).requires.entered (levelled after-flowing9).level-h.ensures after-flowing9.flowing9-a.ensures _ _ after-a2.in-Through.is
 
 pub shape_of-flags2-in-Stopped : goal.shape_of-flags2-in-Stopped
@@ -88,7 +88,7 @@ pub shape_of-marks-in-Stopped : goal.shape_of-marks-in-Stopped
 shape_of-marks-in-Stopped c = let after-marks2 : At-After-marks-2-1 = search in let after-marks : At-After-marks-1 = search in after-marks2.marks-2-1.given ∙ after-marks.marks-1.given
 
 pub returns-in-Stopped : goal.returns-in-Stopped
-returns-in-Stopped c = let start : At-Start = search in let after-level : At-After-level-h = search in let after-flowing9 : At-After-flowing9-a = search in let after-a : At-In-Stopped-2 = search in stopped-tried start.requires.entered after-level.level-h.ensures after-flowing9.flowing9-a.ensures _ after-a.in-Stopped.is
+returns-in-Stopped c = let start : At-Start = search in let after-level : At-After-level-h = search in let after-flowing9 : At-After-flowing9-a = search in let after-a : At-In-Stopped = search in stopped-tried start.requires.entered after-level.level-h.ensures after-flowing9.flowing9-a.ensures _ after-a.in-Stopped.is
 
 pub shape_of-flags2-in-Through : goal.shape_of-flags2-in-Through
 shape_of-flags2-in-Through c = let after-flags2 : At-After-flags2-1 = search in after-flags2.flags2-1.given

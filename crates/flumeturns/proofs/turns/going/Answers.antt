@@ -37,9 +37,6 @@ At-After-put_all = lts.After-put_all tie.the-claims reads.Pre reads.Post goal.th
 abbrev At-In-loop-k : Type 0
 At-In-loop-k = lts.In-loop tie.the-claims reads.Pre reads.Post goal.the-invariant-loop-k goal.the-decreases-loop-k
 
-abbrev At-In-Refused-2 : Type 0
-At-In-Refused-2 = lts.Past-After-a tie.the-claims reads.Pre reads.Post goal.the-invariant-loop-k goal.the-decreases-loop-k
-
 abbrev At-After-loop-k : Type 0
 At-After-loop-k = lts.After-loop tie.the-claims reads.Pre reads.Post goal.the-invariant-loop-k goal.the-decreases-loop-k
 
@@ -117,7 +114,7 @@ shape_of-marks-in-Refused c = (refused c.before).turn-a.auto.1.1.1.1.1.1.1.1.1.1
 
 pub returns-in-Refused : goal.returns-in-Refused
 returns-in-Refused c =
-    let in-loop : At-In-loop-k = search in let after-a : At-In-Refused-2 = search in let t = refused c.before in
+    let in-loop : At-In-loop-k = search in let after-a : At-In-Refused = search in let t = refused c.before in
     going-stops _ _ _ _ _ _ in-loop.loop-k-test.true _ _ _ _ _ _ _ _ _ _ after-a.in-Refused.is (before-turn t).loop-k.invariant.1 t.turn-a.ensures
 
 pub overflow_add-k : goal.overflow_add-k

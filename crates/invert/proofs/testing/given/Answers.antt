@@ -12,10 +12,13 @@ use Rattle.invert.proofs.testing.given.Reads as reads
 use Rattle.invert.proofs.testing.given.Tie as tie
 use Rattle.invert.proofs.testing.given.Goals as goal
 
+abbrev At-Else-not-good_sides : Type 0
+At-Else-not-good_sides = lts.Else1 tie.the-claims reads.Pre reads.Post
+
 abbrev At-Else-not-set_fits : Type 0
 At-Else-not-set_fits = lts.Else2 tie.the-claims reads.Pre reads.Post
 
-sides-good : (c : goal.Else-not-good_sides) → sides_good c.args.s ≡ true
+sides-good : (c : At-Else-not-good_sides) → sides_good c.args.s ≡ true
 sides-good c = sym c.good_sides.ensures ∙ not-false _ c.if-not-good_sides.false-raw
 
 fits-good : (c : At-Else-not-set_fits) → let a = c.args in set_fits (cells_of a.s) a.l ≡ true

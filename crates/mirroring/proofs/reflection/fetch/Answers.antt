@@ -6,10 +6,15 @@ use lib.ListN.{get_or}
 use mir.Syntax.{w32}
 use mir.Facts.{to_z-of_z}
 use Rattle.mirroring.proofs.Made.{fetched-none, fetched-more}
+use Rattle.mirroring.proofs.reflection.fetch.Lts as lts
+use Rattle.mirroring.proofs.reflection.fetch.Reads as reads
 use Rattle.mirroring.proofs.reflection.fetch.Goals as goal
 
+abbrev At-In-loop-k : Type 0
+At-In-loop-k = lts.In-loop reads.Pre reads.Post goal.the-invariant-loop-k goal.the-decreases-loop-k
+
 -- the direction is one of the table's
-dir-low : (c : goal.In-loop-k) → get_or c.args.dirs.now c.loop-k.k 0 < c.args.width
+dir-low : (c : At-In-loop-k) → get_or c.args.dirs.now c.loop-k.k 0 < c.args.width
 dir-low c = c.requires.3.each c.loop-k.k c.loop-k-test.true
 
 pub loop-k-init : goal.loop-k-init

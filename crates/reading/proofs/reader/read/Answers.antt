@@ -1,7 +1,7 @@
 -- `reading::reader::read`: the sections, then the content, and only then the lent slices. Assumes nothing.
-use mathlib.Core.List.{[]}
 use mathlib.Core.Path.{◌≡◌, sym, ap, ◌∙◌}
 use mathlib.Core.Bool.{true}
+use mathlib.Core.List.{[]}
 use Prim.Native.Nat.{ℕ, ◌*◌}
 use lib.ListN.{length}
 use borrow.Author.Tests.{not-true, not-false}

@@ -12,15 +12,23 @@ use Rattle.lattice.specs.Cell.{fill_of}
 use Rattle.lattice.proofs.Bodies.{dense-positive}
 use Rattle.grid.specs.Step.{fill_for}
 use Rattle.record.proofs.ByFlag.{by-other}
+use Rattle.reading.proofs.weigh.cell_fill.Reads as reads
+use Rattle.reading.proofs.weigh.cell_fill.Lts as lts
+use Rattle.reading.proofs.weigh.cell_fill.Lts as lts
+use Rattle.reading.proofs.weigh.cell_fill.Reads as reads
+use Rattle.reading.proofs.weigh.cell_fill.Tie as tie
 use Rattle.reading.proofs.weigh.cell_fill.Goals as goal
 
+abbrev At-After-wide-then-flag-eq1 : Type 0
+At-After-wide-then-flag-eq1 = lts.After-wide2 tie.the-claims reads.Pre reads.Post
+
 -- the density as it passed the calls
-rho-is : (c : goal.After-wide-then-flag-eq1) → to_z w64 (of_z w64 c.wide-then-flag-eq1.result) ≡ c.args.rho
+rho-is : (c : At-After-wide-then-flag-eq1) → to_z w64 (of_z w64 c.wide-then-flag-eq1.result) ≡ c.args.rho
 rho-is c =
     let d = c in
     to_z-of_z w64 c.wide-then-flag-eq1.result (record { sfits = c.wide-then-flag-eq1.type_inv }) ∙ c.wide-then-flag-eq1.ensures ∙ to_z-of_z w32 d.args.rho d.ranges.rho
 
-mass-is : (c : goal.After-wide-then-flag-eq1) → to_z w64 (of_z w64 c.wide.result) ≡ c.args.m
+mass-is : (c : At-After-wide-then-flag-eq1) → to_z w64 (of_z w64 c.wide.result) ≡ c.args.m
 mass-is c =
     let d = c in
     to_z-of_z w64 c.wide.result (record { sfits = c.wide.type_inv }) ∙ c.wide.ensures ∙ to_z-of_z w32 d.args.m d.ranges.m

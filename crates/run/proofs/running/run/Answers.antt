@@ -6,8 +6,8 @@ use Rattle.run.proofs.running.run.Reads as reads
 use Rattle.run.proofs.running.run.Tie as tie
 use Rattle.run.proofs.running.run.Goals as goal
 
-abbrev At-In-Refused-2 : Type 0
-At-In-Refused-2 = lts.Past-After-a tie.the-claims reads.Pre reads.Post
+abbrev At-In-Refused : Type 0
+At-In-Refused = lts.Past-After-known_told tie.the-claims reads.Pre reads.Post
 
 abbrev At-After-admitted-a : Type 0
 At-After-admitted-a = lts.After-admitted tie.the-claims reads.Pre reads.Post
@@ -85,7 +85,7 @@ pub shape_of-marks-in-Refused : goal.shape_of-marks-in-Refused
 shape_of-marks-in-Refused c = refl
 
 pub returns-in-Refused : goal.returns-in-Refused
-returns-in-Refused c = let after-a : At-In-Refused-2 = search in let after-admitted : At-After-admitted-a = search in not-admitted _ _ _ _ _ _ _ _ (sym after-a.in-Refused.is ∙ after-admitted.admitted-a.ensures)
+returns-in-Refused c = let after-a : At-In-Refused = search in let after-admitted : At-After-admitted-a = search in not-admitted _ _ _ _ _ _ _ _ (sym after-a.in-Refused.is ∙ after-admitted.admitted-a.ensures)
 
 pub going-requires : goal.going-requires
 going-requires c = let after-enum-told : At-In_default = search in let after-admitted : At-After-admitted-a = search in run-stepping _ _ _ _ _ _ (sym after-admitted.admitted-a.ensures ∙ after-enum-told.in_default.is)

@@ -28,11 +28,14 @@ use Rattle.runs.proofs.running.run.Goals as goal
 abbrev At-Start : Type 0
 At-Start = lts.Start tie.the-claims reads.Pre reads.Post
 
+abbrev At-In_default : Type 0
+At-In_default = lts.Past-After-enum_told tie.the-claims reads.Pre reads.Post
+
 abbrev At-After-admitted-a : Type 0
 At-After-admitted-a = lts.After-admitted tie.the-claims reads.Pre reads.Post
 
-abbrev At-In-Refused-2 : Type 0
-At-In-Refused-2 = lts.Past-After-a tie.the-claims reads.Pre reads.Post
+abbrev At-In-Refused : Type 0
+At-In-Refused = lts.Past-After-known_told tie.the-claims reads.Pre reads.Post
 
 abbrev At-After-one-1 : Type 0
 At-After-one-1 = lts.After-put_carry-arg tie.the-claims reads.Pre reads.Post
@@ -92,7 +95,7 @@ abbrev second : At-Start → Held
 second w = held (lent w.args.flags2.now w.args.parts2.now w.args.masses2.now w.args.fills2.now w.args.carry2.now) (index w.args.words2.now w.args.count2.now)
 
 -- 9, 1 to 6 and 14 have passed
-module _ (d : goal.In_default) where
+module _ (d : At-In_default) where
   abbrev w : At-Start
   w = search
 
@@ -157,7 +160,7 @@ pub shape_of-marks-in-Refused : goal.shape_of-marks-in-Refused
 shape_of-marks-in-Refused c = refl
 
 pub returns-in-Refused : goal.returns-in-Refused
-returns-in-Refused c = let v : At-Start = search in let after-admitted : At-After-admitted-a = search in let after-a : At-In-Refused-2 = search in not-admitted v.args.s v.args.g (first v) (second v) v.args.marks.now v.args.steps (sym after-a.in-Refused.is ∙ after-admitted.admitted-a.ensures)
+returns-in-Refused c = let v : At-Start = search in let after-admitted : At-After-admitted-a = search in let after-a : At-In-Refused = search in not-admitted v.args.s v.args.g (first v) (second v) v.args.marks.now v.args.steps (sym after-a.in-Refused.is ∙ after-admitted.admitted-a.ensures)
 
 pub slice_copy_out-one : goal.slice_copy_out-one
 slice_copy_out-one c = omega (arith, three c)
@@ -170,7 +173,7 @@ slice_bounds-going-end-2 c = refl
 
 pub going-r-requires : goal.going-r-requires
 going-r-requires c =
-    let after-put-carry-arg : At-After-one-1 = search in let d : goal.In_default = search in
+    let after-put-carry-arg : At-After-one-1 = search in let d : At-In_default = search in
     may-both (first (w d)).set (second (w d)).set (ready d) (three d) (to_z-of_z (sfits_of {w = w64} after-put-carry-arg.one-1.given)) refl
 
 pub put_carry-requires : goal.put_carry-requires
@@ -178,12 +181,12 @@ put_carry-requires c = three (search)
 
 pub put_totals-requires : goal.put_totals-requires
 put_totals-requires c =
-    let d : goal.In_default = search in let after-carry : At-After-carry-1 = search in let v = w d in
+    let d : At-In_default = search in let after-carry : At-After-carry-1 = search in let v = w d in
     (after-carry.carry-1.given ∙ three d, carry2-length v.args.s v.args.g (first v) (second v) v.args.marks.now (passed d))
 
 pub make-requires : goal.make-requires
 make-requires c =
-    let after-flags : At-After-flags-1 = search in let d : goal.In_default = search in
+    let after-flags : At-After-flags-1 = search in let d : At-In_default = search in
     let v = w d in
     subst (λ (m : ℕ). Room m (first v).index) (sym (after-flags.flags-1.given ∙ (ready d).ready.sized.flags)) (first-index v.args.s v.args.g (first v) (second v) v.args.marks.now (passed d))
 

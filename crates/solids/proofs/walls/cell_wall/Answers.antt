@@ -7,13 +7,22 @@ use native.Mathlib.Omega.{arith}
 use borrow.Author.Tests.{lt-ltb, le-ltb}
 use Rattle.grid.specs.Grid.{at_end}
 use Rattle.solids.proofs.Spread.{plane, wall-x, wall-y, wall-z, wall-k}
+use Rattle.solids.proofs.walls.cell_wall.Lts as lts
+use Rattle.solids.proofs.walls.cell_wall.Reads as reads
+use Rattle.solids.proofs.walls.cell_wall.Tie as tie
 use Rattle.solids.proofs.walls.cell_wall.Goals as goal
 
+abbrev At-Else-at_end : Type 0
+At-Else-at_end = lts.Else1 tie.the-claims reads.Pre reads.Post tie.handed_clauses
+
+abbrev At-Else-at_end-2 : Type 0
+At-Else-at_end-2 = lts.Else2 tie.the-claims reads.Pre reads.Post tie.handed_clauses
+
 -- what each test showed
-inner-x : (c : goal.Else-at_end) → at_end c.args.s.nx (c.args.c % c.args.s.nx) ≡ false
+inner-x : (c : At-Else-at_end) → at_end c.args.s.nx (c.args.c % c.args.s.nx) ≡ false
 inner-x c = sym c.at_end.ensures ∙ c.if-at_end.false
 
-inner-y : (c : goal.Else-at_end-2) → at_end c.args.s.ny (c.args.c / c.args.s.nx % c.args.s.ny) ≡ false
+inner-y : (c : At-Else-at_end-2) → at_end c.args.s.ny (c.args.c / c.args.s.nx % c.args.s.ny) ≡ false
 inner-y c = sym c.at_end-2.ensures ∙ c.if-at_end-2.false
 
 pub overflow_mul-z : goal.overflow_mul-z

@@ -18,13 +18,16 @@ At-After-is_no_data = lts.After-is_no_data tie.the-claims reads.Pre reads.Post t
 abbrev At-After-centre : Type 0
 At-After-centre = lts.After-centre tie.the-claims reads.Pre reads.Post tie.handed_clauses
 
+abbrev At-After-twice : Type 0
+At-After-twice = lts.After-twice tie.the-claims reads.Pre reads.Post tie.handed_clauses
+
 told : (c : At-After-is_no_data) → c.is_no_data.result ≡ is_no_data c.args.v
 told c = c.is_no_data.ensures ∙ ap is_no_data (to_z-of_z c.ranges.v)
 
 centre-told : (c : At-After-centre) → to_z w64 (of_z w64 c.centre.result) ≡ c.centre.result
 centre-told c = to_z-of_z {w = w64} (record { sfits = c.centre.type_inv })
 
-twice-told : (c : goal.After-twice) → to_z w64 (of_z w64 c.twice.result) ≡ pos 2 *ℤ quot_z c.args.v (pos 1000)
+twice-told : (c : At-After-twice) → to_z w64 (of_z w64 c.twice.result) ≡ pos 2 *ℤ quot_z c.args.v (pos 1000)
 twice-told c =
     to_z-of_z {w = w64} (record { sfits = c.twice.type_inv }) ∙ c.twice.ensures
     ∙ ap (λ (x : ℤ). pos 2 *ℤ quot_z x (pos 1000)) (to_z-of_z c.ranges.v)

@@ -54,8 +54,8 @@ At-After-clear = lts.After-clear tie.the-claims reads.Pre reads.Post
 abbrev At-After-copied : Type 0
 At-After-copied = lts.After-copied tie.the-claims reads.Pre reads.Post
 
-abbrev At-In-Refused-2 : Type 0
-At-In-Refused-2 = lts.Past-After-a tie.the-claims reads.Pre reads.Post
+abbrev At-In-Refused : Type 0
+At-In-Refused = lts.Past-After-known_told tie.the-claims reads.Pre reads.Post
 
 pub tried-a-requires : goal.tried-a-requires
 tried-a-requires c = let start : At-Start = search in start.requires
@@ -83,7 +83,7 @@ shape_of-marks-in-Refused c = let after-marks2 : At-After-marks-in-Refused-1 = s
 
 pub returns-in-Refused : goal.returns-in-Refused
 returns-in-Refused c =
-    let after-clear : At-After-clear = search in let after-copied : At-After-copied = search in let after-a : At-In-Refused-2 = search in let after-tried : At-After-tried-a = search in
+    let after-clear : At-After-clear = search in let after-copied : At-After-copied = search in let after-a : At-In-Refused = search in let after-tried : At-After-tried-a = search in
     refused-advanced after-a.in-Refused.is after-tried.tried-a.ensures after-copied.copied.ensures after-clear.clear.ensures
 
 pub shape_of-flags2 : goal.shape_of-flags2

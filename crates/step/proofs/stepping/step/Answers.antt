@@ -19,8 +19,8 @@ At-In_default = lts.Past-After-enum_told tie.the-claims reads.Pre reads.Post
 abbrev At-After-entered-a : Type 0
 At-After-entered-a = lts.After-entered tie.the-claims reads.Pre reads.Post
 
-abbrev At-In-Refused-2 : Type 0
-At-In-Refused-2 = lts.Past-After-a tie.the-claims reads.Pre reads.Post
+abbrev At-In-Refused : Type 0
+At-In-Refused = lts.Past-After-known_told tie.the-claims reads.Pre reads.Post
 
 abbrev At-After-flags2-1 : Type 0
 At-After-flags2-1 = lts.After-flags2 tie.the-claims reads.Pre reads.Post
@@ -79,7 +79,7 @@ pub shape_of-marks-in-Refused : goal.shape_of-marks-in-Refused
 shape_of-marks-in-Refused c = refl
 
 pub returns-in-Refused : goal.returns-in-Refused
-returns-in-Refused c = let t : At-Start = search in let after-entered : At-After-entered-a = search in let after-a : At-In-Refused-2 = search in refused t.args.s t.args.g (first t) (second t) t.args.marks.now (sym after-a.in-Refused.is ∙ after-entered.entered-a.ensures)
+returns-in-Refused c = let t : At-Start = search in let after-entered : At-After-entered-a = search in let after-a : At-In-Refused = search in refused t.args.s t.args.g (first t) (second t) t.args.marks.now (sym after-a.in-Refused.is ∙ after-entered.entered-a.ensures)
 
 pub advanced-requires : goal.advanced-requires
 advanced-requires c = may (search)

@@ -21,8 +21,8 @@ At-Start = lts.Start tie.the-claims reads.Pre reads.Post
 abbrev At-After-mark_open : Type 0
 At-After-mark_open = lts.After-mark_open tie.the-claims reads.Pre reads.Post
 
-abbrev At-In-Through-2 : Type 0
-At-In-Through-2 = lts.Past-After-a2 tie.the-claims reads.Pre reads.Post
+abbrev At-In-Through : Type 0
+At-In-Through = lts.Past-After-known_told2 tie.the-claims reads.Pre reads.Post
 
 abbrev At-After-parts2-1 : Type 0
 At-After-parts2-1 = lts.After-parts2 tie.the-claims reads.Pre reads.Post
@@ -36,8 +36,8 @@ At-After-marks-2-1 = lts.After-marks2 tie.the-claims reads.Pre reads.Post
 abbrev At-After-marks-1 : Type 0
 At-After-marks-1 = lts.After-marks tie.the-claims reads.Pre reads.Post
 
-abbrev At-In-Stopped-2 : Type 0
-At-In-Stopped-2 = lts.Past-After-a tie.the-claims reads.Pre reads.Post
+abbrev At-In-Stopped : Type 0
+At-In-Stopped = lts.Past-After-known_told tie.the-claims reads.Pre reads.Post
 
 abbrev At-After-flags2-1 : Type 0
 At-After-flags2-1 = lts.After-flags2 tie.the-claims reads.Pre reads.Post
@@ -85,7 +85,7 @@ flowing-a-requires c =
     (ap length m ∙ length-tab (cells_of w.args.s) (opened_mark w.args.s w.args.flags.now w.args.marks.now)) m
 
 pub finished-requires : goal.finished-requires
-finished-requires c = let start : At-Start = search in let after-flowing : At-After-flowing-a = search in let after-a2 : At-In-Through-2 = search in finishing start.requires.stepping after-flowing.flowing-a.ensures _ _ after-a2.in-Through.is
+finished-requires c = let start : At-Start = search in let after-flowing : At-After-flowing-a = search in let after-a2 : At-In-Through = search in finishing start.requires.stepping after-flowing.flowing-a.ensures _ _ after-a2.in-Through.is
 
 pub shape_of-flags2-in-Stopped : goal.shape_of-flags2-in-Stopped
 shape_of-flags2-in-Stopped c = refl
@@ -100,7 +100,7 @@ pub shape_of-marks-in-Stopped : goal.shape_of-marks-in-Stopped
 shape_of-marks-in-Stopped c = let after-marks2 : At-After-marks-2-1 = search in let after-marks : At-After-marks-1 = search in after-marks2.marks-2-1.given ∙ after-marks.marks-1.given
 
 pub returns-in-Stopped : goal.returns-in-Stopped
-returns-in-Stopped c = let start : At-Start = search in let after-flowing : At-After-flowing-a = search in let after-a : At-In-Stopped-2 = search in stopped-tried start.requires.stepping after-flowing.flowing-a.ensures _ after-a.in-Stopped.is
+returns-in-Stopped c = let start : At-Start = search in let after-flowing : At-After-flowing-a = search in let after-a : At-In-Stopped = search in stopped-tried start.requires.stepping after-flowing.flowing-a.ensures _ after-a.in-Stopped.is
 
 pub shape_of-flags2-in-Through : goal.shape_of-flags2-in-Through
 shape_of-flags2-in-Through c = let after-flags2 : At-After-flags2-1 = search in after-flags2.flags2-1.given

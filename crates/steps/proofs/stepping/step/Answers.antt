@@ -30,8 +30,8 @@ At-In_default = lts.Past-After-enum_told tie.the-claims reads.Pre reads.Post
 abbrev At-After-entered-a : Type 0
 At-After-entered-a = lts.After-entered tie.the-claims reads.Pre reads.Post
 
-abbrev At-In-Refused-2 : Type 0
-At-In-Refused-2 = lts.Past-After-a tie.the-claims reads.Pre reads.Post
+abbrev At-In-Refused : Type 0
+At-In-Refused = lts.Past-After-known_told tie.the-claims reads.Pre reads.Post
 
 abbrev At-After-advanced-r : Type 0
 At-After-advanced-r = lts.After-advanced tie.the-claims reads.Pre reads.Post
@@ -111,7 +111,7 @@ pub shape_of-marks-in-Refused : goal.shape_of-marks-in-Refused
 shape_of-marks-in-Refused c = refl
 
 pub returns-in-Refused : goal.returns-in-Refused
-returns-in-Refused c = let v : At-Start = search in let after-entered : At-After-entered-a = search in let after-a : At-In-Refused-2 = search in refused v.args.s v.args.g (first v) (second v) v.args.marks.now (sym after-a.in-Refused.is ∙ after-entered.entered-a.ensures)
+returns-in-Refused c = let v : At-Start = search in let after-entered : At-After-entered-a = search in let after-a : At-In-Refused = search in refused v.args.s v.args.g (first v) (second v) v.args.marks.now (sym after-a.in-Refused.is ∙ after-entered.entered-a.ensures)
 
 pub slice_bounds-advanced-end : goal.slice_bounds-advanced-end
 slice_bounds-advanced-end c =

@@ -4,13 +4,18 @@ use native.Mathlib.Omega.{arith}
 use lib.ListN.{length}
 use Rattle.pools.specs.inner.Listing.{Emptied}
 use Rattle.pools.proofs.Listings.{emptied-none, emptied-more}
+use Rattle.tally.proofs.listing.empty.Lts as lts
+use Rattle.tally.proofs.listing.empty.Reads as reads
 use Rattle.tally.proofs.listing.empty.Goals as goal
 
+abbrev At-In-loop-k : Type 0
+At-In-loop-k = lts.In-loop reads.Pre reads.Post goal.the-invariant-loop-k goal.the-decreases-loop-k
+
 -- the entry is there
-in-counts : (c : goal.In-loop-k) → c.loop-k.k < length c.loop-k.counts
+in-counts : (c : At-In-loop-k) → c.loop-k.k < length c.loop-k.counts
 in-counts c = omega (arith, c.loop-k-test.true, c.requires.0, c.loop-k.invariant.1.counts-size)
 
-in-waters : (c : goal.In-loop-k) → c.loop-k.k < length c.loop-k.waters
+in-waters : (c : At-In-loop-k) → c.loop-k.k < length c.loop-k.waters
 in-waters c = omega (arith, c.loop-k-test.true, c.requires.1, c.loop-k.invariant.1.waters-size)
 
 pub loop-k-init : goal.loop-k-init

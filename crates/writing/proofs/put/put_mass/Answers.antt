@@ -11,7 +11,7 @@ use Rattle.record.specs.Bytes.{i32_of}
 use Rattle.grid.specs.State.{by_flag}
 use lib.Seq.{sets}
 use Prim.Native.Nat.{ℕ, zero, suc, ◌+◌, ◌*◌, ◌≤◌}
-use mathlib.Core.List.{[], List}
+use mathlib.Core.List.{List, []}
 use Rattle.writing.proofs.put.put_mass.Lts as lts
 use Rattle.writing.proofs.put.put_mass.Reads as reads
 use Rattle.writing.proofs.put.put_mass.Tie as tie
