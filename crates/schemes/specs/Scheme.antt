@@ -20,8 +20,8 @@ abbrev pub wall_at : List ℕ → ℕ → ℕ
 wall_at map c = get_or map c 1
 
 -- the scheme's own flag of a cell; what is no cell counts as empty
-abbrev pub field_own : List ℕ → ℕ → ℕ
-field_own own c = get_or own c 0
+abbrev pub own_at : List ℕ → ℕ → ℕ
+own_at own c = get_or own c 0
 
 -- the grid's flag: 3 where the map is 1, the own flag elsewhere; and back: 0 for every 3
 abbrev pub joined_flag : ℕ → ℕ → ℕ
@@ -31,7 +31,7 @@ abbrev pub own_flag : ℕ → ℕ
 own_flag f = cond (eqb f 3) 0 f
 
 unfoldable pub joined_flags : Sides → List ℕ → List ℕ → List ℕ
-joined_flags s map own = tab (cells_of s) (λ c. joined_flag (wall_at map c) (field_own own c))
+joined_flags s map own = tab (cells_of s) (λ c. joined_flag (wall_at map c) (own_at own c))
 
 unfoldable pub parted_flags : Sides → List ℕ → List ℕ
 parted_flags s flags = tab (cells_of s) (λ c. own_flag (get_or flags c 3))
@@ -47,7 +47,7 @@ parted s x = lent (parted_flags s x.flags) x.parts x.masses x.fills x.carry
 
 -- 4: the map's byte above 1, the own flag above 2, or an outer cell that is not wall in the map
 unfoldable pub mark_good : Sides → List ℕ → List ℕ → ℕ → Bool
-mark_good s map own c = leb (wall_at map c) 1 && leb (field_own own c) 2 && (not ((grid_of s).outer c) || eqb (wall_at map c) 1)
+mark_good s map own c = leb (wall_at map c) 1 && leb (own_at own c) 2 && (not ((grid_of s).outer c) || eqb (wall_at map c) 1)
 
 unfoldable pub bad_mark : Sides → List ℕ → List ℕ → ℕ
 bad_mark s map own = first (cells_of s) (λ c. not (mark_good s map own c))
@@ -58,7 +58,7 @@ bad_open s map a = bad_fluid 18 (grid_of s) (state_of 18 (joined s map a)).flag
 
 -- 6: another rule broken in the grid, or an own flag other than 0 at a wall; N for the carry alone
 unfoldable pub wet_wall : List ℕ → List ℕ → ℕ → Bool
-wet_wall map own c = eqb (wall_at map c) 1 && not (eqb (field_own own c) 0)
+wet_wall map own c = eqb (wall_at map c) 1 && not (eqb (own_at own c) 0)
 
 unfoldable pub bad_own : Sides → List ℕ → Lent → ℕ
 bad_own s map a =
