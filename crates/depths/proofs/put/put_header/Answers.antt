@@ -49,32 +49,32 @@ begin w = under-as under-begin (header_is w.args.s w.args.t [])
 all : (w : At-Start) → 0 + length (header_text w.args.s w.args.t []) ≤ length w.args.room.now
 all w = omega (arith, w.requires)
 
-columns : (c : At-After-put_cells-a) → let w = c in Left w.before.before.before.before.before (from_rows w.args.s w.args.t []) c.put_cells-a.new.0 c.put_cells-a.result
+columns : (c : At-After-put_cells-a) → let w = c in Left w.before.before.before.before.before (from_rows w.args.s w.args.t []) c.put_cells-a.new.room c.put_cells-a.result
 columns c =
     let w = c in
     line-more ncols (spell_of w.args.s.nx) (from_rows w.args.s w.args.t []) (begin w.before.before.before.before.before) c.put_cells-a.ensures
 
-rows : (c : At-After-put_cells-b) → let w = c in Left w.before.before.before.before.before.before.before.before.before.before.before (from_west w.args.s w.args.t []) c.put_cells-b.new.0 c.put_cells-b.result
+rows : (c : At-After-put_cells-b) → let w = c in Left w.before.before.before.before.before.before.before.before.before.before.before (from_west w.args.s w.args.t []) c.put_cells-b.new.room c.put_cells-b.result
 rows c =
     let p = c in
     let w = p in
     line-more nrows (spell_of w.args.s.ny) (from_west w.args.s w.args.t []) (columns p.before.before.before.before.before.before) c.put_cells-b.ensures
 
-west : (c : At-After-put_length-c) → let w = c in Left w.before.before.before.before.before.before.before.before.before.before.before.before.before.before.before.before.before.before (from_south w.args.s w.args.t []) c.put_length-c.new.0 c.put_length-c.result
+west : (c : At-After-put_length-c) → let w = c in Left w.before.before.before.before.before.before.before.before.before.before.before.before.before.before.before.before.before.before (from_south w.args.s w.args.t []) c.put_length-c.new.room c.put_length-c.result
 west c =
     let p = c in
     let w = p in
     line-more xllcorner (metres_of w.args.t.x) (from_south w.args.s w.args.t []) (rows p.before.before.before.before.before.before.before)
     (put_as c.put_length-c.ensures (ap (λ (z : ℤ). line_text xllcorner (metres_of z) []) (to_z-of_z {w = w64} (record { sfits = c.struct_told-1.given.1.0.1 }))))
 
-south : (c : At-After-put_length-d) → let p = c in let w = p in Left w.before.before.before.before.before.before.before.before.before.before.before.before.before.before.before.before.before.before.before.before.before.before.before.before.before (from_edge w.args.s w.args.t []) c.put_length-d.new.0 c.put_length-d.result
+south : (c : At-After-put_length-d) → let p = c in let w = p in Left w.before.before.before.before.before.before.before.before.before.before.before.before.before.before.before.before.before.before.before.before.before.before.before.before.before (from_edge w.args.s w.args.t []) c.put_length-d.new.room c.put_length-d.result
 south c =
     let p = c in
     let w = p in
     line-more yllcorner (metres_of w.args.t.y) (from_edge w.args.s w.args.t []) (west p.before.before.before.before.before.before.before)
     (put_as c.put_length-d.ensures (ap (λ (z : ℤ). line_text yllcorner (metres_of z) []) (to_z-of_z {w = w64} (record { sfits = c.struct_told-2-1.given.1.1.0.1 }))))
 
-edge : (c : At-After-put_length-e) → let q = c in let p = q in let w = p in Left w.before.before.before.before.before.before.before.before.before.before.before.before.before.before.before.before.before.before.before.before.before.before.before.before.before.before.before.before.before.before.before.before (last w.args.s w.args.t []) c.put_length-e.new.0 c.put_length-e.result
+edge : (c : At-After-put_length-e) → let q = c in let p = q in let w = p in Left w.before.before.before.before.before.before.before.before.before.before.before.before.before.before.before.before.before.before.before.before.before.before.before.before.before.before.before.before.before.before.before.before (last w.args.s w.args.t []) c.put_length-e.new.room c.put_length-e.result
 edge c =
     let q = c in
     let p = q in
@@ -83,7 +83,7 @@ edge c =
     (put_as c.put_length-e.ensures (ap (λ (z : ℤ). line_text cellsize (metres_of z) []) (to_z-of_z {w = w64} (record { sfits = c.struct_told-3-1.given.0.1 }))))
 
 -- the six lines are the header
-done : (c : At-After-put_bytes) → let w = c in Left w.before.before.before.before.before.before.before.before.before.before.before.before.before.before.before.before.before.before.before.before.before.before.before.before.before.before.before.before.before.before.before.before.before.before.before.before.before.before [] c.put_bytes.new.0 c.put_bytes.result
+done : (c : At-After-put_bytes) → let w = c in Left w.before.before.before.before.before.before.before.before.before.before.before.before.before.before.before.before.before.before.before.before.before.before.before.before.before.before.before.before.before.before.before.before.before.before.before.before.before.before [] c.put_bytes.new.room c.put_bytes.result
 done c = line-more NODATA-value no_data [] (edge c.before.before.before.before.before.before) c.put_bytes.ensures
 
 pub put_cells-a-requires : goal.put_cells-a-requires

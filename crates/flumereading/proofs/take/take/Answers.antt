@@ -83,7 +83,7 @@ module _ (c : At-After-interface_cells-i) where
 abbrev counted : At-After-load_parts → At-After-interface_cells-i
 counted c = c.before.before
 
-parts-so : (c : At-After-load_parts) → c.load_parts.new.1.1.1.0 ≡ state-parts (r (f (counted c)))
+parts-so : (c : At-After-load_parts) → c.load_parts.new.parts ≡ state-parts (r (f (counted c)))
 parts-so c =
     let i = counted c in
     c.load_parts.ensures ∙ parts-taken (r (f i)) (part (f i)) _ (flags-so (f i)) (count-so (f i)) (parts_from_lem i)
@@ -128,7 +128,7 @@ pub load_masses-requires : goal.load_masses-requires
 load_masses-requires c =
     let l = c in
     let g = f (counted l.before.before.before.before) in
-    let p = (d g).requires.1.1.1 in record { flags_in_bounds = omega (arith, interfaces-are (r g) (is g) (there g), masses-from g, (d g).requires.flume_sound.masses.inside); parts_len = l.load_parts.auto.1.1.1.0 ∙ p.0 ∙ ap (λ (k : ℕ). 9 * k) (is g ∙ sym (count-so g)); masses_len = p.1.0 ∙ is g ∙ sym (count-so g); fills_len = p.1.1.0 ∙ is g ∙ sym (count-so g); heavy = weighed (r g) (d g).requires.rec_value (part g) _ (flags-so g) (count-so g) (parts-so l.before.before.before.before) }
+    let p = (d g).requires in record { flags_in_bounds = omega (arith, interfaces-are (r g) (is g) (there g), masses-from g, (d g).requires.flume_sound.masses.inside); parts_len = l.load_parts.auto.parts ∙ p.parts_len ∙ ap (λ (k : ℕ). 9 * k) (is g ∙ sym (count-so g)); masses_len = p.masses_len ∙ is g ∙ sym (count-so g); fills_len = p.fills_len ∙ is g ∙ sym (count-so g); heavy = weighed (r g) (d g).requires.rec_value (part g) _ (flags-so g) (count-so g) (parts-so l.before.before.before.before) }
 
 pub i64_at-kept-requires : goal.i64_at-kept-requires
 i64_at-kept-requires c = let g = f (counted c.before.before.before.before.before.before.before.before) in omega (arith, (d g).requires.flume_sound.flags.inside)

@@ -27,6 +27,6 @@ returns c =
     let four = section 1 (i64_of a.carry ∷ []) in
     let upto-two = then-put l 0 12 one two put_one.put_sides.ensures put_two.put_settings.ensures refl in
     let upto-three = then-put l 0 32 (one ++ two) three upto-two put_three.put_origin.ensures refl in
-    let room = put_three.put_origin.new.0 in
+    let room = put_three.put_origin.new.room in
     let last = put_four.put_carry.ensures ∙ ap (λ (z : ℤ). sets room 52 (section 1 (i64_of z ∷ []))) (to_z-of_z w64 a.carry d.ranges.carry) in
     then-put l 0 52 (one ++ two ++ three) four upto-three last refl

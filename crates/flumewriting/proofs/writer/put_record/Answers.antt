@@ -24,7 +24,7 @@ small s {n} e k = omega (arith, few s e)
 pub put_cells-requires : goal.put_cells-requires
 put_cells-requires c =
     let d = c in
-    let p = d.requires.1.1 in record { w_bound = omega arith; flags_in_bounds = omega (arith, p.1.1.1, c.put_head.auto.0); flags_len_bound = small d.args.s d.requires.s_value p.0; parts_len = p.1.0 ∙ ap (λ (n : ℕ). 9 * n) (sym p.0); masses_len = p.1.1.0 ∙ sym p.0 }
+    record { w_bound = omega arith; flags_in_bounds = omega (arith, d.requires.flags_in_bounds, c.put_head.auto.room); flags_len_bound = small d.args.s d.requires.s_value d.requires.flags_len; parts_len = d.requires.parts_len ∙ ap (λ (n : ℕ). 9 * n) (sym d.requires.flags_len); masses_len = d.requires.masses_len ∙ sym d.requires.flags_len }
 
 pub returns : goal.returns
 returns c =

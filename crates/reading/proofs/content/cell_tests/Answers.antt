@@ -140,8 +140,8 @@ module _ (c : At-After-first_unfair-unfair) where
   abbrev bad : ℕ → Bool
   bad k = not (fair_at (r i) (flags_in (r i)) (end i + 4) (end i + 8 + 4 * i.interface_cells-i.result) k)
 
-  rules : (k : ℕ) → k < n → bad k ≡ not (cell_good d3q19 (state_in (r i)) k)
-  rules k h = ap not (sym (cell-fair (r i) (end i + 4) (end i + 8 + 4 * i.interface_cells-i.result) k (masses-here i) (parts-here i)))
+  rules-told : (k : ℕ) → k < n → bad k ≡ not (cell_good d3q19 (state_in (r i)) k)
+  rules-told k h = ap not (sym (cell-fair (r i) (end i + 4) (end i + 8 + 4 * i.interface_cells-i.result) k (masses-here i) (parts-here i)))
 
   found : c.first_unfair-unfair.result ≡ first n bad
   found =
@@ -181,7 +181,7 @@ module _ (c : At-Else-not-fair_carry) where
   -- what is left to answer is the totals'
   on-to-last : last u ≡ if_none (n u) 5 (place u) (six u)
   on-to-last =
-      let b = none-bad d3q19 (n u) (state_in (r (i u))) (bad u) (rules u) (fair (unfair c.before)) (sym (carry-is c.before) ∙ not-false _ c.if-not-fair_carry.false-raw) in
+      let b = none-bad d3q19 (n u) (state_in (r (i u))) (bad u) (rules-told u) (fair (unfair c.before)) (sym (carry-is c.before) ∙ not-false _ c.if-not-fair_carry.false-raw) in
       sym (skip (n u) 5 (place u) (six u) (shut u) ∙ skip (suc (n u)) 6 (bad_rule d3q19 (n u) (state_in (r (i u)))) (last u) (omega (arith, b)))
 
 totals-are : (c : At-After-good_totals) → let q = r (i (u (carried c))) in c.good_totals.result ≡ totals_good (poured_in q) (taken_in q)
@@ -249,7 +249,7 @@ returns-then-unfair-n c =
     let u = c in
     let e = found u.before.before in
     let h : first (n u.before.before) (bad u.before.before) < n u.before.before = omega (arith, e, cells_are (f (i u.before.before)).before, c.if-unfair-n.true) in
-    let b = bad-cell d3q19 (n u.before.before) (state_in (r (i u.before.before))) (bad u.before.before) (rules u.before.before) h in
+    let b = bad-cell d3q19 (n u.before.before) (state_in (r (i u.before.before))) (bad u.before.before) (rules-told u.before.before) h in
     ap (Refused 6) (e ∙ sym b)
     ∙ sym (skip (n u.before.before) 5 (place u.before.before) (six u.before.before) (shut u.before.before) ∙ stop (suc (n u.before.before)) 6 (bad_rule d3q19 (n u.before.before) (state_in (r (i u.before.before)))) (last u.before.before) (omega (arith, b, h)))
 
@@ -260,7 +260,7 @@ pub returns-then-not-fair_carry : goal.returns-then-not-fair_carry
 returns-then-not-fair_carry c =
     let v = unfair c.before.before in
     let u = v.before in
-    let b = bad-carry d3q19 (n u) (state_in (r (i u))) (bad u) (rules u) (fair v) (sym (carry-is c.before.before) ∙ not-true _ c.if-not-fair_carry.true-raw) in
+    let b = bad-carry d3q19 (n u) (state_in (r (i u))) (bad u) (rules-told u) (fair v) (sym (carry-is c.before.before) ∙ not-true _ c.if-not-fair_carry.true-raw) in
     ap (Refused 6) (cells_are (f (i u)).before ∙ sym b)
     ∙ sym (skip (n u) 5 (place u) (six u) (shut u) ∙ stop (suc (n u)) 6 (bad_rule d3q19 (n u) (state_in (r (i u)))) (last u) (omega (arith, b)))
 

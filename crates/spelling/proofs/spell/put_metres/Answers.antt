@@ -23,7 +23,7 @@ At-After-put_sign-whole = lts.After-put_sign tie.the-claims reads.Pre reads.Post
 size : (c : At-After-magnitude-m) → c.magnitude-m.result ≡ nat_abs c.args.z
 size c = c.magnitude-m.ensures ∙ ap nat_abs (to_z-of_z c.ranges.z)
 
-sign : (c : At-After-put_sign-whole) → Put c.args.room.now c.args.at (sign_of c.args.z) c.put_sign-whole.new.0 c.put_sign-whole.result
+sign : (c : At-After-put_sign-whole) → Put c.args.room.now c.args.at (sign_of c.args.z) c.put_sign-whole.new.room c.put_sign-whole.result
 sign c = sign-told c.put_sign-whole.ensures (to_z-of_z c.ranges.z)
 
 pub put_sign-whole-requires : goal.put_sign-whole-requires

@@ -11,7 +11,7 @@ pub put_count-requires : goal.put_count-requires
 put_count-requires c =
     let d = c in
     let s = d.args.flags.now in
-    record { at_in_bounds = omega (arith, d.requires.flags_in_bounds); n_bound = omega (arith, d.requires.1, c.interface_cells.ensures, interfaces-most (length s) (flag_of s)) }
+    record { at_in_bounds = omega (arith, d.requires.flags_in_bounds); n_bound = omega (arith, d.requires.flags_len_bound, c.interface_cells.ensures, interfaces-most (length s) (flag_of s)) }
 
 pub returns : goal.returns
 returns c =

@@ -27,7 +27,7 @@ returns c =
     let four = totals_bytes a.carry a.poured a.taken in
     let upto-two = then-put l 0 16 one two put_one.put_sides.ensures put_two.put_settings.ensures refl in
     let upto-three = then-put l 0 40 (one ++ two) three upto-two put_three.put_origin.ensures refl in
-    let room = put_three.put_origin.new.0 in
+    let room = put_three.put_origin.new.room in
     let last =
     put_four.put_totals.ensures
     ∙ ap (λ (z : ℤ). sets room 68 (totals_bytes z (to_z w64 (of_z w64 a.poured)) (to_z w64 (of_z w64 a.taken)))) (to_z-of_z w64 a.carry d.ranges.carry)

@@ -16,11 +16,11 @@ put_setting-requires-5 c =
       at_in_bounds = omega (
         arith,
         d.requires.in_bounds,
-        c.put_setting-4.auto.0,
-        c.put_setting-3.auto.0,
-        c.put_setting-2.auto.0,
-        c.put_setting.auto.0,
-        c.put_count.auto.0,
+        c.put_setting-4.auto.room,
+        c.put_setting-3.auto.room,
+        c.put_setting-2.auto.room,
+        c.put_setting.auto.room,
+        c.put_count.auto.room,
       );
       within = subst (λ (z : ℤ). Within z 2147483647) (sym (to_z-of_z w64 d.args.t.edge (record { sfits = c.struct_told-5-1.given.0.1 }))) d.requires.small.edge;
     }

@@ -44,7 +44,7 @@ loop-c-preserved c =
     )
 
 pub shape_of-room : goal.shape_of-room
-shape_of-room c = long c.before
+shape_of-room c = long c.before.before
 
 pub returns : goal.returns
 returns c =
