@@ -63,7 +63,7 @@ invert_flags-requires c =
     let else = c in
     let h = else.head-h.result in
     let small = subst (λ (n : ℕ). n ≤ 1000) (sym (edge-is c.before)) (edge-fits h.settings h.site (taken else.before.before.before.before.before.before.before).site) in
-    record { at_in_bounds = c.line_at-at.ensures.inside; sides_value = (taken else.before.before.before.before.before.before.before).sides; flags_len = (fitting else.before.before.before.before.before.before.before).flags-1; edge_bound = small }
+    record { at_in_bounds = c.line_at-at.ensures.inside; sides_value = (taken else.before.before.before.before.before.before.before).sides; flags_len = (fitting else.before.before.before.before.before.before.before).flags; edge_bound = small }
 
 pub returns : goal.returns
 returns c =

@@ -80,34 +80,34 @@ pub turn-a-requires : goal.turn-a-requires
 turn-a-requires c = let at-loop : At-At-loop-k = search in going-resuming _ _ _ _ _ _ _ _ _ _ at-loop.loop-k.invariant.1 at-loop.loop-k.invariant.0
 
 pub shape_of-flags-in-Refused : goal.shape_of-flags-in-Refused
-shape_of-flags-in-Refused c = (refused c.before).turn-a.auto.flags ∙ (first-same (before-turn (refused c.before))).flags-1
+shape_of-flags-in-Refused c = (refused c.before).turn-a.auto.flags ∙ (first-same (before-turn (refused c.before))).flags
 
 pub shape_of-parts-in-Refused : goal.shape_of-parts-in-Refused
-shape_of-parts-in-Refused c = (refused c.before).turn-a.auto.parts ∙ (first-same (before-turn (refused c.before))).parts-1
+shape_of-parts-in-Refused c = (refused c.before).turn-a.auto.parts ∙ (first-same (before-turn (refused c.before))).parts
 
 pub shape_of-masses-in-Refused : goal.shape_of-masses-in-Refused
-shape_of-masses-in-Refused c = (refused c.before).turn-a.auto.masses ∙ (first-same (before-turn (refused c.before))).masses-1
+shape_of-masses-in-Refused c = (refused c.before).turn-a.auto.masses ∙ (first-same (before-turn (refused c.before))).masses
 
 pub shape_of-fills-in-Refused : goal.shape_of-fills-in-Refused
-shape_of-fills-in-Refused c = (refused c.before).turn-a.auto.fills ∙ (first-same (before-turn (refused c.before))).fills-1
+shape_of-fills-in-Refused c = (refused c.before).turn-a.auto.fills ∙ (first-same (before-turn (refused c.before))).fills
 
 pub shape_of-carry-in-Refused : goal.shape_of-carry-in-Refused
-shape_of-carry-in-Refused c = (refused c.before).turn-a.auto.carry ∙ (first-same (before-turn (refused c.before))).carry-1
+shape_of-carry-in-Refused c = (refused c.before).turn-a.auto.carry ∙ (first-same (before-turn (refused c.before))).carry
 
 pub shape_of-flags2-in-Refused : goal.shape_of-flags2-in-Refused
-shape_of-flags2-in-Refused c = (refused c.before).turn-a.auto.flags2 ∙ (second-same (before-turn (refused c.before))).flags-1
+shape_of-flags2-in-Refused c = (refused c.before).turn-a.auto.flags2 ∙ (second-same (before-turn (refused c.before))).flags
 
 pub shape_of-parts2-in-Refused : goal.shape_of-parts2-in-Refused
-shape_of-parts2-in-Refused c = (refused c.before).turn-a.auto.parts2 ∙ (second-same (before-turn (refused c.before))).parts-1
+shape_of-parts2-in-Refused c = (refused c.before).turn-a.auto.parts2 ∙ (second-same (before-turn (refused c.before))).parts
 
 pub shape_of-masses2-in-Refused : goal.shape_of-masses2-in-Refused
-shape_of-masses2-in-Refused c = (refused c.before).turn-a.auto.masses2 ∙ (second-same (before-turn (refused c.before))).masses-1
+shape_of-masses2-in-Refused c = (refused c.before).turn-a.auto.masses2 ∙ (second-same (before-turn (refused c.before))).masses
 
 pub shape_of-fills2-in-Refused : goal.shape_of-fills2-in-Refused
-shape_of-fills2-in-Refused c = (refused c.before).turn-a.auto.fills2 ∙ (second-same (before-turn (refused c.before))).fills-1
+shape_of-fills2-in-Refused c = (refused c.before).turn-a.auto.fills2 ∙ (second-same (before-turn (refused c.before))).fills
 
 pub shape_of-carry2-in-Refused : goal.shape_of-carry2-in-Refused
-shape_of-carry2-in-Refused c = (refused c.before).turn-a.auto.carry2 ∙ (second-same (before-turn (refused c.before))).carry-1
+shape_of-carry2-in-Refused c = (refused c.before).turn-a.auto.carry2 ∙ (second-same (before-turn (refused c.before))).carry
 
 pub shape_of-marks-in-Refused : goal.shape_of-marks-in-Refused
 shape_of-marks-in-Refused c = (refused c.before).turn-a.auto.marks ∙ (before-turn (refused c.before)).loop-k.invariant.1.marked ∙ sym (entry (before-turn (refused c.before))).requires.marks-room
@@ -134,34 +134,34 @@ pub evened-requires : goal.evened-requires
 evened-requires c = let at-loop : At-At-loop-k = search in going-alike _ _ _ _ _ _ _ _ _ _ at-loop.loop-k.invariant.1
 
 pub shape_of-flags : goal.shape_of-flags
-shape_of-flags c = (ended c.before).evened.auto.flags ∙ (first-same (before-end (ended c.before))).flags-1
+shape_of-flags c = (ended c.before).evened.auto.flags ∙ (first-same (before-end (ended c.before))).flags
 
 pub shape_of-parts : goal.shape_of-parts
-shape_of-parts c = (ended c.before).evened.auto.parts ∙ (first-same (before-end (ended c.before))).parts-1
+shape_of-parts c = (ended c.before).evened.auto.parts ∙ (first-same (before-end (ended c.before))).parts
 
 pub shape_of-masses : goal.shape_of-masses
-shape_of-masses c = (ended c.before).evened.auto.masses ∙ (first-same (before-end (ended c.before))).masses-1
+shape_of-masses c = (ended c.before).evened.auto.masses ∙ (first-same (before-end (ended c.before))).masses
 
 pub shape_of-fills : goal.shape_of-fills
-shape_of-fills c = (ended c.before).evened.auto.fills ∙ (first-same (before-end (ended c.before))).fills-1
+shape_of-fills c = (ended c.before).evened.auto.fills ∙ (first-same (before-end (ended c.before))).fills
 
 pub shape_of-carry : goal.shape_of-carry
-shape_of-carry c = (ended c.before).evened.auto.carry ∙ (first-same (before-end (ended c.before))).carry-1
+shape_of-carry c = (ended c.before).evened.auto.carry ∙ (first-same (before-end (ended c.before))).carry
 
 pub shape_of-flags2 : goal.shape_of-flags2
-shape_of-flags2 c = (ended c.before).evened.auto.flags2 ∙ (second-same (before-end (ended c.before))).flags-1
+shape_of-flags2 c = (ended c.before).evened.auto.flags2 ∙ (second-same (before-end (ended c.before))).flags
 
 pub shape_of-parts2 : goal.shape_of-parts2
-shape_of-parts2 c = (ended c.before).evened.auto.parts2 ∙ (second-same (before-end (ended c.before))).parts-1
+shape_of-parts2 c = (ended c.before).evened.auto.parts2 ∙ (second-same (before-end (ended c.before))).parts
 
 pub shape_of-masses2 : goal.shape_of-masses2
-shape_of-masses2 c = (ended c.before).evened.auto.masses2 ∙ (second-same (before-end (ended c.before))).masses-1
+shape_of-masses2 c = (ended c.before).evened.auto.masses2 ∙ (second-same (before-end (ended c.before))).masses
 
 pub shape_of-fills2 : goal.shape_of-fills2
-shape_of-fills2 c = (ended c.before).evened.auto.fills2 ∙ (second-same (before-end (ended c.before))).fills-1
+shape_of-fills2 c = (ended c.before).evened.auto.fills2 ∙ (second-same (before-end (ended c.before))).fills
 
 pub shape_of-carry2 : goal.shape_of-carry2
-shape_of-carry2 c = (ended c.before).evened.auto.carry2 ∙ (second-same (before-end (ended c.before))).carry-1
+shape_of-carry2 c = (ended c.before).evened.auto.carry2 ∙ (second-same (before-end (ended c.before))).carry
 
 pub shape_of-marks : goal.shape_of-marks
 shape_of-marks c = c.clear.auto.marks ∙ (before-end (ended c.before)).loop-k.invariant.1.marked ∙ sym (entry (before-end (ended c.before))).requires.marks-room

@@ -44,7 +44,7 @@ pub overflow_add-result : goal.overflow_add-result
 overflow_add-result c = omega arith
 
 pub shape_of-room : goal.shape_of-room
-shape_of-room c = long c.before
+shape_of-room c = long c.before.before
 
 pub returns : goal.returns
 returns c =
