@@ -13,7 +13,7 @@ use Rattle.depths.proofs.depth.depth.Goals as goal
 pub summed-c-requires : goal.summed-c-requires
 summed-c-requires c =
     let p = c.requires in
-    record { in_column = flags-column p.0 p.1.0 p.1.1; in_column_2 = fills-column p.0 p.1.0 p.1.1; nz_bound = none-bad p.0 p.1.0 p.1.1 }
+    record { in_column = flags-column p.measured p.x_lt_nx p.y_lt_ny; in_column_2 = fills-column p.measured p.x_lt_nx p.y_lt_ny; nz_bound = none-bad p.measured p.x_lt_nx p.y_lt_ny }
 
 pub millimetres-requires : goal.millimetres-requires
 millimetres-requires c = record { sum_bound = c.summed-c.ensures.few; edge_bound = c.requires.measured.short }

@@ -7,6 +7,7 @@ use mir.Syntax.{w64}
 use mir.ValLaws.{to_z_pos}
 use Rattle.depths.proofs.depth.millimetres.Lts as lts
 use Rattle.depths.proofs.depth.millimetres.Reads as reads
+use Rattle.depths.proofs.depth.millimetres.Tie as tie
 use Rattle.depths.proofs.depth.millimetres.Goals as goal
 
 abbrev At-Else-solid : Type 0

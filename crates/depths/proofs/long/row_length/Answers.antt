@@ -1,3 +1,4 @@
+use Prim.Native.Nat.{ℕ}
 use borrow.Author.Rules.{sfits_of}
 use mathlib.Core.Path.{◌≡◌, ap, ◌∙◌}
 use Prim.Native.Nat.{◌+◌, ◌-◌}
@@ -10,11 +11,17 @@ use Rattle.grid.proofs.GoodSides.{good-sides}
 use Rattle.spelling.specs.Spelling.{whole_of}
 use Rattle.depths.specs.Map.{row_text}
 use Rattle.depths.proofs.Texts.{row-begin, row-step-long, row-none, row-most, whole-most}
-use Rattle.depths.proofs.long.row_length.Invariants.{row}
+use Rattle.depths.proofs.long.row_length.Invariants.{values}
 use Rattle.depths.proofs.long.row_length.Lts as lts
 use Rattle.depths.proofs.long.row_length.Reads as reads
 use Rattle.depths.proofs.long.row_length.Tie as tie
 use Rattle.depths.proofs.long.row_length.Goals as goal
+
+abbrev At-Start : Type 0
+At-Start = lts.Start tie.the-claims reads.Pre reads.Post goal.the-invariant-loop-x goal.the-decreases-loop-x tie.handed_clauses
+
+abbrev row : At-Start → ℕ → ℤ
+row w = let a = w.args in values a.s a.edge a.flags.now a.fills.now a.y
 
 abbrev At-After-whole_length : Type 0
 At-After-whole_length = lts.After-whole_length tie.the-claims reads.Pre reads.Post goal.the-invariant-loop-x goal.the-decreases-loop-x tie.handed_clauses

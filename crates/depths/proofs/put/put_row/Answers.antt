@@ -14,11 +14,17 @@ use Rattle.spelling.proofs.Putting.{put_as}
 use Rattle.depths.specs.Map.{behind, row_text}
 use Rattle.depths.proofs.Texts.{row-begin, row_step, row-none}
 use Rattle.depths.proofs.Storing.{under-begin, under-as, under_more, under-end, under-long, under-room}
-use Rattle.depths.proofs.put.put_row.Invariants.{row}
+use Rattle.depths.proofs.put.put_row.Invariants.{values}
 use Rattle.depths.proofs.put.put_row.Lts as lts
 use Rattle.depths.proofs.put.put_row.Reads as reads
 use Rattle.depths.proofs.put.put_row.Tie as tie
 use Rattle.depths.proofs.put.put_row.Goals as goal
+
+abbrev At-Start : Type 0
+At-Start = lts.Start tie.the-claims reads.Pre reads.Post goal.the-invariant-loop-x goal.the-decreases-loop-x tie.handed_clauses
+
+abbrev row : At-Start → ℕ → ℤ
+row w = let a = w.args in values a.s a.edge a.flags.now a.fills.now a.y
 
 abbrev At-After-depth-v : Type 0
 At-After-depth-v = lts.After-depth tie.the-claims reads.Pre reads.Post goal.the-invariant-loop-x goal.the-decreases-loop-x tie.handed_clauses

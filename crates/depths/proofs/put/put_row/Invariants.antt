@@ -11,9 +11,6 @@ use Rattle.depths.proofs.put.put_row.Given as goal
 abbrev pub values : Sides → ℕ → List ℕ → List ℕ → ℕ → ℕ → ℤ
 values s edge flags fills y x = depth_at s edge flags fills x y
 
-abbrev pub row : At-Start → ℕ → ℤ
-row w = let a = w.args in values a.s a.edge a.flags.now a.fills.now a.y
-
 abbrev pub invariant-loop-x : goal.invariant-loop-x
 invariant-loop-x l =
     (l.x ≤ l.nx) × Under (row_text (values l.s l.edge l.flags l.fills l.y) 0 l.nx) l.initial.room l.at (row_text (values l.s l.edge l.flags l.fills l.y) l.x (l.nx - l.x)) l.room l.p

@@ -136,8 +136,8 @@ module _ (c : At-After-first_unfair-unfair) where
   abbrev bad : ℕ → Bool
   bad k = not (fair_held d2q9 9 (r i) (flume_flags_in (r i)) (end i + 4) (end i + 8 + 4 * i.interface_cells-i.result) k)
 
-  rules : (k : ℕ) → k < n → bad k ≡ not (cell_good d2q9 (flume_state_in (r i)) k)
-  rules k h = ap not (sym (cell-fair (r i) (end i + 4) (end i + 8 + 4 * i.interface_cells-i.result) k (masses-here i) (parts-here i)))
+  rules-told : (k : ℕ) → k < n → bad k ≡ not (cell_good d2q9 (flume_state_in (r i)) k)
+  rules-told k h = ap not (sym (cell-fair (r i) (end i + 4) (end i + 8 + 4 * i.interface_cells-i.result) k (masses-here i) (parts-here i)))
 
   found : c.first_unfair-unfair.result ≡ first n bad
   found =
@@ -220,7 +220,7 @@ returns-then-unfair-n c =
     let u = c in
     let e = found u.before.before in
     let h : first (n u.before.before) (bad u.before.before) < n u.before.before = omega (arith, e, cells_are (f (i u.before.before)), c.if-unfair-n.true) in
-    let b = bad-cell d2q9 (n u.before.before) (flume_state_in (r (i u.before.before))) (bad u.before.before) (rules u.before.before) h in
+    let b = bad-cell d2q9 (n u.before.before) (flume_state_in (r (i u.before.before))) (bad u.before.before) (rules-told u.before.before) h in
     ap (Refused 6) (e ∙ sym b)
     ∙ sym (skip (n u.before.before) 5 (place u.before.before) (six u.before.before) (shut u.before.before) ∙ stop (suc (n u.before.before)) 6 (bad_rule d2q9 (n u.before.before) (flume_state_in (r (i u.before.before)))) Done (omega (arith, b, h)))
 
@@ -231,7 +231,7 @@ pub returns-then-not-fair_carry : goal.returns-then-not-fair_carry
 returns-then-not-fair_carry c =
     let v = unfair c.before.before in
     let u = v.before in
-    let b = bad-carry d2q9 (n u) (flume_state_in (r (i u))) (bad u) (rules u) (fair v) (sym (carry-is c.before.before) ∙ not-true _ c.if-not-fair_carry.true-raw) in
+    let b = bad-carry d2q9 (n u) (flume_state_in (r (i u))) (bad u) (rules-told u) (fair v) (sym (carry-is c.before.before) ∙ not-true _ c.if-not-fair_carry.true-raw) in
     ap (Refused 6) (cells_are (f (i u)) ∙ sym b)
     ∙ sym (skip (n u) 5 (place u) (six u) (shut u) ∙ stop (suc (n u)) 6 (bad_rule d2q9 (n u) (flume_state_in (r (i u)))) Done (omega (arith, b)))
 
@@ -239,5 +239,5 @@ pub returns : goal.returns
 returns c =
     let v = unfair c.before.before in
     let u = v.before in
-    let b = none-bad d2q9 (n u) (flume_state_in (r (i u))) (bad u) (rules u) (fair v) (sym (carry-is c.before.before) ∙ not-false _ c.if-not-fair_carry.false-raw) in
+    let b = none-bad d2q9 (n u) (flume_state_in (r (i u))) (bad u) (rules-told u) (fair v) (sym (carry-is c.before.before) ∙ not-false _ c.if-not-fair_carry.false-raw) in
     sym (skip (n u) 5 (place u) (six u) (shut u) ∙ skip (suc (n u)) 6 (bad_rule d2q9 (n u) (flume_state_in (r (i u)))) Done (omega (arith, b)))

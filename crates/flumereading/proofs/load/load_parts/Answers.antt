@@ -68,7 +68,7 @@ loop-m-init c =
     (omega arith, refl, omega arith, upto_zero (pos 0) (held a.rec.now a.flags.now a.from) a.parts.now)
 
 pub bounds-flags-m : goal.bounds-flags-m
-bounds-flags-m c = here c.before
+bounds-flags-m c = let h = c.loop-m-test.true in let e = c.loop-m.invariant.1 in let p = c.requires.parts_len in omega arith
 
 pub overflow_mul-k : goal.overflow_mul-k
 overflow_mul-k c = record { fits = omega arith }

@@ -38,14 +38,14 @@ returns-in-Refused c = let t = c in refused t.args.s (set t.before.before.before
 pub flood-n-requires : goal.flood-n-requires
 flood-n-requires c =
     let d = c in
-    (flagged (w d.before.before.before).args.s (set (w d.before.before.before)) (space (w d.before.before.before)) (pass d.before.before.before), (pass d.before.before.before).marks-1, (pass d.before.before.before).work-1)
+    (flagged (w d.before.before.before).args.s (set (w d.before.before.before)) (space (w d.before.before.before)) (pass d.before.before.before), (pass d.before.before.before).marks, (pass d.before.before.before).work)
 
 pub returns-then-counts-n : goal.returns-then-counts-n
 returns-then-counts-n c =
     let d = c in
     let f = c.flood-n.ensures in
     too_many (w d.before.before.before.before.before.before.before.before.before.before.before.before.before.before.before.before.before).args.s (set (w d.before.before.before.before.before.before.before.before.before.before.before.before.before.before.before.before.before)) (space (w d.before.before.before.before.before.before.before.before.before.before.before.before.before.before.before.before.before)) (pass d.before.before.before.before.before.before.before.before.before.before.before.before.before.before.before.before.before) (ok d.before.before.before.before.before.before.before.before.before.before.before.before.before.before.before.before.before) f.number_is c.if-counts-n.true
-    (cleared c.clear-then-counts-n.ensures (marks-size f)) (cleared c.clear.ensures (f.size ∙ (pass d.before.before.before.before.before.before.before.before.before.before.before.before.before.before.before.before.before).work-1))
+    (cleared c.clear-then-counts-n.ensures (marks-size f)) (cleared c.clear.ensures (f.size ∙ (pass d.before.before.before.before.before.before.before.before.before.before.before.before.before.before.before.before.before).work))
 
 pub tally-requires : goal.tally-requires
 tally-requires c =
@@ -56,4 +56,4 @@ pub returns : goal.returns
 returns c =
     let d = c in
     let f = c.flood-n.ensures in
-    accepted (w d.before.before.before.before.before.before.before.before.before.before.before.before.before.before.before.before.before.before.before).args.s (set (w d.before.before.before.before.before.before.before.before.before.before.before.before.before.before.before.before.before.before.before)) (space (w d.before.before.before.before.before.before.before.before.before.before.before.before.before.before.before.before.before.before.before)) (pass d.before.before.before.before.before.before.before.before.before.before.before.before.before.before.before.before.before.before.before) f c.if-counts-n.false (ok d.before.before.before.before.before.before.before.before.before.before.before.before.before.before.before.before.before.before.before) (cleared c.clear.ensures (f.size ∙ (pass d.before.before.before.before.before.before.before.before.before.before.before.before.before.before.before.before.before.before.before).work-1)) c.tally.ensures
+    accepted (w d.before.before.before.before.before.before.before.before.before.before.before.before.before.before.before.before.before.before.before).args.s (set (w d.before.before.before.before.before.before.before.before.before.before.before.before.before.before.before.before.before.before.before)) (space (w d.before.before.before.before.before.before.before.before.before.before.before.before.before.before.before.before.before.before.before)) (pass d.before.before.before.before.before.before.before.before.before.before.before.before.before.before.before.before.before.before.before) f c.if-counts-n.false (ok d.before.before.before.before.before.before.before.before.before.before.before.before.before.before.before.before.before.before.before) (cleared c.clear.ensures (f.size ∙ (pass d.before.before.before.before.before.before.before.before.before.before.before.before.before.before.before.before.before.before.before).work)) c.tally.ensures
