@@ -48,7 +48,7 @@ taken c =
     head-taken d.args.text.now d.args.nz d.args.oz d.args.g (lengths_of (set d.before.before.before.before.before.before.before.before) (shown d.before.before.before.before.before.before.before.before)) c.head-h.result (is-head c.before.before) (passes c)
 
 fitting : (c : At-Else-not-passed) → let d = c in Fit (cells_of c.head-h.result.sides) (lengths_of (set d.before.before.before.before.before.before.before.before) (shown d.before.before.before.before.before.before.before.before))
-fitting c = let d = c in fit (cells_of c.head-h.result.sides) (lengths_of (set d.before.before.before.before.before.before.before.before) (shown d.before.before.before.before.before.before.before.before)) (taken c).ranges
+fitting c = let d = c in fit (cells_of c.head-h.result.sides) (lengths_of (set d.before.before.before.before.before.before.before.before) (shown d.before.before.before.before.before.before.before.before)) (taken c).fits
 
 edge-is : (c : At-After-count_of) → c.count_of.result ≡ count_of c.head-h.result.site.edge
 edge-is c = rw (to_z-of_z {w = w64} (record { sfits = c.struct_told-1.given.0.1 })) at c.count_of.ensures
