@@ -1,7 +1,7 @@
 -- Amounts as the code makes them of a magnitude: by `n as i64`, and by `!((n - 1) as i64)` where a minus stands before it. Assumes nothing.
 use mathlib.Core.Path.{◌≡◌, refl, ap, ◌∙◌}
 use mathlib.Core.List.{List, [], ◌∷◌}
-use Prim.Native.Nat.{ℕ, suc, ◌-◌, ◌≤◌, ◌<◌}
+use Prim.Native.Nat.{ℕ, zero, suc, ◌-◌, ◌≤◌, ◌<◌}
 use native.Mathlib.Omega.{arith}
 use borrow.Author.Tests.{eq-eqb, ne_eqb}
 use lib.IntN.{pos, neg_ℤ}
@@ -21,6 +21,7 @@ pub plain : {n : ℕ} → n ≤ 9223372036854775807 → to_z w64 n ≡ pos n
 plain {n} h = to_z_pos w64 n (omega arith)
 
 pub minus : (n : ℕ) → 0 < n → n ≤ 9223372036854775808 → to_z w64 (18446744073709551615 - (n - 1)) ≡ neg_ℤ (pos n)
+minus zero p h = absurd (omega arith)
 minus (suc k) p h =
     let e : 18446744073709551615 - (suc k - 1) ≡ 18446744073709551616 - suc k = omega arith in
     ap (to_z w64) e ∙ to_z-neg w64 k (omega arith)

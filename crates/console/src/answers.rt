@@ -4,6 +4,7 @@ ghost use Rattle.grid.specs.Outcome.{accepted, number_of, place_of};
 
 use crate::line;
 use grid::Answer;
+use std::io;
 
 pub fn refused(a: Answer) -> bool
     ensures { result ≡ not (accepted a) }
@@ -33,6 +34,6 @@ fn place_of(a: Answer) -> usize
 }
 
 // Number and place, 0 0 if accepted.
-pub fn answered(text: &[u8], a: Answer) {
-    line::answer(text, number_of(a), place_of(a));
+pub fn answered(rt: &impl Print, text: &[u8], a: Answer) -> io::Result<()> {
+    line::answer(rt, text, number_of(a), place_of(a))
 }

@@ -1,31 +1,31 @@
 // Lines of text on standard output, word by word and number by number.
-use libc::STDOUT_FILENO;
+use std::io;
 use whole::magnitude;
 
-pub fn word(text: &[u8]) {
-    io::write_all(STDOUT_FILENO, text);
+pub fn word(rt: &impl Print, text: &[u8]) -> io::Result<()> {
+    rt.write_all(text)
 }
 
 // A space and a number of cells, a refusal's number or its place.
-pub fn count(n: usize) {
-    word(b" ");
-    io::print_decimal(STDOUT_FILENO, n as u64);
+pub fn count(rt: &impl Print, n: usize) -> io::Result<()> {
+    word(rt, b" ")?;
+    rt.print(n)
 }
 
 // A space and an amount, which may be negative.
-pub fn amount(x: i64) {
+pub fn amount(rt: &impl Print, x: i64) -> io::Result<()> {
     if x < 0 {
-        word(b" -");
+        word(rt, b" -")?;
     } else {
-        word(b" ");
+        word(rt, b" ")?;
     }
-    io::print_decimal(STDOUT_FILENO, magnitude(x));
+    rt.print(magnitude(x))
 }
 
 // A line's word and an answer's number and place, 0 0 if nothing was refused.
-pub fn answer(text: &[u8], number: u8, place: usize) {
-    word(text);
-    count(number as usize);
-    count(place);
-    word(b"\n");
+pub fn answer(rt: &impl Print, text: &[u8], number: u8, place: usize) -> io::Result<()> {
+    word(rt, text)?;
+    count(rt, number as usize)?;
+    count(rt, place)?;
+    word(rt, b"\n")
 }

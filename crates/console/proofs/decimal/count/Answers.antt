@@ -1,5 +1,4 @@
 use mathlib.Core.Path.{sym, ◌∙◌}
-use Prim.Native.Nat.{◌-◌}
 use native.Mathlib.Omega.{arith}
 use Rattle.console.proofs.Decimals.{none, begins, goes_on, stops, ends}
 use Rattle.console.proofs.decimal.count.Goals as goal
