@@ -1,7 +1,8 @@
-// What the programs share: how much room a record asks for, numbers as arguments spell them, and lines of text on standard output.
+// What the programs share: how much room a record asks for, arguments and the numbers that they spell, and lines of text.
 #![tactic(auto)]
 
 pub mod answers;
+pub mod arguments;
 pub mod decimal;
 pub mod line;
 pub mod room;

@@ -1,4 +1,4 @@
-// Lines of text on standard output, word by word and number by number.
+// Lines of text, word by word and number by number, on standard output or standard error: on that which is lent.
 use std::io;
 use whole::magnitude;
 

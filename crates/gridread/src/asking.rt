@@ -2,10 +2,11 @@
 ghost use Rattle.std.specs.Prelude.{◌≡◌, ◌+◌, ◌<◌};
 ghost use Rattle.gridread.specs.Asked.{numbers_after, width_of, can_be_read, place_asked, point_asked, depth_asked};
 
-use check::same;
+use console::arguments::arg;
 use console::decimal::Spelled;
 use console::signed::Signed;
 use console::{decimal, signed};
+use std::rt::Env;
 use tunnel::Point;
 
 // What is asked of a grid.
@@ -62,31 +63,26 @@ pub fn readable(r: Request) -> bool
 }
 
 // An argument that is missing or longer than the text leaves no text.
-fn word_at(i: usize) -> Word {
+fn word_at(rt: &impl Env, i: usize) -> Word {
     let mut text = [0u8; 64];
-    let n = os::arg(i, &mut text);
-    let word = &text[..n];
-    if same(word, b"place") {
-        return Word::Place;
+    let n = arg(rt, i, &mut text);
+    match &text[..n] {
+        b"place" => Word::Place,
+        b"point" => Word::Point,
+        b"depth" => Word::Depth,
+        _ => Word::Other,
     }
-    if same(word, b"point") {
-        return Word::Point;
-    }
-    if same(word, b"depth") {
-        return Word::Depth;
-    }
-    Word::Other
 }
 
-fn count_at(i: usize) -> Spelled {
+fn count_at(rt: &impl Env, i: usize) -> Spelled {
     let mut text = [0u8; 64];
-    let n = os::arg(i, &mut text);
+    let n = arg(rt, i, &mut text);
     decimal::count(&text[..n], 18446744073709551615)
 }
 
-fn amount_at(i: usize) -> Signed {
+fn amount_at(rt: &impl Env, i: usize) -> Signed {
     let mut text = [0u8; 64];
-    let n = os::arg(i, &mut text);
+    let n = arg(rt, i, &mut text);
     signed::amount(&text[..n])
 }
 
@@ -127,27 +123,31 @@ fn depth_asked(x: Spelled, y: Spelled) -> Request
 }
 
 // The request that begins at argument `at` of `count`.
-pub fn asked(at: usize, count: usize) -> Request
+pub fn asked(rt: &impl Env, at: usize, count: usize) -> Request
     requires { at < count }
     ensures { at + width_of result < count }
 {
-    let w = word_at(at);
+    let w = word_at(rt, at);
     if count - at <= numbers_after(w) {
         return Request::Unreadable;
     }
     match w {
-        Word::Place => place_asked(amount_at(at + 1), amount_at(at + 2), amount_at(at + 3)),
-        Word::Point => point_asked(count_at(at + 1)),
-        Word::Depth => depth_asked(count_at(at + 1), count_at(at + 2)),
+        Word::Place => place_asked(
+            amount_at(rt, at + 1),
+            amount_at(rt, at + 2),
+            amount_at(rt, at + 3),
+        ),
+        Word::Point => point_asked(count_at(rt, at + 1)),
+        Word::Depth => depth_asked(count_at(rt, at + 1), count_at(rt, at + 2)),
         Word::Other => Request::Unreadable,
     }
 }
 
 // Where the first request begins that cannot be read; past the arguments if there is none.
-pub fn first_unreadable(count: usize) -> usize {
+pub fn first_unreadable(rt: &impl Env, count: usize) -> usize {
     let mut at = 1;
     while at < count {
-        let r = asked(at, count);
+        let r = asked(rt, at, count);
         if !readable(r) {
             return at;
         }

@@ -16,58 +16,61 @@ mod asking;
 mod playing;
 mod telling;
 
+use console::arguments::{arg, arg_count};
+use console::line;
 use console::room::room;
-use libc::{STDERR_FILENO, STDIN_FILENO};
+use std::io;
+use std::io::Read;
+use std::rt::Env;
 
 // Room for 4,096 cells; a record of so many has at most 331,884 bytes, and one byte more shows that something follows.
-fn play(rec: &[u8], count: usize) {
+fn play(rt: &(impl Env + Print), rec: &[u8], count: usize) -> io::Result<()> {
     let n = room(rec, 4096);
     let mut parts = [0i32; 77824];
     let mut masses = [0i32; 4096];
     let mut fills = [0u32; 4096];
     let mut carry = [0i64; 3];
     playing::play(
+        rt,
         rec,
         count,
         &mut parts[..19 * n],
         &mut masses[..n],
         &mut fills[..n],
         &mut carry,
-    );
+    )
 }
 
 // How requests are written.
-fn usage() {
-    io::write_all(
-        STDERR_FILENO,
+fn usage(err: &impl Print) -> io::Result<()> {
+    line::word(
+        err,
         b"usage: gridread REQUEST... < record, each REQUEST one of: place X Y Z (whole millimetres), point C, depth X Y\n",
-    );
+    )
 }
 
 // The request at argument `at` cannot be read.
-fn complain(at: usize) {
+fn complain(rt: &impl Env, err: &impl Print, at: usize) -> io::Result<()> {
     let mut text = [0u8; 64];
-    let n = os::arg(at, &mut text);
-    io::write_all(STDERR_FILENO, b"gridread: the request at argument ");
-    io::print_decimal(STDERR_FILENO, at as u64);
-    io::write_all(STDERR_FILENO, b" cannot be read: ");
-    io::write_all(STDERR_FILENO, &text[..n]);
-    io::write_all(STDERR_FILENO, b"\n");
+    let n = arg(rt, at, &mut text);
+    line::word(err, b"gridread: the request at argument")?;
+    line::count(err, at)?;
+    line::word(err, b" cannot be read: ")?;
+    line::word(err, &text[..n])?;
+    line::word(err, b"\n")
 }
 
-fn main() {
-    let count = os::arg_count();
+fn main(rt: HostRuntime) -> io::Result<()> {
+    let count = arg_count(&rt);
     if count < 2 {
-        usage();
-        return;
+        return usage(&rt.stderr());
     }
-    let bad = asking::first_unreadable(count);
+    let bad = asking::first_unreadable(&rt, count);
     if bad < count {
-        complain(bad);
-        usage();
-        return;
+        complain(&rt, &rt.stderr(), bad)?;
+        return usage(&rt.stderr());
     }
-    let mut bytes = [0u8; 331885];
-    let got = io::read_full(STDIN_FILENO, &mut bytes);
-    play(&bytes[..got], count);
+    let mut bytes = Vec::new(rt.alloc());
+    rt.stdin().take(331885).read_to_end(&mut bytes)?;
+    play(&rt, &bytes, count)
 }

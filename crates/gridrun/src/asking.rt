@@ -1,9 +1,11 @@
 // How many steps the argument asks for.
+use console::arguments::arg;
 use console::decimal::{Spelled, count};
+use std::rt::Env;
 
 // K, a whole number below 2^32; an argument that is missing or longer than the text spells nothing.
-pub fn steps_asked() -> Spelled {
+pub fn steps_asked(rt: &impl Env) -> Spelled {
     let mut text = [0u8; 64];
-    let n = os::arg(1, &mut text);
+    let n = arg(rt, 1, &mut text);
     count(&text[..n], 4294967295)
 }

@@ -5,11 +5,13 @@ mod asking;
 mod playing;
 
 use console::decimal::Spelled;
+use console::line;
 use console::room::room;
-use libc::{STDERR_FILENO, STDIN_FILENO};
+use std::io;
+use std::io::Read;
 
 // Room for 4,096 cells; a record of so many has at most 331,884 bytes, and one byte more shows that something follows.
-fn play(rec: &[u8], steps: usize) {
+fn play(rt: &impl Print, rec: &[u8], steps: usize) -> io::Result<()> {
     let n = room(rec, 4096);
     let mut flags = [0u8; 4096];
     let mut parts = [0i32; 77824];
@@ -24,6 +26,7 @@ fn play(rec: &[u8], steps: usize) {
     let mut marks = [0u8; 4096];
     let mut space = [0u8; 331884];
     playing::play(
+        rt,
         rec,
         steps,
         &mut flags[..n],
@@ -38,18 +41,17 @@ fn play(rec: &[u8], steps: usize) {
         &mut carry2,
         &mut marks[..n],
         &mut space,
-    );
+    )
 }
 
-fn main() {
-    let Spelled::Number(steps) = asking::steps_asked() else {
-        io::write_all(
-            STDERR_FILENO,
+fn main(rt: HostRuntime) -> io::Result<()> {
+    let Spelled::Number(steps) = asking::steps_asked(&rt) else {
+        return line::word(
+            &rt.stderr(),
             b"gridrun: how many steps? usage: gridrun K, K a whole number below 4294967296\n",
         );
-        return;
     };
-    let mut bytes = [0u8; 331885];
-    let got = io::read_full(STDIN_FILENO, &mut bytes);
-    play(&bytes[..got], steps as usize);
+    let mut bytes = Vec::new(rt.alloc());
+    rt.stdin().take(331885).read_to_end(&mut bytes)?;
+    play(&rt, &bytes, steps as usize)
 }

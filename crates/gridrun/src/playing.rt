@@ -3,10 +3,10 @@ use console::answers::{answered, refused};
 use console::line;
 use grid::{Answer, Sides};
 use lattice::Settings;
-use libc::STDOUT_FILENO;
 use reading::reader;
 use record::{Site, flags};
 use run::running;
+use std::io;
 use writing::writer;
 
 // As many bytes as both have.
@@ -29,14 +29,15 @@ fn reached(a: Answer) -> bool {
     }
 }
 
-fn tell(count: usize, a: Answer) {
-    line::word(b"run");
-    line::count(count);
-    answered(b"", a);
+fn tell(rt: &impl Print, count: usize, a: Answer) -> io::Result<()> {
+    line::word(rt, b"run")?;
+    line::count(rt, count)?;
+    answered(rt, b"", a)
 }
 
 // The record of the state, where one was reached.
 fn save(
+    rt: &impl Print,
     is_reached: bool,
     s: Sides,
     g: Settings,
@@ -47,20 +48,21 @@ fn save(
     fills: &[u32],
     carry: &[i64],
     room: &mut [u8],
-) {
+) -> io::Result<()> {
     if !is_reached {
-        return;
+        return Ok(());
     }
     let written = writer::write(s, g, t, flags, parts, masses, fills, carry, room);
     let n = written.bytes;
     if n > room.len() {
-        return;
+        return Ok(());
     }
-    io::write_all(STDOUT_FILENO, &room[..n]);
+    line::word(rt, &room[..n])
 }
 
 // The run and its line; whether a state was reached. The run is lent the carry alone: poured and taken stay beside it.
 fn go(
+    rt: &impl Print,
     steps: usize,
     flags: &mut [u8],
     parts: &mut [i32],
@@ -75,9 +77,9 @@ fn go(
     marks: &mut [u8],
     s: Sides,
     g: Settings,
-) -> bool {
+) -> io::Result<bool> {
     if carry.len() == 0 {
-        return false;
+        return Ok(false);
     }
     let mut kept = [0i64; 1];
     kept[0] = carry[0];
@@ -87,12 +89,13 @@ fn go(
     );
     carry[0] = kept[0];
     let a = ran.answer;
-    tell(ran.count, a);
-    reached(a)
+    tell(rt, ran.count, a)?;
+    Ok(reached(a))
 }
 
 // The run from a set whose flags stand elsewhere, and the record where a state was reached.
 fn proceed(
+    rt: &impl Print,
     own: &[u8],
     steps: usize,
     flags: &mut [u8],
@@ -110,19 +113,20 @@ fn proceed(
     s: Sides,
     g: Settings,
     t: Site,
-) {
+) -> io::Result<()> {
     copy(own, flags);
     let is_reached = go(
-        steps, flags, parts, masses, fills, carry, flags2, parts2, masses2, fills2, carry2, marks,
-        s, g,
-    );
+        rt, steps, flags, parts, masses, fills, carry, flags2, parts2, masses2, fills2, carry2,
+        marks, s, g,
+    )?;
     save(
-        is_reached, s, g, t, flags, parts, masses, fills, carry, room,
-    );
+        rt, is_reached, s, g, t, flags, parts, masses, fills, carry, room,
+    )
 }
 
 // A refused record gives one line.
 pub fn play(
+    rt: &impl Print,
     rec: &[u8],
     steps: usize,
     flags: &mut [u8],
@@ -137,19 +141,18 @@ pub fn play(
     carry2: &mut [i64],
     marks: &mut [u8],
     room: &mut [u8],
-) {
+) -> io::Result<()> {
     let head = reader::read(rec, parts, masses, fills, carry);
     let read = head.answer;
     if refused(read) {
-        answered(b"record", read);
-        return;
+        return answered(rt, b"record", read);
     }
     let own = flags::flags_of(rec, head);
     let s = head.sides;
     let g = head.settings;
     let t = head.site;
     proceed(
-        own, steps, flags, parts, masses, fills, carry, flags2, parts2, masses2, fills2, carry2,
-        marks, room, s, g, t,
-    );
+        rt, own, steps, flags, parts, masses, fills, carry, flags2, parts2, masses2, fills2,
+        carry2, marks, room, s, g, t,
+    )
 }

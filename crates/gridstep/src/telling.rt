@@ -3,28 +3,28 @@ use console::answers::{answered, refused};
 use console::line;
 use counts::counting::Line;
 use lines::playing::Told;
+use std::io;
 
-fn state(text: &[u8], l: Line) {
-    line::word(text);
-    line::count(l.fluid);
-    line::count(l.interface);
-    line::count(l.empty);
-    line::count(l.wall);
-    line::amount(l.total);
-    line::amount(l.carry);
-    line::word(b"\n");
+fn state(rt: &impl Print, text: &[u8], l: Line) -> io::Result<()> {
+    line::word(rt, text)?;
+    line::count(rt, l.fluid)?;
+    line::count(rt, l.interface)?;
+    line::count(rt, l.empty)?;
+    line::count(rt, l.wall)?;
+    line::amount(rt, l.total)?;
+    line::amount(rt, l.carry)?;
+    line::word(rt, b"\n")
 }
 
-pub fn tell(t: Told) {
+pub fn tell(rt: &impl Print, t: Told) -> io::Result<()> {
     let read = t.read;
     if refused(read) {
-        answered(b"record", read);
-        return;
+        return answered(rt, b"record", read);
     }
     let before = t.before;
     let step = t.step;
     let after = t.after;
-    state(b"before", before);
-    answered(b"step", step);
-    state(b"after", after);
+    state(rt, b"before", before)?;
+    answered(rt, b"step", step)?;
+    state(rt, b"after", after)
 }
