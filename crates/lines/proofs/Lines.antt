@@ -1,6 +1,6 @@
 -- What the program tells is `told_of`: of a record read into slices of the room that is taken for it, and stepped into others of that room. Assumes nothing.
 use mathlib.Core.Path.{◌≡◌, refl, sym, ap, ◌∙◌}
-use mathlib.Core.Bool.{Bool, true, false, ◌&&◌, cond}
+use mathlib.Core.Bool.{Bool, true, false, cond}
 use mathlib.Core.List.{List}
 use Prim.Native.Nat.{ℕ, ◌*◌, ◌≤◌, ◌<◌}
 use borrow.Author.Tests.{leb-true, le-leb, lt-leb, eq-eqb}

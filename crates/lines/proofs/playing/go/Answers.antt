@@ -6,14 +6,11 @@ use Rattle.lines.proofs.Going.{went}
 use Rattle.lines.proofs.playing.go.Goals as goal
 
 pub slice_copy_out-counts : goal.slice_copy_out-counts
-slice_copy_out-counts c = omega (arith, c.carry2-1.given, c.requires.carry2_len)
+slice_copy_out-counts c = omega arith
 
 pub counts-after-requires : goal.counts-after-requires
-counts-after-requires c = omega (arith, c.masses2-1.given, c.requires.masses2_len_bound)
+counts-after-requires c = omega arith
 
 pub returns : goal.returns
 returns c =
-    let first = c in
-    let start = first in
-    went (get_or start.args.carry.now 0 (pos 0)) (record { sfits = first.counts-arg-1.given }) (record { sfits = c.alone-1.given })
-    first.counts-before.ensures c.step-step.ensures c.counts-after.ensures
+    went (get_or c.args.carry.now 0 (pos 0)) (record { sfits = omega arith }) (record { sfits = omega arith }) c.counts-before.ensures c.step-step.ensures c.counts-after.ensures

@@ -9,28 +9,27 @@ pub returns-then-refused : goal.returns-then-refused
 returns-then-refused c = refused-told _ _ _ _ c.read-head.ensures.head-is c.refused.ensures c.refuse.ensures c.if-refused.true
 
 pub go-requires : goal.go-requires
-go-requires c =
-    let read = c in
-    let start = read in
-    record { masses_len_bound = omega (arith, read.read-head.auto.1.1.0, start.requires.masses_len_bound); masses2_len_bound = start.requires.masses2_len_bound; carry_len = read.read-head.auto.1.1.1.1.0 ∙ start.requires.carry_len; carry2_len = start.requires.carry2_len }
+go-requires c = record {
+  masses_len_bound = omega arith;
+  masses2_len_bound = c.requires.masses2_len_bound;
+  carry_len = c.read-head.auto.carry ∙ c.requires.carry_len;
+  carry2_len = c.requires.carry2_len;
+}
 
 pub shape_of-parts : goal.shape_of-parts
-shape_of-parts c = c.read-head.auto.1.0
+shape_of-parts c = c.read-head.auto.parts
 
 pub shape_of-masses : goal.shape_of-masses
-shape_of-masses c = c.read-head.auto.1.1.0
+shape_of-masses c = c.read-head.auto.masses
 
 pub shape_of-fills : goal.shape_of-fills
-shape_of-fills c = c.read-head.auto.1.1.1.0
+shape_of-fills c = c.read-head.auto.fills
 
 pub shape_of-carry : goal.shape_of-carry
-shape_of-carry c = c.read-head.auto.1.1.1.1.0
+shape_of-carry c = c.read-head.auto.carry
 
 pub returns : goal.returns
 returns c =
-    let went = c in
-    let flags = c in
-    let read = c in
-    let h = read.read-head.ensures in
-    accepted-told _ _ _ _ h.head-is c.refused.ensures c.if-refused.false (handed _ _ _ _ h.head-is flags.flags_of-own.ensures).flags-are
-    h.parts_are h.masses-are h.fills-are h.carry-is went.go.ensures
+    let h = c.read-head.ensures in
+    accepted-told _ _ _ _ h.head-is c.refused.ensures c.if-refused.false (handed _ _ _ _ h.head-is c.flags_of-own.ensures).flags-are
+    h.parts_are h.masses-are h.fills-are h.carry-is c.go.ensures

@@ -1,6 +1,6 @@
 -- `lines::records::play` lends the parts of its room that the record asks for, and a record too long none. Assumes nothing.
-use mathlib.Core.Path.{refl, sym, ap, ◌∙◌, subst}
-use Prim.Native.Nat.{ℕ, ◌*◌, ◌≤◌}
+use mathlib.Core.Path.{refl, sym, ap, ◌∙◌}
+use Prim.Native.Nat.{ℕ, ◌*◌}
 use native.Mathlib.Omega.{arith}
 use lib.Seq.{length-take-le}
 use Rattle.lines.proofs.Rooms.{take-low}
@@ -35,26 +35,25 @@ pub slice_bounds-play-end-10 : goal.slice_bounds-play-end-10
 slice_bounds-play-end-10 c = sym (length-take-le _ _ (omega arith))
 
 pub play-requires : goal.play-requires
-play-requires c = record { masses_len_bound = take-low c.room-n.result _ 862 (omega arith) (omega arith); masses2_len_bound = subst (λ (k : ℕ). k ≤ 862) (slice_bounds-play-end-7 c.before.before.before.before) (omega arith); carry_len = refl; carry2_len = refl }
+play-requires c = record {
+  masses_len_bound = take-low c.room-n.result _ 862 (omega arith) (omega arith);
+  masses2_len_bound = take-low c.room-n.result _ 862 (omega arith) (omega arith);
+  carry_len = refl;
+  carry2_len = refl;
+}
 
 pub returns : goal.returns
 returns c =
-    let m = c in
-    let room = m.room-n.ensures.value in
+    let room = c.room-n.ensures.value in
     let parts = ap (λ (n : ℕ). 19 * n) room in
     c.play.ensures
     ∙ told_is _ _ _ _ (omega (arith, c.if-rec-gt65536.false))
+    (record { parts = length-take-le _ _ (omega arith) ∙ parts; masses = length-take-le _ _ (omega arith) ∙ room; fills = length-take-le _ _ (omega arith) ∙ room; carry = refl })
     (record {
-      parts = sym (slice_bounds-play-end m.before.before.before.before.before.before.before.before.before.before) ∙ parts;
-      masses = sym (slice_bounds-play-end-2 m.before.before.before.before.before.before.before.before.before) ∙ room;
-      fills = sym (slice_bounds-play-end-3 m.before.before.before.before.before.before.before.before) ∙ room;
+      flags = length-take-le _ _ (omega arith) ∙ room;
+      parts = length-take-le _ _ (omega arith) ∙ parts;
+      masses = length-take-le _ _ (omega arith) ∙ room;
+      fills = length-take-le _ _ (omega arith) ∙ room;
       carry = refl;
-    })
-    (record {
-      flags = sym (slice_bounds-play-end-5 m.before.before.before.before.before.before) ∙ room;
-      parts = sym (slice_bounds-play-end-6 m.before.before.before.before.before) ∙ parts;
-      masses = sym (slice_bounds-play-end-7 m.before.before.before.before) ∙ room;
-      fills = sym (slice_bounds-play-end-8 m.before.before.before) ∙ room;
-      carry = refl;
-      marked = sym (slice_bounds-play-end-10 m.before) ∙ room;
+      marked = length-take-le _ _ (omega arith) ∙ room;
     })
