@@ -6,9 +6,9 @@ use lib.ListN.{length}
 use borrow.Author.Tests.{le-leb, lt-leb}
 use Rattle.console.specs.Room.{low_cells, room_for}
 
-pub room-short : (r : List ℕ) (most : ℕ) → length r < 16 → 0 ≡ room_for r most
+pub room_short : (r : List ℕ) (most : ℕ) → length r < 16 → 0 ≡ room_for r most
 unfolding room_for
-room-short r most h = simp (lt-leb 16 (length r) h)
+room_short r most h = simp (lt-leb 16 (length r) h)
 
 pub room-over : (r : List ℕ) (most n : ℕ) → 16 ≤ length r → n ≡ low_cells r → most < n → 0 ≡ room_for r most
 unfolding room_for

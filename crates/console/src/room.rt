@@ -10,6 +10,7 @@ fn product(x: u8, y: u8, z: u8) -> usize
 
 // N by the lowest byte of each side, which is the side itself in any record that passes test 1; 0 where
 // the sides are cut short or N is above `most`, so that the reader finds its slices too short and says so.
+#[tactic(auto, using(crate::proofs::Rooms::room_short))]
 pub fn room(rec: &[u8], most: usize) -> usize
     ensures value { result ≡ room_for rec.now most }
     ensures upper_bound { result ≤ most }

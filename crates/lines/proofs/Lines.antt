@@ -35,9 +35,9 @@ unfolding lengths_good
 sized n b f p m i c = rw (eq-eqb _ _ f, eq-eqb _ _ p, eq-eqb _ _ m, eq-eqb _ _ i, eq-eqb _ _ c) refl
 
 -- too many bytes
-pub told-long : (r : List ℕ) → 65536 < length r → refusal (Refused 10 65536) ≡ told_of r
+pub told_long : (r : List ℕ) → 65536 < length r → refusal (Refused 10 65536) ≡ told_of r
 unfolding told_of record_answer
-told-long r h = rw (lt-leb (length r) 65536 h) refl
+told_long r h = rw (lt-leb (length r) 65536 h) refl
 
 module _ (r : List ℕ) (a b : Lent) (marks : List ℕ) (few : length r ≤ 65536) (roomy : Roomy r 862 a) (second : Second r 862 b marks) where
   answer-is : read_answer r a ≡ record_answer r

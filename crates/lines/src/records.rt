@@ -10,6 +10,7 @@ use grid::Answer;
 // What is told of the bytes of a record, however many. Room for 862 cells, as document 01 fixes it: 65,536 bytes over the 76 of a cell's parts, rounded
 // down. A record that is all interface has 92 + 81N bytes, 108 + 81N with three numbers in section 4, so that 807 cells fit; walls and empty cells take
 // a byte each, and a record of more than 862 cells is refused with 2, because the reader finds its slices too short.
+#[tactic(auto, using(crate::proofs::Lines::told_long))]
 pub fn play(rec: &[u8]) -> Told
     ensures { result ≡ told_of rec.now }
 {

@@ -1,11 +1,8 @@
 -- `console::room::room` finds the room by three bytes. Assumes nothing.
 use native.Mathlib.Omega.{arith}
 use Rattle.console.specs.Room.{low_cells}
-use Rattle.console.proofs.Rooms.{room-short, room-over, room-enough}
+use Rattle.console.proofs.Rooms.{room-over, room-enough}
 use Rattle.console.proofs.room.room.Goals as goal
-
-pub returns-then-rec-lt16 : goal.returns-then-rec-lt16
-returns-then-rec-lt16 c = record { value = room-short _ _ c.if-rec-lt16.true; upper_bound = omega arith }
 
 pub returns-then-n-most : goal.returns-then-n-most
 unfolding low_cells

@@ -4,11 +4,8 @@ use Prim.Native.Nat.{ℕ, ◌*◌}
 use native.Mathlib.Omega.{arith}
 use lib.Seq.{length-take-le}
 use Rattle.lines.proofs.Rooms.{take-low}
-use Rattle.lines.proofs.Lines.{told-long, told_is}
+use Rattle.lines.proofs.Lines.{told_is}
 use Rattle.lines.proofs.records.play.Goals as goal
-
-pub returns-then-rec-gt65536 : goal.returns-then-rec-gt65536
-returns-then-rec-gt65536 c = c.refuse.ensures ∙ told-long _ c.if-rec-gt65536.true
 
 pub slice_bounds-play-end : goal.slice_bounds-play-end
 slice_bounds-play-end c = sym (length-take-le _ _ (omega arith))
@@ -47,7 +44,7 @@ returns c =
     let room = c.room-n.ensures.value in
     let parts = ap (λ (n : ℕ). 19 * n) room in
     c.play.ensures
-    ∙ told_is _ _ _ _ (omega (arith, c.if-rec-gt65536.false))
+    ∙ told_is _ _ _ _ (omega arith)
     (record { parts = length-take-le _ _ (omega arith) ∙ parts; masses = length-take-le _ _ (omega arith) ∙ room; fills = length-take-le _ _ (omega arith) ∙ room; carry = refl })
     (record {
       flags = length-take-le _ _ (omega arith) ∙ room;
