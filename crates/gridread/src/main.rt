@@ -17,10 +17,10 @@ mod playing;
 mod telling;
 
 use console::arguments::{arg, arg_count};
+use console::input::read_full;
 use console::line;
 use console::room::room;
 use std::io;
-use std::io::Read;
 use std::rt::Env;
 
 // Room for 4,096 cells; a record of so many has at most 331,884 bytes, and one byte more shows that something follows.
@@ -70,7 +70,7 @@ fn main(rt: HostRuntime) -> io::Result<()> {
         complain(&rt, &rt.stderr(), bad)?;
         return usage(&rt.stderr());
     }
-    let mut bytes = Vec::new(rt.alloc());
-    rt.stdin().take(331885).read_to_end(&mut bytes)?;
-    play(&rt, &bytes, count)
+    let mut bytes = [0u8; 331885];
+    let got = read_full(&mut rt.stdin(), &mut bytes)?;
+    play(&rt, &bytes[..got], count)
 }

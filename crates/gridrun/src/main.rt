@@ -5,10 +5,10 @@ mod asking;
 mod playing;
 
 use console::decimal::Spelled;
+use console::input::read_full;
 use console::line;
 use console::room::room;
 use std::io;
-use std::io::Read;
 
 // Room for 4,096 cells; a record of so many has at most 331,884 bytes, and one byte more shows that something follows.
 fn play(rt: &impl Print, rec: &[u8], steps: usize) -> io::Result<()> {
@@ -51,7 +51,7 @@ fn main(rt: HostRuntime) -> io::Result<()> {
             b"gridrun: how many steps? usage: gridrun K, K a whole number below 4294967296\n",
         );
     };
-    let mut bytes = Vec::new(rt.alloc());
-    rt.stdin().take(331885).read_to_end(&mut bytes)?;
-    play(&rt, &bytes, steps as usize)
+    let mut bytes = [0u8; 331885];
+    let got = read_full(&mut rt.stdin(), &mut bytes)?;
+    play(&rt, &bytes[..got], steps as usize)
 }

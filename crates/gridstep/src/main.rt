@@ -3,13 +3,13 @@
 
 mod telling;
 
+use console::input::read_full;
 use lines::records::play;
 use std::io;
-use std::io::Read;
 
 // One byte more than a record may have is read, so that one too long is known.
 fn main(rt: HostRuntime) -> io::Result<()> {
-    let mut bytes = Vec::new(rt.alloc());
-    rt.stdin().take(65537).read_to_end(&mut bytes)?;
-    telling::tell(&rt, play(&bytes))
+    let mut bytes = [0u8; 65537];
+    let got = read_full(&mut rt.stdin(), &mut bytes)?;
+    telling::tell(&rt, play(&bytes[..got]))
 }
