@@ -3,7 +3,6 @@ use mathlib.Core.Path.{◌≡◌}
 use Prim.Native.Nat.{◌*◌, ◌-◌, ◌≤◌}
 use lib.IntN.{nat_abs}
 use lib.ListN.{length}
-use Rattle.whole.specs.Fold.{sum}
 use Rattle.counts.proofs.Addends.{mass_in}
 use Rattle.counts.proofs.counting.mass_sum.Given as goal
 
