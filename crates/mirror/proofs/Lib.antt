@@ -16,3 +16,4 @@ pub mod Many
 pub mod Flume
 pub mod Case
 pub mod Owned
+pub mod OwnedSteps

@@ -35,7 +35,7 @@ use Rattle.mirror.proofs.Turned.{turn-square, turn_twice}
 use Rattle.mirror.proofs.Cells.{grid-mirror}
 use Rattle.mirror.proofs.Rules.{good-too}
 use Rattle.mirror.proofs.Sets.{set-reflects, sets-reflect, set_twice, exact}
-use Rattle.mirror.proofs.Owned as owned
+use Rattle.mirror.proofs.OwnedSteps as owned
 use Rattle.mirror.proofs.Stepped.{mirror-holds}
 
 abbrev pub Claim : Type 0

@@ -2,25 +2,18 @@
 -- Assumes nothing.
 use mathlib.Core.Path.{◌≡◌, refl, sym, ap, ap₂, ◌∙◌}
 use mathlib.Core.Bool.{Bool, true, false}
-use Prim.Native.Nat.{ℕ, zero, suc, ◌*◌, ◌≤◌, ◌<◌}
+use Prim.Native.Nat.{ℕ, zero, suc, ◌*◌, ◌≤◌}
 use native.Mathlib.Omega.{arith}
 use lib.IntN.{ℤ, pos, nat_abs, ◌-ℤ◌, ◌*ℤ◌}
 use Rattle.whole.specs.laws.Bounds.{abs_neg}
 use Rattle.whole.specs.Fold.{Dir}
 use Rattle.whole.specs.laws.Sums.{sum-cong}
 use Rattle.lattice.specs.Lattice.{V3, Lattice}
-use Rattle.lattice.proofs.Paired.{Paired}
-use Rattle.grid.specs.Grid.{Grid}
-use Rattle.grid.specs.State.{State}
-use Rattle.grid.specs.Mode.{own_at, relax_in, before}
-use Rattle.grid.specs.Demands.{scene}
-use Rattle.grid.proofs.Laid.{Laid}
 use Rattle.turbulence.specs.Turbulence.{component, beyond, stress, square, tension, own, own_relaxation}
 use Rattle.turbulence.proofs.Tensor.{tension-entries}
-use Rattle.mirror.specs.Mirror.{Axes, turn, reflect, Turns, Mirror, Reflection, Reflects}
+use Rattle.mirror.specs.Mirror.{Axes, turn, reflect, Turns}
 use Rattle.mirror.proofs.Turned.{turn-out, turn-front, turn-sum}
 use Rattle.mirror.proofs.Permuted.{dirs-alike, equilibrium-alike}
-use Rattle.mirror.proofs.Stages.{streamed-alike, density-new, momentum-new}
 
 -- whether component a changes its sign
 unfoldable axis_of : Axes → ℕ → Bool
@@ -93,27 +86,3 @@ module _ (L : Lattice) (t : Axes) (π : ℕ → ℕ) (m : Turns L t π) where
   own-alike ρ ρ' j j' p f f' r e same =
       ap (λ (u : ℕ). pos (own (nat_abs p) u))
       (tension-alike (beyond L ρ j f) (beyond L ρ' j' f') (λ i d. ap₂ (λ (x y : ℤ). x -ℤ y) (same i d.most) (equilibrium-alike L t π m ρ ρ' j j' r e i d)))
-
--- in a step of the reflected state it is that of the reflected cell
-module _ (L : Lattice) (G : Grid) (M : Mirror) (paired : Paired L) (laid : Laid L G) (m : Reflection L G M)
-    (s t : State) (same : Reflects M L.q G.cells s t) (g : V3) (p p' : ℕ → ℤ) where
-  pub own-goes : (plain : ℤ) (c : ℕ) → c < G.cells → G.outer c ≡ false
-      → own_at (scene L G t (reflect M.axes g) p') plain c ≡ own_at (scene L G s g p) plain (M.cell c)
-  unfolding own_at
-  own-goes plain c h o =
-      own-alike L M.axes M.dir m.turns _ _ _ _ plain _ _ (density-new L G M paired laid m s t same g p p' c h o)
-      (momentum-new L G M paired laid m s t same g p p' c h o) (streamed-alike L G M paired laid m s t same g p p' c h o)
-
--- what own p turns on: no masses and no carry
-abbrev bare : State → State
-bare s = record { flag = s.flag; part = s.part; mass = λ c. pos 0; fill = s.fill; carry = pos 0 }
-
--- in either mode the reflected cell's relaxation is the cell's
-module _ (L : Lattice) (G : Grid) (M : Mirror) (paired : Paired L) (laid : Laid L G) (m : Reflection L G M) (s t : State) (same : Reflects M L.q G.cells s t) (g : V3) where
-  bare-too : Reflects M L.q G.cells (bare s) (bare t)
-  bare-too = record { flags = same.flags; parts = same.parts; masses = λ c h. refl; fills = same.fills; carries = refl }
-
-  pub relax-goes : (mode : Bool) (p : ℤ) (c : ℕ) → c < G.cells → G.outer c ≡ false
-      → relax_in mode (before L G t.flag t.part t.fill (reflect M.axes g)) p c ≡ relax_in mode (before L G s.flag s.part s.fill g) p (M.cell c)
-  relax-goes false p c h o = refl
-  relax-goes true p c h o = own-goes L G M paired laid m (bare s) (bare t) bare-too g (λ d. pos 0) (λ d. pos 0) p c h o

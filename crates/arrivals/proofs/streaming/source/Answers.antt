@@ -2,6 +2,7 @@
 use borrow.Author.Tests.{lt-ltb, le-ltb}
 use mathlib.Core.Path.{◌≡◌, sym, subst}
 use Prim.Native.Nat.{ℕ, ◌≤◌, ◌<◌}
+use native.Mathlib.Omega.{arith}
 use lib.ListN.{get_or}
 use Rattle.whole.specs.laws.Bools.{cond_yes, cond_no}
 use Rattle.grid.proofs.Lists.{get_or-there}
@@ -23,4 +24,7 @@ returns-then-flags-b-gt2 c = let start : At-Start = search in sym (cond_yes _ _ 
 
 pub returns : goal.returns
 unfolding arrival_at
-returns c = let start : At-Start = search in sym (cond_no _ _ (le-ltb 2 _ (subst (λ (f : ℕ). f ≤ 2) (flag start) c.if-flags-b-gt2.false)))
+returns c =
+    let start : At-Start = search in
+    let low : get_or start.args.flags.now start.args.b 0 ≤ 2 = omega arith in
+    sym (cond_no _ _ (le-ltb 2 _ (subst (λ (f : ℕ). f ≤ 2) (flag start) low)))

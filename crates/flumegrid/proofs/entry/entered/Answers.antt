@@ -42,7 +42,7 @@ module _ (d : At-Else-not-first-second) where
   lengths-good : lengths w.args.s w.args.g (first w) (second w) w.args.marks.now ≡ true
   lengths-good =
       sym (lengths-told w.args.s w.args.g (first w) (second w) w.args.marks.now d.cells-n.ensures d.good_lengths9-first.ensures d.good_lengths9-second.ensures)
-      ∙ not-false _ d.if-not-first-second.false-raw
+      ∙ not-false _ (search)
 
 settings-good : (d : At-Else-not-good_settings) → settings_good (level_settings d.args.g) ≡ true
 settings-good d = sym d.good_settings.ensures ∙ not-false _ d.if-not-good_settings.false-raw

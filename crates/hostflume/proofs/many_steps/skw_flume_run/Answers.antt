@@ -83,5 +83,5 @@ shape_of-marks c = let after-marks : At-After-marks-1 = search in after-marks.ma
 pub returns : goal.returns
 returns c =
     let v : At-Start = search in let after_run : At-After-run-ran = search in let after-number-of : At-After-number_of = search in let a = v.args in
-    let f = v.fits in
+    let f = v.ranges in
     run-told (settings-back a.turbulent a.p a.gx a.gz f.p f.gx f.gz) after_run.run-ran.ensures after-number-of.number_of.ensures c.place_of.ensures

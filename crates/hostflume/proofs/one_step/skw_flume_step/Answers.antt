@@ -54,5 +54,5 @@ pub returns : goal.returns
 returns c =
     let after-place-of : At-After-place_of = search in let after-step : At-After-step-a = search in let v : At-Start = search in
     let a = v.args in
-    let f = v.fits in
+    let f = v.ranges in
     step-told (settings-back a.turbulent a.p a.gx a.gz f.p f.gx f.gz) after-step.step-a.ensures c.number_of.ensures after-place-of.place_of.ensures

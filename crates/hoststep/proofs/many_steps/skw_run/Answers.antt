@@ -105,5 +105,5 @@ returns c =
     let after_run = after-number-of in
     let v = after_run in
     let a = v.args in
-    let f = v.fits in
+    let f = v.ranges in
     run-told (settings-back a.turbulent a.p a.gx a.gy a.gz f.p f.gx f.gy f.gz) after_run.run-ran.ensures after-number-of.number_of.ensures c.place_of.ensures

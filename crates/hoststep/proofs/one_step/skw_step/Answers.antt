@@ -66,5 +66,5 @@ shape_of-marks c = let after-marks : At-After-marks-1 = search in after-marks.ma
 pub returns : goal.returns
 returns c =
     let v : At-Start = search in let after-step : At-After-step-a = search in let after-place-of : At-After-place_of = search in let a = v.args in
-    let f = v.fits in
+    let f = v.ranges in
     step-told (settings-back a.turbulent a.p a.gx a.gy a.gz f.p f.gx f.gy f.gz) after-step.step-a.ensures c.number_of.ensures after-place-of.place_of.ensures
