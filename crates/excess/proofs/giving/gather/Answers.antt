@@ -83,7 +83,9 @@ loop-c-init c = ranged-first (pos 0) _ _ 0 _ (omega arith)
 pub gifts-t-requires : goal.gifts-t-requires
 gifts-t-requires c =
     let l = c in
-    (giving-still (giving l.before.before.before.before.before.before) l.loop-c.masses l.loop-c.invariant.size (still l.before.before.before.before.before), c.loop-c-test.true, c.if-flags-c-eq1.true)
+    -- the cell is an interface cell, as the code asks
+    let f : get_or c.args.flags.now c.loop-c.c 0 ≡ 1 = omega arith in
+    (giving-still (giving l.before.before.before.before.before.before) l.loop-c.masses l.loop-c.invariant.size (still l.before.before.before.before.before), c.loop-c-test.true, f)
 
 pub offset_bounds-masses-c : goal.offset_bounds-masses-c
 offset_bounds-masses-c c =
