@@ -28,6 +28,9 @@ use Rattle.nine.proofs.collide.collided9.Goals as goal
 abbrev At-After-settled-n : Type 0
 At-After-settled-n = lts.After-settled2 tie.the-claims reads.Pre reads.Post goal.the-invariant-loop-i goal.the-decreases-loop-i
 
+abbrev At-Else-highest : Type 0
+At-Else-highest = lts.Else1 tie.the-claims reads.Pre reads.Post goal.the-invariant-loop-i goal.the-decreases-loop-i
+
 below : {e : ℕ} → e ≤ 2866822637798031360 → e < 2866822637798031361
 below h = omega (arith, h)
 
@@ -81,7 +84,7 @@ module _ (c : At-After-settled-n) where
       ∙ ap₂ (λ (n : ℕ) (y : ℤ). landed (get_or c.ends9-e.result n 0) y (to_z w32 (of_z w32 (to_z w64 (of_z w64 (pos 1024 -ℤ to_z w64 (of_z w64 s.args.p))))))) z e
 
 -- where the low words tell: what each part is, by the definition
-module _ (c : goal.Else-highest-gt4293918719) where
+module _ (c : At-Else-highest) where
   abbrev first_of : goal.Start
   first_of = c.before.before.before.before.before.before
 
@@ -94,13 +97,13 @@ module _ (c : goal.Else-highest-gt4293918719) where
   share-is : to_z w32 (of_z w32 (to_z w64 (of_z w64 (pos 1024 -ℤ to_z w64 (of_z w64 first_of.args.p))))) ≡ pos 1024 -ℤ first_of.args.p
   share-is = let p = relaxation-in first_of.args.p first_of.requires.2 in reads_as (search reading depth 20) tt
 
-  form-is : (k : ℕ) → k < 18 → forms (suc k) ≡ wanted (suc k)
-  form-is k h =
+  form-is : c.highest.result ≤ 4293918719 → (k : ℕ) → k < 18 → forms (suc k) ≡ wanted (suc k)
+  form-is low k h =
       let s = first_of in
       let t = c in
       let z : suc k - 1 ≡ k = omega arith in
       ap₂ (λ (n : ℕ) (y : ℤ). landed (get_or t.ends9-e.result n 0) (parts_of s.args.f (suc k)) y) z share-is
-      ∙ lands s.args.v s.args.p s.args.f t.ends9-e.result s.requires.3 (steady-tame s.args.v s.requires.1).low (ends-are t.before.before.before.before.before) k h (omega (arith, c.highest.ensures k h))
+      ∙ lands s.args.v s.args.p s.args.f t.ends9-e.result s.requires.3 (steady-tame s.args.v s.requires.1).low (ends-are t.before.before.before.before.before) k h (omega (arith, low, c.highest.ensures k h))
 
 pub ends9-e-requires : goal.ends9-e-requires
 ends9-e-requires c = (c.requires.1, rw (to_z-of_z c.ranges.p) c.requires.2)
@@ -169,4 +172,6 @@ pub returns : goal.returns
 returns c =
     let s = c in
     let e : to_z w32 (of_z w32 s.args.v.rho) ≡ s.args.v.rho = reads_as (v32 (inside (steady-tame s.args.v s.requires.1).rho)) tt in
-    all_done (forms c) s.args.v.rho spread_lattice eighteen (vec s.args.v) s.args.p (parts_of s.args.f) (form-is c) (rw e at c.loop-i.invariant) (omega arith)
+    -- what the low words tell, as the code asks
+    let low : c.highest.result ≤ 4293918719 = omega arith in
+    all_done (forms c) s.args.v.rho spread_lattice eighteen (vec s.args.v) s.args.p (parts_of s.args.f) (form-is c low) (rw e at c.loop-i.invariant) (omega arith)
