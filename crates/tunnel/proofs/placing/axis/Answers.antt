@@ -25,8 +25,8 @@ edge-is : (c : goal.Start) → to_z w64 (of_z w64 c.args.edge) ≡ c.args.edge
 edge-is c = to_z-of_z w64 c.args.edge c.ranges.edge
 
 -- the test passed: the difference is not negative
-up : (c : goal.Else-d-lt0) → lt_z (c.args.point -ℤ c.args.origin) (pos 0) ≡ false
-up c = rw (gap c.before) at c.if-d-lt0.false
+up : (c : goal.Start) → lt_z (to_z w64 (of_z w64 (to_z w64 (of_z w64 c.args.point) -ℤ to_z w64 (of_z w64 c.args.origin)))) (pos 0) ≡ false → lt_z (c.args.point -ℤ c.args.origin) (pos 0) ≡ false
+up c h = rw (gap c) at h
 
 pub overflow_sub-d : goal.overflow_sub-d
 overflow_sub-d c =
@@ -42,7 +42,7 @@ overflow_cast-q c =
     let s = c.before in
     let p = s.args.point in
     let o = s.args.origin in
-    simp (gap s) (zero-up (p -ℤ o) (up c), record { fits = omega (arith, abs-sub p o, (near p s.requires.point_value).abs, (near o s.requires.origin_value).abs) })
+    simp (gap s) (zero-up (p -ℤ o) (up s search), record { fits = omega (arith, abs-sub p o, (near p s.requires.point_value).abs, (near o s.requires.origin_value).abs) })
 
 pub overflow_cast-q-2 : goal.overflow_cast-q-2
 overflow_cast-q-2 c =
@@ -56,10 +56,10 @@ pub returns-then-q-side : goal.returns-then-q-side
 returns-then-q-side c =
     let s = c.before.before in
     let h : nat_abs (s.args.point -ℤ s.args.origin) / nat_abs s.args.edge < s.args.side = simp (gap s, edge-is s) at c.if-q-side.true in
-    simp (gap s, edge-is s) (simp (lt-ltb _ _ h) at (axis-from s.args.point s.args.origin (nat_abs s.args.edge) s.args.side (up c.before)))
+    simp (gap s, edge-is s) (simp (lt-ltb _ _ h) at (axis-from s.args.point s.args.origin (nat_abs s.args.edge) s.args.side (up s search)))
 
 pub returns : goal.returns
 returns c =
     let s = c.before.before in
     let h : s.args.side ≤ nat_abs (s.args.point -ℤ s.args.origin) / nat_abs s.args.edge = simp (gap s, edge-is s) at c.if-q-side.false in
-    simp (le-ltb _ _ h) at (axis-from s.args.point s.args.origin (nat_abs s.args.edge) s.args.side (up c.before))
+    simp (le-ltb _ _ h) at (axis-from s.args.point s.args.origin (nat_abs s.args.edge) s.args.side (up s search))
