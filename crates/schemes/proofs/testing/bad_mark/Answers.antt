@@ -12,7 +12,7 @@ pub returns-then-f-gt2 : goal.returns-then-f-gt2
 returns-then-f-gt2 c = let w = c.args in high-own w.m w.f ((grid_of w.s).outer w.c) (omega (arith, c.if-m-gt1.false)) (omega (arith, c.if-f-gt2.true))
 
 pub returns-then-m-eq1 : goal.returns-then-m-eq1
-returns-then-m-eq1 c = let w = c.args in at-wall w.m w.f ((grid_of w.s).outer w.c) c.if-m-eq1.true (omega (arith, c.if-f-gt2.false))
+returns-then-m-eq1 c = let w = c.args in at-wall w.m w.f ((grid_of w.s).outer w.c) c.if-m-eq1.true (omega arith)
 
 pub returns : goal.returns
-returns c = let w = c.args in c.outer.ensures ∙ by-layer w.m w.f ((grid_of w.s).outer w.c) (omega (arith, c.if-m-gt1.false)) (omega (arith, c.if-f-gt2.false)) c.if-m-eq1.false
+returns c = let w = c.args in c.outer.ensures ∙ by-layer w.m w.f ((grid_of w.s).outer w.c) (omega arith) (omega arith) c.if-m-eq1.false
