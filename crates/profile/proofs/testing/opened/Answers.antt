@@ -1,6 +1,9 @@
 -- `profile::testing::opened`: each return is the definition with the tests that led there. Assumes nothing.
 use borrow.Author.Tests.{not-true, not-false, eq-eqb, ne_eqb, le-leb, lt-leb}
 use mathlib.Core.Path.{◌≡◌, sym, ap, ◌∙◌}
+use mathlib.Core.Bool.{true}
+use native.Mathlib.Omega.{arith}
+use lib.Dec.{leb}
 use mir.Syntax.{w64}
 use mir.ValLaws.{to_z-of_z}
 use Rattle.tunnel.specs.Place.{placing_of, refusal_number}
@@ -78,13 +81,14 @@ returns-then-refusal_number-eq3 c =
     let l = c in
     let w = l in
     let b = w in
+    let few : leb (start c.before.before).args.m 2000 ≡ true = le-leb _ _ (omega arith) in
     simp (
       depth_is b.before.before.before.before.before.before.before.before.before.before.before,
       ne_eqb _ _ b.if-n-eq1.false,
       ne_eqb _ _ b.if-n-eq2.false,
       sym w.whole.ensures ∙ not-false _ l.if-not-whole.false-raw,
       ne_eqb _ _ l.if-m-eq0.false,
-      le-leb _ _ l.if-m-gt2000.false,
+      few,
       origin-is c.before.before,
       eq-eqb _ _ c.if-refusal_number-eq3.true,
     )
@@ -95,13 +99,14 @@ returns c =
     let l = c in
     let w = l in
     let b = w in
+    let few : leb (start c.before.before).args.m 2000 ≡ true = le-leb _ _ (omega arith) in
     simp (
       depth_is b.before.before.before.before.before.before.before.before.before.before.before,
       ne_eqb _ _ b.if-n-eq1.false,
       ne_eqb _ _ b.if-n-eq2.false,
       sym w.whole.ensures ∙ not-false _ l.if-not-whole.false-raw,
       ne_eqb _ _ l.if-m-eq0.false,
-      le-leb _ _ l.if-m-gt2000.false,
+      few,
       origin-is c.before.before,
       ne_eqb _ _ c.if-refusal_number-eq3.false,
     )
