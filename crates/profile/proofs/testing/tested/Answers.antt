@@ -1,6 +1,9 @@
 -- `profile::testing::tested`: each return is the definition with the tests that led there. Assumes nothing.
 use borrow.Author.Tests.{le-leb, lt-leb}
 use mathlib.Core.Path.{◌≡◌, sym, ◌∙◌}
+use mathlib.Core.Bool.{true}
+use native.Mathlib.Omega.{arith}
+use lib.Dec.{leb}
 use lib.ListN.{length}
 use Rattle.grid.specs.declared.Answer.TheVariants.{Done}
 use Rattle.profile.specs.Outcome.{open_answer, tests_answer}
@@ -46,7 +49,8 @@ unfolding tests_answer
 returns-then-out-m c =
     let o = c in
     let u = o in
-    simp (ok u.before.before.before.before.before, ← u.first_not_above-up.ensures, le-leb _ _ c.if-up-m.false, ← o.first_far-out.ensures, lt-leb _ _ c.if-out-m.true)
+    let risen : leb (length (entry u.before.before.before.before.before).args.chainages.now) u.first_not_above-up.result ≡ true = le-leb _ _ (omega arith) in
+    simp (ok u.before.before.before.before.before, ← u.first_not_above-up.ensures, risen, ← o.first_far-out.ensures, lt-leb _ _ c.if-out-m.true)
 
 pub columns_tested-requires : goal.columns_tested-requires
 columns_tested-requires c = let h = has c.before.before.before.before.before in (h.points-size, h.sides)
@@ -56,5 +60,6 @@ unfolding tests_answer
 returns c =
     let o = c in
     let u = o in
-    simp (ok u.before.before.before.before.before.before, ← u.first_not_above-up.ensures, le-leb _ _ c.if-up-m.false, ← o.first_far-out.ensures, le-leb _ _ c.if-out-m.false)
+    let risen : leb (length (entry u.before.before.before.before.before.before).args.chainages.now) u.first_not_above-up.result ≡ true = le-leb _ _ (omega arith) in
+    simp (ok u.before.before.before.before.before.before, ← u.first_not_above-up.ensures, risen, ← o.first_far-out.ensures, le-leb _ _ c.if-out-m.false)
     c.columns_tested.ensures
