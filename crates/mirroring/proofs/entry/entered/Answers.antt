@@ -86,4 +86,4 @@ pub returns : goal.returns
 returns c =
     let d = c in
     let v = w d.before.before.before in
-    c.checked.ensures ∙ then-tested v.args.s v.args.axis (first v) (second v) (sides-good (one d.before.before.before)) (lengths-good d.before.before.before) (le-leb _ _ c.if-axis-gt2.false)
+    c.checked.ensures ∙ then-tested v.args.s v.args.axis (first v) (second v) (sides-good (one d.before.before.before)) (lengths-good d.before.before.before) (le-leb _ _ (omega arith))
