@@ -1,7 +1,7 @@
 -- `flumemirroring::entry::entered`: the outcome's chain of tests, whatever is lent. Assumes nothing.
 use borrow.Author.Tests.{not-true, not-false}
 use mathlib.Core.Path.{◌≡◌, sym, ◌∙◌}
-use mathlib.Core.Bool.{true}
+use mathlib.Core.Bool.{true, ◌&&◌}
 use native.Mathlib.Omega.{arith}
 use Rattle.grid.specs.State.{Lent, lent}
 use Rattle.flume.specs.Flume.{flume_sides_good}
@@ -41,8 +41,8 @@ module _ (d : At-Else-not-first-second) where
 
   lengths-good : lengths w.args.s w.args.axis (first w) (second w) ≡ true
   lengths-good =
-      sym (lengths-told w.args.s w.args.axis (first w) (second w) d.cells-n.ensures d.good_lengths9-first.ensures d.good_lengths9-second.ensures)
-      ∙ not-false _ d.if-not-first-second.false-raw
+      let both : (d.good_lengths9-first.result && d.good_lengths9-second.result) ≡ true = search in
+      sym (lengths-told w.args.s w.args.axis (first w) (second w) d.cells-n.ensures d.good_lengths9-first.ensures d.good_lengths9-second.ensures) ∙ both
 
 pub returns-then-not-good_sides : goal.returns-then-not-good_sides
 returns-then-not-good_sides c = let t = c in sides-refused t.args.s t.args.axis (first t.before.before.before.before.before.before.before) (second t.before.before.before.before.before.before.before) (sym c.good_sides.ensures ∙ not-true _ c.if-not-good_sides.true-raw)
