@@ -9,5 +9,6 @@ pub returns : goal.returns
 returns c =
     let w = c in
     let m = c.acted_moved-m in
-    act-told (to_z-of_z w.ranges.amount) c.take-a.ensures c.acted_number.ensures c.acted_place.ensures
-    (to_z-of_z {w = w64} {z = m.result} (record { sfits = m.type_inv }) ∙ m.ensures)
+    let amount = to_z-of_z w.ranges.amount in
+    let moved = to_z-of_z {w = w64} {z = m.result} (record { sfits = m.type_inv }) ∙ m.ensures in
+    search act-told
