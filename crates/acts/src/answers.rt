@@ -2,31 +2,31 @@
 ghost use Rattle.std.specs.Prelude.{◌≡◌};
 ghost use Rattle.pumps.specs.Acts.{acted_number, acted_place, acted_moved};
 
-use pumps::Acted;
+use grid::refusals::Refusal;
 
-pub fn acted_number(a: Acted) -> u8
+pub fn acted_number(a: Result<i64, Refusal>) -> u8
     ensures { result ≡ acted_number a }
 {
     match a {
-        Acted::Moved(_) => 0,
-        Acted::Refused(number, _) => number,
+        Ok(_) => 0,
+        Err(refusal) => refusal.number(),
     }
 }
 
-pub fn acted_place(a: Acted) -> usize
+pub fn acted_place(a: Result<i64, Refusal>) -> usize
     ensures { result ≡ acted_place a }
 {
     match a {
-        Acted::Moved(_) => 0,
-        Acted::Refused(_, place) => place,
+        Ok(_) => 0,
+        Err(refusal) => refusal.place(),
     }
 }
 
-pub fn acted_moved(a: Acted) -> i64
+pub fn acted_moved(a: Result<i64, Refusal>) -> i64
     ensures { result ≡ acted_moved a }
 {
     match a {
-        Acted::Moved(moved) => moved,
-        Acted::Refused(_, _) => 0,
+        Ok(moved) => moved,
+        Err(_) => 0,
     }
 }

@@ -8,10 +8,11 @@ ghost use Rattle.grid.specs.State.{lent};
 ghost use Rattle.pumps.specs.inner.Working.{Working, Worked};
 ghost use Rattle.pumps.specs.Acts.{counted_in, ActTold};
 
+use grid::Sides;
 use grid::fill::interface_fill;
-use grid::{Answer, Sides};
+use grid::refusals::Refusal;
 use pumps::effect::effect;
-use pumps::{Acted, entry};
+use pumps::entry;
 use whole::wide;
 
 // The act on an interface cell of a set that passed its tests: mass, fill and total number k.
@@ -24,20 +25,19 @@ fn worked(
     c: usize,
     amount: i64,
     k: usize,
-) -> Acted
+) -> Result<i64, Refusal>
     requires { Working parts.now masses.old fills.old carry.old c k }
     ensures { Worked pour c amount k parts.now masses.old fills.old carry.old result masses.new fills.new carry.new }
 {
-    let e = effect(pour, amount, masses[c], carry[k]);
-    if !e.good {
-        return Acted::Refused(16, 0);
-    }
+    let Some(e) = effect(pour, amount, masses[c], carry[k]) else {
+        return Err(Refusal::BadAmount);
+    };
     let mass = e.mass;
     let total = e.total;
     fills[c] = interface_fill(parts, wide(mass), c);
     masses[c] = mass;
     carry[k] = total;
-    Acted::Moved(e.moved)
+    Ok(e.moved)
 }
 
 // The total that an act counts into: poured 1, taken 2.
@@ -61,18 +61,15 @@ fn act(
     c: usize,
     amount: i64,
     pour: bool,
-) -> Acted
+) -> Result<i64, Refusal>
     ensures { ActTold pour s c amount (lent flags.now parts.now masses.old fills.old carry.old) result (lent flags.now parts.now masses.new fills.new carry.new) }
 {
-    let a = entry::check(flags, parts, masses, fills, carry, s);
-    if let Answer::Refused(no, at) = a {
-        return Acted::Refused(no, at);
-    }
+    entry::check(flags, parts, masses, fills, carry, s)?;
     if flags.len() <= c {
-        return Acted::Refused(13, 0);
+        return Err(Refusal::Outside);
     }
     if flags[c] != 1 {
-        return Acted::Refused(15, c);
+        return Err(Refusal::NotInterface(c));
     }
     let k = counted(pour);
     worked(parts, masses, fills, carry, pour, c, amount, k)
@@ -88,7 +85,7 @@ pub fn pour(
     s: Sides,
     c: usize,
     amount: i64,
-) -> Acted
+) -> Result<i64, Refusal>
     ensures { ActTold true s c amount (lent flags.now parts.now masses.old fills.old carry.old) result (lent flags.now parts.now masses.new fills.new carry.new) }
 {
     act(flags, parts, masses, fills, carry, s, c, amount, true)
@@ -104,7 +101,7 @@ pub fn take(
     s: Sides,
     c: usize,
     amount: i64,
-) -> Acted
+) -> Result<i64, Refusal>
     ensures { ActTold false s c amount (lent flags.now parts.now masses.old fills.old carry.old) result (lent flags.now parts.now masses.new fills.new carry.new) }
 {
     act(flags, parts, masses, fills, carry, s, c, amount, false)

@@ -12,7 +12,7 @@ use borrow.Author.Tests.{lt-ltb, ne_eqb}
 use Rattle.whole.specs.laws.Bounds.{abs-sub}
 use Rattle.whole.specs.Fold.{tab, open-fold}
 use Rattle.whole.specs.laws.Machine.{Within}
-use Rattle.whole.specs.laws.Tab.{tab-cong}
+use Rattle.whole.specs.laws.Tab.{tab-cong, get_or-tab}
 use Rattle.lattice.specs.Lattice.{V3, dot, d3q19}
 use Rattle.lattice.specs.Cell.{is_positive}
 use Rattle.lattice.specs.inner.Held.{vec}
@@ -30,6 +30,10 @@ pub above_zero : (x : ℤ) → lt_z (pos 0) x ≡ is_positive x
 above_zero (pos zero) = refl
 above_zero (pos (suc n)) = lt-ltb 0 (suc n) (omega arith)
 above_zero (negsuc n) = refl
+
+-- entry i of an array
+pub entry : {l : List ℤ} (f : ℕ → ℤ) (i : ℕ) → l ≡ tab 19 f → i < 19 → get_or l i (pos 0) ≡ f i
+entry f i e h = ap (λ l. get_or l i (pos 0)) e ∙ get_or-tab 19 f (pos 0) i h
 
 -- ---- by cases of a flag
 place-cases : (f : ℕ) (fill : ℕ → ℕ) (b c : ℕ) → pos (fill (by_flag f b b b c)) ≡ by_flag f (pos (fill b)) (pos (fill b)) (pos (fill b)) (pos (fill c))
@@ -96,3 +100,7 @@ module _ (weights : ℕ → ℕ) (flags : List ℕ) (part : ℕ → ℕ → ℤ)
   unfolding lean_at leans_to sight
   leans-is i =
       lean-cases (get_or flags c 3) (ap (dot (d3q19.e i)) normal-is ∙ dot-turn (d3q19.e i) (normal S c))
+
+  -- by the array in which the code has n·e
+  pub leans-read : (i : ℕ) {x : ℤ} {n : List ℤ} → n ≡ tab 19 (lean_at flags fills off low c) → i < 19 → x ≡ get_or n i (pos 0) → is_positive x ≡ leans_to S c i
+  leans-read i o h e = ap is_positive (e ∙ entry _ i o h) ∙ leans-is i

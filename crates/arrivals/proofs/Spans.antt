@@ -1,9 +1,9 @@
 -- How large the numbers of stage 1 can be, from cells with parts, density and speed in their ranges. Assumes nothing.
 use mathlib.Core.Path.{◌≡◌, refl, sym, ap, ap₂, ◌∙◌, subst}
-use mathlib.Core.Bool.{Bool, true, false, ◌&&◌, ◌||◌, false≢true}
+use mathlib.Core.Bool.{Bool, true, false, ◌||◌, false≢true}
 use mathlib.Core.List.{List, [], ◌∷◌}
 use mathlib.Core.Logic.{◌⊎◌, inl, inr, ⊎_elim}
-use Prim.Native.Nat.{ℕ, zero, suc, ◌+◌, ◌-◌, ◌*◌, ◌/◌, ◌%◌, ◌≤◌, ◌<◌}
+use Prim.Native.Nat.{ℕ, zero, suc, ◌+◌, ◌-◌, ◌*◌, ◌/◌, ◌≤◌, ◌<◌}
 use native.Mathlib.Nat.{mul-le-mul, mul-le-mul_left, mul-le-mul_right, div-le_of_le-mul, le_trans, le_of_eq}
 use native.Mathlib.Omega.{arith}
 use lib.Dec.{eqb, leb}
@@ -29,6 +29,7 @@ use Rattle.grid.specs.State.{Scene, liquid}
 use Rattle.grid.specs.Step.{leans_to, arrives, streamed}
 use Rattle.grid.specs.inner.Sight.{Body, Bodies, Around, sight}
 use Rattle.grid.proofs.Same.{density-same, momentum-same}
+use Rattle.arrivals.specs.inner.Sources.{Flows}
 use Rattle.arrivals.proofs.Arrivals.{arrives-wall, arrives-rebuilt, arrives-liquid, opposite-some, opposite-most}
 
 -- ---- the table: a direction's components, one computed test each
@@ -181,6 +182,10 @@ module _ (f : ℕ → ℤ) (b : Body f) where
   pub momentum-own : (l : List ℤ) → l ≡ tab 19 f → momentum d3q19 (parts_of l) ≡ j
   unfolding d3q19
   momentum-own l e = momentum-same d3q19 (parts_of l) f (part-own l e)
+
+-- the flow of a cell, of its own parts
+pub flows-own : (part : ℕ → ℕ → ℤ) (c : ℕ) {l : List ℤ} {v : Flow} → Body (part c) → l ≡ tab 19 (part c) → (v.rho ≡ density d3q19 (parts_of l)) × (vec v ≡ momentum d3q19 (parts_of l)) → Flows part c v
+flows-own part c {l} b o e = record { density = e.0 ∙ density-own (part c) b l o; momentum = e.1 ∙ momentum-own (part c) b l o }
 
 -- ---- what streams into a liquid cell
 module _ (weights : ℕ → ℕ) (light : Light weights) (flags : List ℕ) (part : ℕ → ℕ → ℤ) (fills off : List ℕ) (low : ℕ) (g : Settings) (t : Bodies flags part) (c : ℕ) (a : Around (length flags) off low c) (l : liquid (get_or flags c 3) ≡ true) where

@@ -2,7 +2,7 @@
 use mathlib.Core.Path.{◌≡◌, refl, sym, ap, ◌∙◌, subst}
 use mathlib.Core.Bool.{Bool, true, false, cond, true≢false, false≢true}
 use mathlib.Core.List.{List}
-use Prim.Native.Nat.{ℕ, zero, suc, ◌+◌, ◌-◌, ◌*◌, ◌%◌, ◌<◌, ◌≤◌}
+use Prim.Native.Nat.{ℕ, zero, suc, ◌+◌, ◌-◌, ◌%◌, ◌<◌, ◌≤◌}
 use native.Mathlib.Nat.{le_trans, le_of_eq, mul-le-mul_right, div-le_of_le-mul}
 use native.Mathlib.Numerals.{add-one}
 use native.Mathlib.Omega.{arith}
@@ -106,14 +106,13 @@ pub even-opp : (i : ℕ) → i % 2 ≡ 1 → pair_opp (i + 1) ≡ i
 even-opp i e = ap pair_opp (add-one i) ∙ ap (λ (t : Bool). cond t (suc (suc i)) i) (ne_eqb (i % 2) 0 (λ z. omega arith))
 
 -- two more directions
-pub dirs-pair : (i : ℕ) (f : ℕ → ℤ) → 1 ≤ i → sum (i + 2 - 1) (λ a. f (suc a)) ≡ (sum (i - 1) (λ a. f (suc a)) +ℤ f i) +ℤ f (i + 1)
+pub dirs-pair : (n m : ℕ) (f : ℕ → ℤ) → m ≡ n + 2 → sum m (λ a. f (suc a)) ≡ (sum n (λ a. f (suc a)) +ℤ f (n + 1)) +ℤ f (n + 1 + 1)
 unfolding sum
-dirs-pair zero f h = absurd (omega arith)
-dirs-pair (suc n) f h =
-    let e : suc n + 2 - 1 ≡ suc (suc n) = omega arith in
-    let k : suc n - 1 ≡ n = omega arith in
-    let m : suc n + 1 ≡ suc (suc n) = omega arith in
-    rw (e, k, m) refl
+dirs-pair n m f h =
+    let e : m ≡ suc (suc n) = omega arith in
+    let k : n + 1 + 1 ≡ suc (suc n) = omega arith in
+    let l : n + 1 ≡ suc n = omega arith in
+    rw (e, k, l) refl
 
 -- a mass and what is gained from the first n directions, however they are numbered
 unfoldable pub amassed : ℤ → (ℕ → ℤ) → ℕ → ℤ
@@ -124,12 +123,12 @@ module _ (m : ℤ) (gain : ℕ → ℤ) where
   unfolding amassed sum
   amassed-none = sym (+ℤ_idr m)
 
-  pub amassed-pair : (i : ℕ) → 1 ≤ i → (amassed m gain (i - 1) +ℤ gain i) +ℤ gain (i + 1) ≡ amassed m gain (i + 2 - 1)
+  pub amassed-pair : (n k : ℕ) → k ≡ n + 2 → (amassed m gain n +ℤ gain (n + 1)) +ℤ gain (n + 1 + 1) ≡ amassed m gain k
   unfolding amassed
-  amassed-pair i h =
-      ap (λ (z : ℤ). z +ℤ gain (i + 1)) (+ℤ_assoc m (sum (i - 1) (λ a. gain (suc a))) (gain i))
-      ∙ +ℤ_assoc m (sum (i - 1) (λ a. gain (suc a)) +ℤ gain i) (gain (i + 1))
-      ∙ ap (λ (z : ℤ). m +ℤ z) (sym (dirs-pair i gain h))
+  amassed-pair n k h =
+      ap (λ (z : ℤ). z +ℤ gain (n + 1 + 1)) (+ℤ_assoc m (sum n (λ a. gain (suc a))) (gain (n + 1)))
+      ∙ +ℤ_assoc m (sum n (λ a. gain (suc a)) +ℤ gain (n + 1)) (gain (n + 1 + 1))
+      ∙ ap (λ (z : ℤ). m +ℤ z) (sym (dirs-pair n k gain h))
 
   pub amassed-within : Within m 2359296 → (n : ℕ) → n ≤ 18 → ((a : ℕ) → a < n → Within (gain (suc a)) 2359296) → Within (amassed m gain n) 44826624
   unfolding amassed
@@ -166,7 +165,7 @@ module _ (flags : List ℕ) (part : ℕ → ℕ → ℤ) (masses : List ℤ) (fi
   unfolding gain
   second_is i e = ap (λ (k : ℕ). passed flags part fills c ((c - low) + get_or off (i + 1) 0) (i + 1) k) (sym (even-opp i e))
 
-  pub gained-pair : (i : ℕ) → 1 ≤ i → (gained (i - 1) +ℤ gain i) +ℤ gain (i + 1) ≡ gained (i + 2 - 1)
+  pub gained-pair : (n k : ℕ) → k ≡ n + 2 → (gained n +ℤ gain (n + 1)) +ℤ gain (n + 1 + 1) ≡ gained k
   unfolding gained
   gained-pair = amassed-pair (get_or masses c (pos 0)) gain
 

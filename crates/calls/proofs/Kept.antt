@@ -7,8 +7,8 @@ use lib.Dec.{eqb}
 use lib.ListN.{length, replicate}
 use Rattle.lattice.specs.declared.Settings.{Settings}
 use Rattle.grid.specs.declared.Sides.{Sides}
-use Rattle.grid.specs.declared.Answer.{Answer}
-use Rattle.grid.specs.declared.Answer.TheVariants.{Done, Refused}
+use Rattle.grid.specs.Answer.{Answer}
+use Rattle.grid.specs.Answer.{Done, late}
 use Rattle.grid.specs.Grid.{cells_of}
 use Rattle.grid.specs.State.{Lent, lent_of}
 use Rattle.grid.specs.Outcome.{accepted, or_refuse, move_answer, scene_of, next_of, by_answer}
@@ -29,6 +29,8 @@ use Rattle.calls.specs.Demands.{StepKeeps, AsBefore}
 use Rattle.calls.proofs.Entrance.{goes_on, index_is, as-base, base-entry, then-true, checked-now}
 use Rattle.calls.proofs.Outcomes.{move-by}
 use Rattle.calls.proofs.Lives.{second_is, step-lives}
+use Rattle.grid.specs.declared.refusals.Refusal.TheVariants.{BadIndex, BadState}
+use Rattle.std.specs.Prelude.{Ok, Err}
 
 -- a set that came by steps and acts from one that the check accepts
 pub lived-loads : (s : Sides) (a b : Lent) → three_answer s a ≡ Done → Lived s a b → Loads s (indexed s b)
@@ -69,17 +71,16 @@ module _ (s : Sides) (g : Settings) (a b : Held) (marks : List ℕ) where
     marks-after = ap (λ (x : Answer). by_answer x (replicate (cells_of s) 0) (replicate (cells_of s) 0) marks) same;
   }
     where
-      last : or_refuse (totals_good (number_in a.set 1) (number_in a.set 2)) 6 (cells_of s) (then-true s g a b marks move) ≡ move
-      last = ap (λ (u : Bool). or_refuse u 6 (cells_of s) (then-true s g a b marks move)) h ∙ ap (λ (u : Bool). or_refuse u 14 0 move) t
+      last : or_refuse (totals_good (number_in a.set 1) (number_in a.set 2)) (BadState (cells_of s)) (then-true s g a b marks move) ≡ move
+      last = ap (λ (u : Bool). or_refuse u (BadState (cells_of s)) (then-true s g a b marks move)) h ∙ ap (λ (u : Bool). or_refuse u BadIndex move) t
 
       same : step_answer s g a b marks ≡ base.step_answer s g (head_of a.set) (head_of b.set) marks
       same = sym (as-base s g a b marks l move) ∙ ap (base-entry s g a b marks) last
 
       head-of : (x : Answer) → head_of (by_answer x moved a b).set ≡ by_answer x (next_of s g (head_of a.set)) (head_of a.set) (head_of b.set)
-      head-of Done = refl
-      head-of (Refused n p) = go (eqb n 7) (eqb n 8)
+      head-of (Ok _) = refl
+      head-of (Err refusal) = go (late refusal)
         where
-          go : (u v : Bool) → head_of (cond u a (cond v a b)).set ≡ cond u (head_of a.set) (cond v (head_of a.set) (head_of b.set))
-          go true v = refl
-          go false true = refl
-          go false false = refl
+          go : (u : Bool) → head_of (cond u a b).set ≡ cond u (head_of a.set) (head_of b.set)
+          go true = refl
+          go false = refl

@@ -8,7 +8,8 @@ ghost use Rattle.grid.specs.Outcome.{good_answer, check_answer};
 ghost use Rattle.grid.specs.inner.Between.{Sized};
 
 use crate::{fluid, layer};
-use grid::{Answer, Sides, cells, extent, kinds, lengths};
+use grid::refusals::{Answer, Refusal};
+use grid::{Sides, cells, extent, kinds, lengths};
 use lattice::{limits, rules};
 
 // Whether cell c keeps test 6's rules.
@@ -29,17 +30,16 @@ pub fn first_bad(flags: &[u8], parts: &[i32], masses: &[i32], fills: &[u32], car
     requires { Sized (length flags.now) (lent flags.now parts.now masses.now fills.now (carry ∷ [])) }
     ensures { result ≡ bad_rule d3q19 (length flags.now) (state_of 18 (lent flags.now parts.now masses.now fills.now (carry ∷ []))) }
 {
-    let mut c = 0;
-    while c < flags.len() {
+    let n = flags.len();
+    for c in 0..n {
         if !good_cell(flags, parts, masses, fills, c) {
             return c;
         }
-        c += 1;
     }
     if limits::fair_carry(carry) {
-        return c + 1;
+        return n + 1;
     }
-    c
+    n
 }
 
 // Tests 4 to 6 of a set whose sides and lengths are good.
@@ -52,22 +52,22 @@ pub fn checked(
     s: Sides,
 ) -> Answer
     requires { (sides_good s ≡ true) × Sized (cells_of s) (lent flags.now parts.now masses.now fills.now carry.now) }
-    ensures { result ≡ good_answer d3q19 (grid_of s) (state_of 18 (lent flags.now parts.now masses.now fills.now carry.now)) Answer.Done }
+    ensures { result ≡ good_answer d3q19 (grid_of s) (state_of 18 (lent flags.now parts.now masses.now fills.now carry.now)) (Ok tt) }
 {
     let n = flags.len();
     let flagged = layer::first_bad_flag(flags, s);
     if flagged < n {
-        return Answer::Refused(4, flagged);
+        return Err(Refusal::BadFlag(flagged));
     }
     let opened = fluid::first_open(flags, s);
     if opened < n {
-        return Answer::Refused(5, opened);
+        return Err(Refusal::BadLayer(opened));
     }
     let broken = first_bad(flags, parts, masses, fills, carry[0]);
     if broken <= n {
-        return Answer::Refused(6, broken);
+        return Err(Refusal::BadState(broken));
     }
-    Answer::Done
+    Ok(())
 }
 
 // The check of one lent set: what is refused, and where.
@@ -82,7 +82,7 @@ pub fn check(
     ensures { result ≡ check_answer s (lent flags.now parts.now masses.now fills.now carry.now) }
 {
     if !extent::good_sides(s) {
-        return Answer::Refused(1, 0);
+        return Err(Refusal::BadSides);
     }
     let n = extent::cells(s);
     if !lengths::good_lengths(
@@ -93,7 +93,7 @@ pub fn check(
         carry.len(),
         n,
     ) {
-        return Answer::Refused(2, 0);
+        return Err(Refusal::BadLength);
     }
     checked(flags, parts, masses, fills, carry, s)
 }

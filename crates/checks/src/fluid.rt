@@ -14,10 +14,8 @@ fn any_open(flags: &[u8], off: &[usize; 19], low: usize) -> bool
 {
     let end = flags.len() - low;
     let mut found = false;
-    let mut c = low;
-    while c < end {
+    for c in low..end {
         found = found | (flags[c] == 2) & neighbours::beside(flags, off, c - low, 0);
-        c += 1;
     }
     found
 }
@@ -27,21 +25,17 @@ fn lowest_open(flags: &[u8], off: &[usize; 19], low: usize) -> usize
     requires { Embedded flags.now off.now low }
     ensures { result ≡ open_place flags.now off.now low }
 {
-    let mut c = 0;
-    'cells: while c < flags.len() {
+    for c in 0..flags.len() {
         if flags[c] == 2 {
             let k = c - low;
-            let mut i = 1;
-            while i < 19 {
+            for i in 1..19 {
                 if flags[k + off[i]] == 0 {
-                    break 'cells;
+                    return c;
                 }
-                i += 1;
             }
         }
-        c += 1;
     }
-    c
+    flags.len()
 }
 
 // The same, looked for only where there may be one.

@@ -57,8 +57,7 @@ fn first_in_row(flags: &[u8], c: usize, p: Place, s: Sides) -> usize
     requires { (sides_good s ≡ true) × (length flags.now ≡ cells_of s) × (c < length flags.now) × RowAt s c p }
     ensures { FirstInRow s flags.now c result }
 {
-    let mut x = 0;
-    while x < s.nx {
+    for x in 0..s.nx {
         let q = Place {
             x: x,
             y: p.y,
@@ -67,9 +66,8 @@ fn first_in_row(flags: &[u8], c: usize, p: Place, s: Sides) -> usize
         if bad_flag(flags[c + x], q, s) {
             return x;
         }
-        x += 1;
     }
-    x
+    s.nx
 }
 
 // The lowest cell whose flag is above 3, or that is outer and not wall; N if there is none. Row by row: where a row lies is asked once.
@@ -79,6 +77,7 @@ pub fn first_bad_flag(flags: &[u8], s: Sides) -> usize
 {
     let mut p = Place { x: 0, y: 0, z: 0 };
     let mut c = 0;
+    // A row at a time, c and p together: no range says that.
     while c < flags.len() {
         let x = first_in_row(flags, c, p, s);
         if x < s.nx {

@@ -1,5 +1,5 @@
-// Stage 4: collision. The eighteen directions go by pairs. One division a cell estimates p times every equilibrium part; a few cells in a hundred, where
-// an estimate does not tell, go by the divider.
+// Stage 4: collision. One division a cell estimates p times every equilibrium part; a few cells in a hundred, where an estimate does not tell, go by the
+// divider, which takes the eighteen directions by pairs.
 ghost use Rattle.std.specs.Prelude.{◌≡◌, true, length};
 ghost use Rattle.whole.specs.Fold.{tab};
 ghost use Rattle.lattice.specs.Lattice.{d3q19};
@@ -24,15 +24,14 @@ pub(crate) fn by_divider(f: &mut [i32; 19], v: Flow, p: i64)
     let k = common_of(v, p);
     let d = dots(v);
     let mut r = v.rho;
-    let mut i = 1;
-    while i < 19 {
+    for h in 0..9 {
+        let i = 2 * h + 1;
         let n = relaxed_pair(f[i], f[i + 1], weight_of(i), d[i], k);
         let x = n.a;
         let y = n.b;
         f[i] = x;
         f[i + 1] = y;
         r -= x + y;
-        i += 2;
     }
     f[0] = r;
 }
@@ -46,14 +45,10 @@ pub fn collided(f: [i32; 19], v: Flow, p: i64) -> [i32; 19]
     let c = (1024 - p) as i32;
     let mut a = [0i32; 19];
     let mut r = v.rho;
-    let mut i = 1;
-    while i < 19 {
+    for i in 1..19 {
         let m = settled(e[i - 1], f[i], c);
-        let n = settled(e[i], f[i + 1], c);
         a[i] = m;
-        a[i + 1] = n;
-        r -= m + n;
-        i += 2;
+        r -= m;
     }
     if !telling(e, f, c) {
         let mut b = f;

@@ -12,10 +12,8 @@ pub fn telling(e: [u64; 18], f: [i32; 19], c: i32) -> bool
     ensures { result ≡ all 18 (tells_at e f c) }
 {
     let mut w = true;
-    let mut i = 1;
-    while i < 19 {
-        w = w & tells(e[i - 1], f[i], c) & tells(e[i], f[i + 1], c);
-        i += 2;
+    for k in 0..18 {
+        w = w & tells(e[k], f[k + 1], c);
     }
     w
 }

@@ -1,5 +1,5 @@
 // What a column holds, and the reading of it: solid, dry, or the exact sum of its fills.
-ghost use Rattle.std.specs.Prelude.{◌≡◌, cond, ◌≤◌, ◌<◌, eqb, length};
+ghost use Rattle.std.specs.Prelude.{◌≡◌, cond, ◌≤◌, ◌<◌, eqb, length, Ok};
 ghost use Rattle.whole.specs.Fold.{first};
 ghost use Rattle.tunnel.specs.inner.Asks.{InColumn};
 ghost use Rattle.columns.specs.inner.Contents.{ContentsAre};
@@ -37,13 +37,11 @@ pub fn summed(s: Sides, flags: &[u8], fills: &[u32], x: usize, y: usize) -> Cont
     let nz = s.nz;
     let mut solid = true;
     let mut sum = 0;
-    let mut z = 0;
-    while z < nz {
+    for z in 0..nz {
         let at = number(s, x, y, z);
         let flag = flags[at];
         solid = solid & (flag == 3);
         sum += open_fill(flag, fills[at]);
-        z += 1;
     }
     Contents { solid, sum }
 }
@@ -51,7 +49,7 @@ pub fn summed(s: Sides, flags: &[u8], fills: &[u32], x: usize, y: usize) -> Cont
 // Solid, dry, or the sum in cells.
 pub(crate) fn reading(solid: bool, sum: u32) -> Depth
     requires { sum < 16777216 }
-    ensures { DepthIs result (reading_of solid sum) }
+    ensures { DepthIs (Ok result) (Ok (reading_of solid sum)) }
 {
     if solid {
         return Depth::Solid;

@@ -10,7 +10,7 @@ use lib.Seq.{take_all}
 use mir.Syntax.{w64}
 use mir.Val.{SFits, to_z}
 use mir.ValLaws.{to_z_pos, to_z-neg}
-use Rattle.console.specs.declared.signed.Signed.TheVariants as signed
+use Rattle.std.proofs.Common.{None}
 use Rattle.console.specs.Decimal.{spelled_by}
 use Rattle.console.specs.Signed.{kept, negated, signed_by}
 
@@ -27,7 +27,7 @@ minus (suc k) p h =
     ap (to_z w64) e ∙ to_z-neg w64 k (omega arith)
 
 -- ---- by the first byte
-pub signed-none : (text : List ℕ) → length text ≡ 0 → signed.Unreadable ≡ signed_by text
+pub signed-none : (text : List ℕ) → length text ≡ 0 → None ≡ signed_by text
 unfolding signed_by
 signed-none [] h = refl
 signed-none (b ∷ t) h = absurd (omega arith)

@@ -10,7 +10,7 @@ use borrow.Author.Tests.{lt-ltb, leb-true, leb-false, le-leb, lt-leb}
 use lib.Dec.{leb, ltb}
 use lib.ListN.{length, drop, get_or, drop_of_length-le}
 use lib.Seq.{drop-cons}
-use Rattle.console.specs.declared.decimal.Spelled.TheVariants.{Number, Unreadable}
+use Rattle.std.proofs.Common.{Some, None}
 use Rattle.console.specs.Decimal.{is_digit, are_digits, number_after, spelled_by}
 use Rattle.console.specs.inner.Digit.{one_more}
 
@@ -22,16 +22,16 @@ pub record More (n b most m : ℕ) : Type 0 where
   pub few : m ≤ most
 
 more-is : (d l : Bool) (n b most m : ℕ) → is_digit b ≡ d → leb (10 * n + (b - 48)) most ≡ l
-    → cond (d && l) (Number (10 * n + (b - 48))) Unreadable ≡ Number m → More n b most m
+    → cond (d && l) (Some (10 * n + (b - 48))) None ≡ Some m → More n b most m
 more-is true true n b most m p q e =
     let i : m ≡ 10 * n + (b - 48) = cc in record { digit = p; is = i; few = omega (arith, leb-true (10 * n + (b - 48)) most q) }
 more-is true false n b most m p q e = absurd (let z : ◌≡◌ {A = ℕ} 0 1 = cc in omega arith)
 more-is false l n b most m p q e = absurd (let z : ◌≡◌ {A = ℕ} 0 1 = cc in omega arith)
 
-more : {n b most m : ℕ} → one_more n b most ≡ Number m → More n b most m
+more : {n b most m : ℕ} → one_more n b most ≡ Some m → More n b most m
 more {n} {b} {most} {m} e = more-is (is_digit b) (leb (10 * n + (b - 48)) most) n b most m refl refl e
 
-no-more-is : (d l : Bool) (m : ℕ) → cond (d && l) (Number m) Unreadable ≡ Unreadable → (d && l) ≡ false
+no-more-is : (d l : Bool) (m : ℕ) → cond (d && l) (Some m) None ≡ None → (d && l) ≡ false
 no-more-is true true m e = absurd (let z : ◌≡◌ {A = ℕ} 0 1 = cc in omega arith)
 no-more-is true false m e = refl
 no-more-is false l m e = refl
@@ -50,7 +50,7 @@ pub record Reading (text : List ℕ) (most n i : ℕ) : Type 0 where
   pub digits : are_digits (drop i text) ≡ are_digits text
   pub few : n ≤ most
 
-pub none : (text : List ℕ) (most : ℕ) → length text ≡ 0 → Unreadable ≡ spelled_by text most
+pub none : (text : List ℕ) (most : ℕ) → length text ≡ 0 → None ≡ spelled_by text most
 unfolding spelled_by
 none [] most h = refl
 none (b ∷ t) most h = absurd (omega arith)
@@ -61,7 +61,7 @@ begins text most h = record { past = omega arith; some = h; number = refl; digit
 next : (text : List ℕ) (i : ℕ) → i < length text → drop i text ≡ get_or text i 0 ∷ drop (i + 1) text
 next text i h = rw (add-one, drop-cons text i 0)
 
-pub goes_on : {text : List ℕ} {most n i m : ℕ} → Reading text most n i → i < length text → one_more n (get_or text i 0) most ≡ Number m
+pub goes_on : {text : List ℕ} {most n i m : ℕ} → Reading text most n i → i < length text → one_more n (get_or text i 0) most ≡ Some m
     → Reading text most m (i + 1)
 unfolding are_digits number_after
 goes_on {text} {most} {n} {i} {m} r h e =
@@ -91,8 +91,8 @@ refused-is true false n b most t p q e =
     no-and (are_digits (b ∷ t)) (lt-leb (number_after (10 * n + (b - 48)) t) most k)
 refused-is true true n b most t p q e = absurd (true≢false e)
 
-pub stops : {text : List ℕ} {most n i : ℕ} → Reading text most n i → i < length text → one_more n (get_or text i 0) most ≡ Unreadable
-    → Unreadable ≡ spelled_by text most
+pub stops : {text : List ℕ} {most n i : ℕ} → Reading text most n i → i < length text → one_more n (get_or text i 0) most ≡ None
+    → None ≡ spelled_by text most
 unfolding spelled_by
 stops {text} {most} {n} {i} r h e =
     let b = get_or text i 0 in
@@ -104,7 +104,7 @@ stops {text} {most} {n} {i} r h e =
     let g : (are_digits text && leb (number_after 0 text) most) ≡ false = rw (← d, ← m) f in
     simp (lt-ltb 0 (length text) r.some, g)
 
-pub ends : {text : List ℕ} {most n i : ℕ} → Reading text most n i → length text ≤ i → Number n ≡ spelled_by text most
+pub ends : {text : List ℕ} {most n i : ℕ} → Reading text most n i → length text ≤ i → Some n ≡ spelled_by text most
 unfolding spelled_by are_digits number_after
 ends {text} {most} {n} {i} r h =
     let e : drop i text ≡ [] = drop_of_length-le text h in
@@ -113,13 +113,13 @@ ends {text} {most} {n} {i} r h =
     simp (lt-ltb 0 (length text) r.some, sym d, sym m, le-leb n most r.few)
 
 -- ---- what is read is at most `most`
-at-most-is : (a b l : Bool) (n most m : ℕ) → leb n most ≡ l → Number m ≡ cond (a && b && l) (Number n) Unreadable → m ≤ most
+at-most-is : (a b l : Bool) (n most m : ℕ) → leb n most ≡ l → Some m ≡ cond (a && b && l) (Some n) None → m ≤ most
 at-most-is true true true n most m q e = let i : m ≡ n = cc in omega (arith, leb-true n most q)
 at-most-is true true false n most m q e = absurd (let z : ◌≡◌ {A = ℕ} 0 1 = cc in omega arith)
 at-most-is true false l n most m q e = absurd (let z : ◌≡◌ {A = ℕ} 0 1 = cc in omega arith)
 at-most-is false b l n most m q e = absurd (let z : ◌≡◌ {A = ℕ} 0 1 = cc in omega arith)
 
-pub at_most : (text : List ℕ) (most : ℕ) {n : ℕ} → Number n ≡ spelled_by text most → n ≤ most
+pub at_most : (text : List ℕ) (most : ℕ) {n : ℕ} → Some n ≡ spelled_by text most → n ≤ most
 unfolding spelled_by
 at_most text most {n} e =
     at-most-is (ltb 0 (length text)) (are_digits text) (leb (number_after 0 text) most) (number_after 0 text) most n refl e

@@ -1,7 +1,5 @@
 -- The number that decimal digits spell. Assumes nothing.
-use Rattle.std.specs.Prelude.{Bool, true, ◌&&◌, cond, List, [], ◌∷◌, ℕ, ◌+◌, ◌-◌, ◌*◌, leb, ltb, length}
-use Rattle.console.specs.declared.decimal.Spelled.{Spelled}
-use Rattle.console.specs.declared.decimal.Spelled.TheVariants.{Number, Unreadable}
+use Rattle.std.specs.Prelude.{Bool, true, ◌&&◌, cond, List, [], ◌∷◌, ℕ, ◌+◌, ◌-◌, ◌*◌, leb, ltb, length, Option, Some, None}
 
 -- the bytes of the digits 0 to 9
 abbrev pub is_digit : ℕ → Bool
@@ -18,5 +16,5 @@ number_after n [] = n
 number_after n (b ∷ t) = number_after (10 * n + (b - 48)) t
 
 -- a text spells a number if it is one digit or more and nothing else; one above `most` cannot be read
-unfoldable pub spelled_by : List ℕ → ℕ → Spelled
-spelled_by t most = cond (ltb 0 (length t) && are_digits t && leb (number_after 0 t) most) (Number (number_after 0 t)) Unreadable
+unfoldable pub spelled_by : List ℕ → ℕ → Option ℕ
+spelled_by t most = cond (ltb 0 (length t) && are_digits t && leb (number_after 0 t) most) (Some (number_after 0 t)) None

@@ -3,15 +3,15 @@ ghost use Rattle.std.specs.Prelude.{◌≡◌, not};
 ghost use Rattle.grid.specs.Outcome.{accepted, number_of, place_of};
 
 use crate::line;
-use grid::Answer;
+use grid::refusals::Answer;
 use std::io;
 
 pub fn refused(a: Answer) -> bool
     ensures { result ≡ not (accepted a) }
 {
     match a {
-        Answer::Done => false,
-        Answer::Refused(_, _) => true,
+        Ok(()) => false,
+        Err(_) => true,
     }
 }
 
@@ -19,8 +19,8 @@ fn number_of(a: Answer) -> u8
     ensures { result ≡ number_of a }
 {
     match a {
-        Answer::Done => 0,
-        Answer::Refused(number, _) => number,
+        Ok(()) => 0,
+        Err(refusal) => refusal.number(),
     }
 }
 
@@ -28,8 +28,8 @@ fn place_of(a: Answer) -> usize
     ensures { result ≡ place_of a }
 {
     match a {
-        Answer::Done => 0,
-        Answer::Refused(_, place) => place,
+        Ok(()) => 0,
+        Err(refusal) => refusal.place(),
     }
 }
 

@@ -9,6 +9,7 @@ pub fn read_full(input: &mut impl Read, room: &mut [u8]) -> io::Result<usize>
     ensures { IfOk result (λ n. n ≤ length room.new) }
 {
     let mut done = 0;
+    // As many bytes at a time as each reading gives: no range says that.
     while done < room.len() {
         let n = input.read(&mut room[done..])?;
         if n == 0 {

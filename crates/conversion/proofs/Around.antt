@@ -138,13 +138,6 @@ module _ (flags marks off : List ℕ) (low : ℕ) where
       there i d h (yes e) = g i d e
       there i d h (no n) = s.beside i d (omega arith)
 
-  pub underway-first : (next : List ℕ) → next ≡ flags → Underway next 0
-  underway-first next e = record {
-    to = omega arith;
-    size = ap length e;
-    each = λ b h. inr (ap (λ (l : List ℕ). get_or l b 0) e, record { own = λ k. absurd (omega arith); beside = λ i d k t. omega arith });
-  }
-
   -- a cell whose mark is neither turns nothing
   pub underway-skip : (next : List ℕ) (c : ℕ) → Underway next c → c < length flags → (mark c ≡ 1 → ⊥) → (mark c ≡ 2 → ⊥) → Underway next (c + 1)
   underway-skip next c r h f g = record {

@@ -42,11 +42,12 @@ use Rattle.conversion.proofs.Handed.{Listed}
 use Rattle.conversion.proofs.Offspring.{tested, fills-good, gravity, flags-there, fed, later-is, newborn-fair}
 use Rattle.conversion.proofs.Settled.{emptying, settled-marks, settled-marked, turned-flags}
 use Rattle.conversion.proofs.Turns as turns
+use Rattle.grid.specs.declared.refusals.Refusal.TheVariants.{BadFlag}
 
 -- tests 4 to 6 passed: test 4's in the form that passes 2 and 3 ask
 ready-flagged : (s : Sides) (g : Settings) (a : Lent) → Ready s g a → Flagged s a.flags
 unfolding good_answer grid_of box cells_of state_of
-ready-flagged s g a r = record { sides = r.sides; count = r.sized.flags; tested = (none_found (grid_of s).cells 4 _ _ r.good).0 }
+ready-flagged s g a r = record { sides = r.sides; count = r.sized.flags; tested = (none_found (grid_of s).cells BadFlag _ _ r.good).0 }
 
 pub ready-poised : (s : Sides) (g : Settings) (a : Lent) → Ready s g a → Poised s g a
 unfolding grid_of box cells_of d3q19

@@ -73,19 +73,6 @@ module _ (part₀ : ℕ → ℕ → ℤ) (masses₀ : List ℤ) (marks₀ : List
     pub marks-done : (j : ℕ) → j < c → get_or marks j 0 ≡ 0
     pub marks-rest : (j : ℕ) → c ≤ j → get_or marks j 0 ≡ get_or marks₀ j 0
 
-  pub upon-first : Upon part₀ masses₀ marks₀ 0
-  upon-first = record {
-    to = omega arith;
-    masses-size = refl;
-    marks-size = refl;
-    parts-done = λ j k h l. absurd (omega arith);
-    parts-rest = λ j k h l. refl;
-    masses-done = λ j h. absurd (omega arith);
-    masses-rest = λ j h. refl;
-    marks-done = λ j h. absurd (omega arith);
-    marks-rest = λ j h. refl;
-  }
-
   -- what held of each number before c, and of c
   upto : (P : ℕ → Type 0) (c : ℕ) → ((j : ℕ) → j < c → P j) → P c → (j : ℕ) → j < c + 1 → P j
   upto P c h e j k = go (ℕ_discrete j c)
@@ -112,14 +99,6 @@ module _ (part₀ : ℕ → ℕ → ℤ) (masses₀ : List ℤ) (marks₀ : List
           marks-done = upto (λ j. get_or marks j 0 ≡ 0) c u.marks-done e;
           marks-rest = λ j l. u.marks-rest j (omega arith);
         }
-
-    -- so are the parts themselves
-    pub parts-still : {Room Room' : ℕ → Type 0} → Room' c → Parts Room part₀ c → Parts Room' part c
-    parts-still r p = record {
-      there = r;
-      rest = subst (λ (z : ℤ). Within z 1073741824) (sym (u.parts-rest c 0 (omega arith) (omega arith))) p.rest;
-      at = λ k i l. subst (λ (z : ℤ). Within z 33554432) (sym (u.parts-rest c k (omega arith) l)) (p.at k i l);
-    }
 
     -- the density is still that of the parts at first
     density-still : density_at part c ≡ density_at part₀ c

@@ -131,10 +131,8 @@ fn mean_flow(
         y: 0,
         z: 0,
     };
-    let mut i = 1;
-    while i < 19 {
+    for i in 1..19 {
         t = with_cell(t, flags, parts, fills, off, low, k + off[i], g);
-        i += 1;
     }
     mean(t)
 }
@@ -202,6 +200,7 @@ pub(crate) fn newborn(
     let low = low_of(s);
     let mut fair = true;
     let mut c = 0;
+    // From one interface cell to the next: no range says that.
     while c < flags.len() {
         fair = fair & visit(flags, parts, fills, flags2, parts2, &off, low, c, g);
         c = next_of(flags2, c + 1, 1);

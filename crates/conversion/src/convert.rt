@@ -35,13 +35,11 @@ fn turn_around(flags: &[u8], next: &mut [u8], off: &[usize; 19], low: usize, c: 
     ensures { next.new ≡ tab (length flags.now) (turned_around flags.now next.old off.now low c kind) }
 {
     next[c] = 2 - kind;
-    let mut i = 1;
-    while i < 19 {
+    for i in 1..19 {
         let b = c - low + off[i];
         if flags[b] == kind {
             next[b] = 1;
         }
-        i += 1;
     }
 }
 
@@ -51,6 +49,7 @@ pub fn new_flags_by(flags: &[u8], marks: &[u8], next: &mut [u8], off: &[usize; 1
     ensures { next.new ≡ tab (length flags.now) (turned_by flags.now marks.now off.now low) }
 {
     let mut c = 0;
+    // From one marked cell to the next: no range says that.
     while c < marks.len() {
         let m = marks[c];
         if m == 1 {

@@ -22,6 +22,7 @@ pub fn settle_marks_by(marks: &mut [u8], off: &[usize; 19], low: usize)
     ensures { marks.new ≡ tab (length marks.old) (kept_by marks.old off.now low) }
 {
     let mut c = 0;
+    // From one marked cell to the next: no range says that.
     while c < marks.len() {
         if marks[c] == 2 {
             marks[c] = kept(neighbours::beside(marks, off, c - low, 1));

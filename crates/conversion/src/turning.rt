@@ -10,7 +10,6 @@ use excess::{giving, straying};
 use grid::Sides;
 use lattice::Settings;
 use lattice::limits::fair_carry;
-use walks::copying;
 
 // Passes 2 to 7. The flags are a copy of the old ones, of which pass 3 changes those that turn.
 fn converted(
@@ -59,8 +58,8 @@ pub fn turned(
     requires { Turning s g (lent flags.now parts.now masses.now fills.now carry.now) flags2.old parts2.old masses2.old carry2.old marks.old calm }
     ensures { Turned (scene_of s g (lent flags.now parts.now masses.now fills.now carry.now)) (cells_of s) flags2.new parts2.new masses2.new carry2.new marks.new result }
 {
-    copying::copy_u8(flags, flags2);
-    copying::copy_i64(carry, carry2);
+    flags2.copy_from_slice(flags);
+    carry2.copy_from_slice(carry);
     if calm {
         return true;
     }

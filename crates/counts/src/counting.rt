@@ -30,10 +30,8 @@ fn cells_with(flags: &[u8], wanted: u8) -> usize
     ensures { result ≡ cells_with wanted flags.now }
 {
     let mut found = 0;
-    let mut c = 0;
-    while c < flags.len() {
-        found += one(flags[c], wanted);
-        c += 1;
+    for flag in flags {
+        found += one(*flag, wanted);
     }
     found
 }
@@ -44,10 +42,8 @@ fn mass_sum(masses: &[i32]) -> i64
     ensures result_bound { nat_abs result ≤ 1851131068416 }
 {
     let mut sum: i64 = 0;
-    let mut c = 0;
-    while c < masses.len() {
-        sum += wide(masses[c]);
-        c += 1;
+    for mass in masses {
+        sum += wide(*mass);
     }
     sum
 }

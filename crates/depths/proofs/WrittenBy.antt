@@ -1,7 +1,7 @@
 -- The writer's promise, from what its tests give. Assumes nothing.
 use mathlib.Core.Path.{◌≡◌, refl, sym, ap, ◌∙◌}
 use mathlib.Core.Bool.{true, false, ◌&&◌}
-use mathlib.Core.List.{List, ◌++◌}
+use mathlib.Core.List.{List}
 use Prim.Native.Nat.{ℕ, ◌≤◌, ◌<◌}
 use native.Mathlib.Omega.{arith}
 use borrow.Author.Tests.{le-leb, lt-leb}
@@ -12,8 +12,8 @@ use lib.Seq.{sets}
 use Rattle.whole.specs.laws.Bools.{and_left}
 use Rattle.lattice.specs.Cell.{edge_good, coordinate_good}
 use Rattle.grid.specs.declared.Sides.{Sides}
-use Rattle.grid.specs.declared.Answer.{Answer}
-use Rattle.grid.specs.declared.Answer.TheVariants.{Done, Refused}
+use Rattle.grid.specs.Answer.{Answer}
+use Rattle.grid.specs.Answer.{Done}
 use Rattle.grid.specs.Grid.{sides_good, cells_of}
 use Rattle.grid.specs.State.{Lent}
 use Rattle.grid.specs.Outcome.{accepted, or_refuse}
@@ -27,12 +27,14 @@ use Rattle.depths.specs.inner.Asks.{Measured}
 use Rattle.depths.specs.Outcome.{map_of, corner_good, map_answer, map_written, map_room, Wrote}
 use Rattle.depths.proofs.Measuring.{measured}
 use Rattle.record.proofs.WrittenBy.{chain-three}
+use Rattle.grid.specs.declared.refusals.Refusal.TheVariants.{BadLength, BadRoom, BadSetting, BadSides}
+use Rattle.std.specs.Prelude.{Err}
 
 -- ---- tests 1 to 6 in a row
 
 module _ (s : Sides) (t : Corner) (a : Lent) where
   abbrev pub fits : Answer → Answer
-  fits rest = or_refuse (sides_good s) 1 0 (or_refuse (three_lengths (cells_of s) a) 2 0 (or_refuse (corner_good t) 3 0 (three_good s a rest)))
+  fits rest = or_refuse (sides_good s) BadSides (or_refuse (three_lengths (cells_of s) a) BadLength (or_refuse (corner_good t) (BadSetting 0) (three_good s a rest)))
 
   chain_fits : Chain fits
   chain_fits =
@@ -40,9 +42,9 @@ module _ (s : Sides) (t : Corner) (a : Lent) where
       let A = three_lengths (cells_of s) a in
       let T = corner_good t in
       let G = three_good s a in
-      chain-then (or_refuse S 1 0) (λ rest. or_refuse A 2 0 (or_refuse T 3 0 (G rest))) (chain-or S 1 0)
-      (chain-then (or_refuse A 2 0) (λ rest. or_refuse T 3 0 (G rest)) (chain-or A 2 0)
-      (chain-then (or_refuse T 3 0) G (chain-or T 3 0) (chain-three s a)))
+      chain-then (or_refuse S BadSides) (λ rest. or_refuse A BadLength (or_refuse T (BadSetting 0) (G rest))) (chain-or S BadSides)
+      (chain-then (or_refuse A BadLength) (λ rest. or_refuse T (BadSetting 0) (G rest)) (chain-or A BadLength)
+      (chain-then (or_refuse T (BadSetting 0)) G (chain-or T (BadSetting 0)) (chain-three s a)))
 
   -- a grid that passed them
   pub record Fit : Type 0 where
@@ -55,12 +57,12 @@ module _ (s : Sides) (t : Corner) (a : Lent) where
       let A = three_lengths (cells_of s) a in
       let T = corner_good t in
       let G = three_good s a in
-      let one = chain-both (or_refuse S 1 0) (λ rest. or_refuse A 2 0 (or_refuse T 3 0 (G rest))) (chain-or S 1 0) e in
-      let two = chain-both (or_refuse A 2 0) (λ rest. or_refuse T 3 0 (G rest)) (chain-or A 2 0) one.1 in
-      let three = chain-both (or_refuse T 3 0) G (chain-or T 3 0) two.1 in
+      let one = chain-both (or_refuse S BadSides) (λ rest. or_refuse A BadLength (or_refuse T (BadSetting 0) (G rest))) (chain-or S BadSides) e in
+      let two = chain-both (or_refuse A BadLength) (λ rest. or_refuse T (BadSetting 0) (G rest)) (chain-or A BadLength) one.1 in
+      let three = chain-both (or_refuse T (BadSetting 0)) G (chain-or T (BadSetting 0)) two.1 in
       record {
-        set = has-passed s a (sym (then-checked s a (or-true S 1 0 one.0) (or-true A 2 0 two.0)) ∙ accepted-done (G Done) three.1);
-        corner = or-true T 3 0 three.0;
+        set = has-passed s a (sym (then-checked s a (or-true S BadSides one.0) (or-true A BadLength two.0)) ∙ accepted-done (G Done) three.1);
+        corner = or-true T (BadSetting 0) three.0;
       }
 
   pub fit-measured : Fit → Measured s (nat_abs t.edge) a.flags a.fills
@@ -71,7 +73,7 @@ module _ (s : Sides) (t : Corner) (a : Lent) where
 
   module _ (room : List ℕ) where
     abbrev last : Answer
-    last = or_refuse (leb (length (map_of s t a)) (length room)) 12 (length (map_of s t a)) Done
+    last = or_refuse (leb (length (map_of s t a)) (length room)) (BadRoom (length (map_of s t a))) Done
 
     answer-is : map_answer s t a room ≡ fits last
     unfolding map_answer
@@ -90,18 +92,18 @@ module _ (s : Sides) (t : Corner) (a : Lent) where
     pub write-refused : (x : Answer) → x ≡ fits Done → accepted x ≡ false → Wrote s t a room (record { answer = x; bytes = 0 }) room
     write-refused x e f = refused x (e ∙ sym (answer-is ∙ chain_fits.refuses (sym (ap accepted e) ∙ f) last)) f
 
-    pub write-short : (n : ℕ) → n ≡ length (map_of s t a) → accepted (fits Done) ≡ true → length room < n → Wrote s t a room (record { answer = Refused 12 n; bytes = 0 }) room
+    pub write-short : (n : ℕ) → n ≡ length (map_of s t a) → accepted (fits Done) ≡ true → length room < n → Wrote s t a room (record { answer = Err (BadRoom n); bytes = 0 }) room
     write-short n is ok h =
-        refused (Refused 12 n)
-        (ap (Refused 12) is
-        ∙ sym (answer-is ∙ chain_fits.passes ok last ∙ or-fail 12 (length (map_of s t a)) Done (lt-leb (length (map_of s t a)) (length room) (omega arith))))
+        refused (Err (BadRoom n))
+        (ap (λ (p : ℕ). Err (BadRoom p)) is
+        ∙ sym (answer-is ∙ chain_fits.passes ok last ∙ or-fail (BadRoom (length (map_of s t a))) Done (lt-leb (length (map_of s t a)) (length room) (omega arith))))
         refl
 
     pub write_done : (n : ℕ) (after : List ℕ) → n ≡ length (map_of s t a) → accepted (fits Done) ≡ true → n ≤ length room → after ≡ sets room 0 (map_of s t a)
         → Wrote s t a room (record { answer = Done; bytes = n }) after
     unfolding map_written map_room
     write_done n after is ok h e =
-        let done : map_answer s t a room ≡ Done = answer-is ∙ chain_fits.passes ok last ∙ or-pass 12 (length (map_of s t a)) Done (le-leb (length (map_of s t a)) (length room) (omega arith)) in
+        let done : map_answer s t a room ≡ Done = answer-is ∙ chain_fits.passes ok last ∙ or-pass (BadRoom (length (map_of s t a))) Done (le-leb (length (map_of s t a)) (length room) (omega arith)) in
         record {
           answer-is = rw done (ap (λ (k : ℕ). record { answer = Done; bytes = k }) is);
           room-is = rw done (e ∙ front-put room (map_of s t a) (omega arith));

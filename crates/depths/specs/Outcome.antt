@@ -2,8 +2,8 @@
 use Rattle.std.specs.Prelude.{◌≡◌, Bool, ◌&&◌, cond, List, ◌++◌, ℕ, leb, length, drop}
 use Rattle.lattice.specs.Cell.{edge_good, coordinate_good}
 use Rattle.grid.specs.declared.Sides.{Sides}
-use Rattle.grid.specs.declared.Answer.{Answer}
-use Rattle.grid.specs.declared.Answer.TheVariants.{Done}
+use Rattle.grid.specs.Answer.{Answer}
+use Rattle.grid.specs.Answer.{Done}
 use Rattle.grid.specs.Grid.{cells_of, sides_good}
 use Rattle.grid.specs.State.{Lent}
 use Rattle.grid.specs.Outcome.{accepted, or_refuse}
@@ -11,6 +11,7 @@ use Rattle.pumps.specs.Three.{three_lengths, three_good}
 use Rattle.record.specs.declared.Written.{Written}
 use Rattle.depths.specs.declared.Corner.{Corner}
 use Rattle.depths.specs.Map.{map_text}
+use Rattle.grid.specs.declared.refusals.Refusal.TheVariants.{BadLength, BadRoom, BadSetting, BadSides}
 
 -- the map of a lent set
 abbrev pub map_of : Sides → Corner → Lent → List ℕ
@@ -23,11 +24,11 @@ corner_good t = edge_good t.edge && coordinate_good t.x && coordinate_good t.y
 -- tests 1 to 6, and 12 last, its place the text's length
 unfoldable pub map_answer : Sides → Corner → Lent → List ℕ → Answer
 map_answer s t a room =
-    or_refuse (sides_good s) 1 0
-    (or_refuse (three_lengths (cells_of s) a) 2 0
-    (or_refuse (corner_good t) 3 0
+    or_refuse (sides_good s) BadSides
+    (or_refuse (three_lengths (cells_of s) a) BadLength
+    (or_refuse (corner_good t) (BadSetting 0)
     (three_good s a
-    (or_refuse (leb (length (map_of s t a)) (length room)) 12 (length (map_of s t a)) Done))))
+    (or_refuse (leb (length (map_of s t a)) (length room)) (BadRoom (length (map_of s t a))) Done))))
 
 -- with the text's length, 0 beside a refusal
 unfoldable pub map_written : Sides → Corner → Lent → List ℕ → Written

@@ -26,10 +26,8 @@ fn row_length(s: Sides, edge: u64, flags: &[u8], fills: &[u32], y: usize) -> usi
 {
     let nx = s.nx;
     let mut long = 0;
-    let mut x = 0;
-    while x < nx {
+    for x in 0..nx {
         long += whole_length(depth(s, edge, flags, fills, x, y)) + 1;
-        x += 1;
     }
     long
 }
@@ -39,9 +37,7 @@ fn rows_length(s: Sides, edge: u64, flags: &[u8], fills: &[u32]) -> usize
     ensures { result ≡ length (rows_text (depth_at s edge flags.now fills.now) s.nx s.ny) }
 {
     let mut long = 0;
-    let mut y = s.ny;
-    while 0 < y {
-        y -= 1;
+    for y in (0..s.ny).rev() {
         long += row_length(s, edge, flags, fills, y);
     }
     long

@@ -79,11 +79,9 @@ fn put_row(
 {
     let nx = s.nx;
     let mut p = at;
-    let mut x = 0;
-    while x < nx {
+    for x in 0..nx {
         let v = depth(s, edge, flags, fills, x, y);
-        x += 1;
-        p = put_value(room, p, v, nx - x);
+        p = put_value(room, p, v, nx - (x + 1));
     }
     p
 }
@@ -95,9 +93,7 @@ fn put_rows(room: &mut [u8], at: usize, s: Sides, edge: u64, flags: &[u8], fills
     ensures { Put room.old at (rows_text (depth_at s edge flags.now fills.now) s.nx s.ny) room.new result }
 {
     let mut p = at;
-    let mut y = s.ny;
-    while 0 < y {
-        y -= 1;
+    for y in (0..s.ny).rev() {
         p = put_row(room, p, s, edge, flags, fills, y);
     }
     p

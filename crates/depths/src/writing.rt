@@ -2,7 +2,8 @@
 ghost use Rattle.std.specs.Prelude.{◌≡◌, ◌&&◌};
 ghost use Rattle.lattice.specs.Cell.{edge_good, coordinate_good};
 ghost use Rattle.grid.specs.Grid.{sides_good, cells_of};
-ghost use Rattle.grid.specs.declared.Answer.TheVariants.{Done};
+ghost use Rattle.grid.specs.Answer.{Done};
+ghost use Rattle.grid.specs.declared.refusals.Refusal.TheVariants.{BadSides, BadLength, BadSetting};
 ghost use Rattle.grid.specs.State.{lent};
 ghost use Rattle.grid.specs.Outcome.{or_refuse};
 ghost use Rattle.pumps.specs.Three.{three_lengths, three_good};
@@ -11,11 +12,11 @@ ghost use Rattle.depths.specs.Outcome.{corner_good, Wrote};
 use crate::Corner;
 use crate::long::map_length;
 use crate::put::put_map;
+use grid::Sides;
 use grid::extent::{cells, good_sides};
-use grid::{Answer, Sides};
+use grid::refusals::{Answer, Refusal};
 use pumps::entry::{checked, three_lengths};
 use record::Written;
-use record::section::passed;
 
 fn good_edge(edge: i64) -> bool
     ensures { result ≡ edge_good edge }
@@ -46,10 +47,10 @@ fn fit(
     fills: &[u32],
     carry: &[i64],
 ) -> Answer
-    ensures { result ≡ or_refuse (sides_good s) 1 0 (or_refuse (three_lengths (cells_of s) (lent flags.now parts.now masses.now fills.now carry.now)) 2 0 (or_refuse (corner_good t) 3 0 (three_good s (lent flags.now parts.now masses.now fills.now carry.now) Done))) }
+    ensures { result ≡ or_refuse (sides_good s) BadSides (or_refuse (three_lengths (cells_of s) (lent flags.now parts.now masses.now fills.now carry.now)) BadLength (or_refuse (corner_good t) (BadSetting 0) (three_good s (lent flags.now parts.now masses.now fills.now carry.now) Done))) }
 {
     if !good_sides(s) {
-        return Answer::Refused(1, 0);
+        return Err(Refusal::BadSides);
     }
     let n = cells(s);
     if !three_lengths(
@@ -60,10 +61,10 @@ fn fit(
         carry.len(),
         n,
     ) {
-        return Answer::Refused(2, 0);
+        return Err(Refusal::BadLength);
     }
     if !good_corner(t) {
-        return Answer::Refused(3, 0);
+        return Err(Refusal::BadSetting(0));
     }
     checked(flags, parts, masses, fills, carry, s)
 }
@@ -81,23 +82,22 @@ pub fn write(
 ) -> Written
     ensures { Wrote s t (lent flags.now parts.now masses.now fills.now carry.now) room.old result room.new }
 {
-    let tested = fit(s, t, flags, parts, masses, fills, carry);
-    if !passed(tested) {
+    if let Err(refusal) = fit(s, t, flags, parts, masses, fills, carry) {
         return Written {
-            answer: tested,
+            answer: Err(refusal),
             bytes: 0,
         };
     }
     let long = map_length(s, t, flags, fills);
     if room.len() < long {
         return Written {
-            answer: Answer::Refused(12, long),
+            answer: Err(Refusal::BadRoom(long)),
             bytes: 0,
         };
     }
     put_map(room, s, t, flags, fills);
     Written {
-        answer: Answer::Done,
+        answer: Ok(()),
         bytes: long,
     }
 }

@@ -13,15 +13,17 @@ use lib.ListN.{length, get_or}
 use borrow.Author.Tests.{eq-eqb, ne_eqb, eqb-false, le-leb, lt-ltb}
 use Rattle.whole.specs.laws.Bools.{cond_yes, cond_no, and-true}
 use Rattle.whole.specs.Fold.{sum, any_dir, Dir}
-use Rattle.whole.specs.laws.Machine.{Within}
+use Rattle.whole.specs.laws.Machine.{Val, Within, v+}
 use Rattle.whole.specs.laws.Search.{as-dir, any-dir}
 use Rattle.whole.specs.laws.Sums.{sum-cong, sum-abs, sum-zero}
 use Rattle.lattice.specs.Lattice.{d3q19}
 use Rattle.lattice.specs.Cell.{share}
 use Rattle.lattice.proofs.Paired.{paired19}
-use Rattle.grid.proofs.Ranges.{Ranged, ranged}
+use Rattle.grid.specs.inner.Passes.{NextOf}
+use Rattle.grid.proofs.Ranges.{Ranged, ranged, over-gap, ranged-keep}
 use Rattle.excess.specs.inner.Gifts.{target_at, weight_at, density_at, excess_at, gift_at, gift_from, marked_at, received_at, gathered_at, Giver, Giving}
 use Rattle.excess.proofs.Sent.{from_in}
+use Rattle.excess.proofs.Readings.{held_in}
 
 -- what the neighbour in direction a + 1 of the cell with k = c − low gives
 abbrev pub sent : List ℕ → List ℕ → (ℕ → ℕ → ℤ) → List ℤ → List ℕ → List ℕ → ℕ → ℕ → ℕ → ℤ
@@ -59,6 +61,9 @@ module _ {flags fills : List ℕ} {Room : ℕ → Type 0} {part : ℕ → ℕ �
         λ m. (g.giver (c - low + get_or off i 0) l m, eq-eqb _ 1 (ap (λ (j : ℕ). get_or flags j 0) (g.returns c i h f d m) ∙ f)),
       )
 
+  pub asked-of : (i o : ℕ) → Dir 18 i → o ≡ d3q19.opp i → Asked flags fills Room part masses marks off low (c - low + get_or off i 0) o
+  asked-of i o d e = subst (Asked flags fills Room part masses marks off low (c - low + get_or off i 0)) (sym e) (asked i d)
+
   pub sent-in : (a : ℕ) → a < 18 → Within (sent flags fills part masses marks off low (c - low) a) 92012544
   sent-in a l =
       let q = asked (suc a) (as-dir l) in
@@ -70,6 +75,12 @@ module _ {flags fills : List ℕ} {Room : ℕ → Type 0} {part : ℕ → ℕ �
       record {
         abs = omega (arith, sum-abs n (sent flags fills part masses marks off low (c - low)) 92012544 (λ a k. (sent-in a (omega arith)).abs), mul-le-mul_right 92012544 l);
       }
+
+  -- what stands in the code's sum, and what the neighbour in direction i gave
+  abbrev pub more : (i o : ℕ) → 1 ≤ i → i < 19 → {t x : ℤ} → t ≡ sum (i - 1) (sent flags fills part masses marks off low (c - low)) → o ≡ d3q19.opp i
+      → x ≡ gift_from flags fills part masses marks off low (c - low + get_or off i 0) o → Val (t +ℤ x)
+  more i o z l e p u =
+      v+ (held_in e (sum-in (i - 1) (omega arith))) (held_in (u ∙ sent-at flags fills part masses marks off low (c - low) i o z p) (sent-in (i - 1) (omega arith)))
 
   pub received-in : Within (received_at flags fills part masses marks off low c) 1656225792
   unfolding received_at
@@ -156,6 +167,22 @@ module _ {flags fills : List ℕ} {Room : ℕ → Type 0} {part : ℕ → ℕ �
       go : Dec (j < c) → get_or masses j (pos 0) ≡ get_or masses₀ j (pos 0)
       go (yes l) = r.done j l ∙ either (leb 0 j && ltb j n) (taking j) (get_or masses₀ j (pos 0)) (get_or masses₀ j (pos 0)) (sym (kept j (λ f. m (g.apart j h f)))) refl
       go (no l) = r.rest j (omega arith)
+
+  -- what the cells can give by the masses as they stand then
+  pub giving-then : {n : ℕ} (masses : List ℤ) (c : ℕ) → Ranged (pos 0) taking masses₀ 0 n masses c → Giving flags fills Room part masses marks off low
+  giving-then masses c r = giving-still g masses r.size (marked-still masses c r)
+
+  -- the mass of cell c and what it receives, as they are read then
+  abbrev pub taken-sum : (masses : List ℤ) (c : ℕ) → Ranged (pos 0) taking masses₀ 0 (length flags) masses c → c < length flags → get_or flags c 0 ≡ 1 → Within (get_or masses₀ c (pos 0)) 44826624
+      → {x y : ℤ} → x ≡ get_or masses c (pos 0) → y ≡ received_at flags fills part masses marks off low c → Val (x +ℤ y)
+  taken-sum masses c r h f w e u =
+      v+ (held_in (e ∙ r.rest c (omega arith)) w) (held_in (u ∙ received-still g masses r.size (marked-still masses c r) c h f) (received-in g c h f))
+
+  -- up to the next interface cell masses stay
+  pub taken-on : (masses : List ℤ) (c n : ℕ) → NextOf flags (c + 1) 1 n → Ranged (pos 0) taking masses₀ 0 (length flags) masses (c + 1) → Ranged (pos 0) taking masses₀ 0 (length flags) masses n
+  taken-on masses c n o r =
+      over-gap (Ranged (pos 0) taking masses₀ 0 (length flags) masses) (c + 1) n o.least
+      (λ j k m u. ranged-keep (pos 0) taking masses₀ 0 (length flags) masses j u (omega (arith, o.most)) (kept j (o.before j k m))) r
 
 -- a cell of the range
 pub in-range : (f : ℕ → ℤ) (old : List ℤ) (n j : ℕ) → j < n → ranged (pos 0) f old 0 n j ≡ f j

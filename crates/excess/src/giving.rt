@@ -68,16 +68,14 @@ fn gift_from(
     gift(flags, fills, parts, masses, off, low, b, m, i)
 }
 
-// Whether a neighbour is marked; k is c - low. By pairs and with no way out, as beside most cells none is.
+// Whether a neighbour is marked; k is c - low. With no way out, as beside most cells none is.
 pub fn marked_beside(marks: &[u8], off: &[usize; 19], k: usize) -> bool
     requires { Near (length marks.now) off.now k }
     ensures { result ≡ any_dir 18 (marked_at marks.now off.now k) }
 {
     let mut found = false;
-    let mut i = 1;
-    while i < 19 {
-        found = found | (marks[k + off[i]] != 0) | (marks[k + off[i + 1]] != 0);
-        i += 2;
+    for i in 1..19 {
+        found = found | (marks[k + off[i]] != 0);
     }
     found
 }
@@ -98,8 +96,7 @@ fn all_gifts(
 {
     let k = c - low;
     let mut t: i64 = 0;
-    let mut i = 1;
-    while i < 19 {
+    for i in 1..19 {
         t += gift_from(
             flags,
             fills,
@@ -111,7 +108,6 @@ fn all_gifts(
             k + off[i],
             opposite(i),
         );
-        i += 1;
     }
     t
 }
@@ -151,6 +147,7 @@ pub fn gather(
     let off = offsets(s);
     let low = low_of(s);
     let mut c = 0;
+    // On to the next interface cell, which only the search tells: no range says that.
     while c < flags.len() {
         if flags[c] == 1 {
             let t = gifts(flags, fills, parts, masses, marks, &off, low, c);

@@ -34,10 +34,8 @@ fn weights(flags: &[u8], n: Flow, off: &[usize; 19], k: usize) -> [i64; 19]
 {
     let d = dots(n);
     let mut w = [0i64; 19];
-    let mut i = 1;
-    while i < 19 {
+    for i in 1..19 {
         w[i] = weight(flags[k + off[i]], d[i]);
-        i += 1;
     }
     w
 }
@@ -48,10 +46,8 @@ pub fn evens(flags: &[u8], off: &[usize; 19], k: usize) -> [i64; 19]
     ensures { result ≡ tab 19 (of_dir (even_at flags.now off.now k)) }
 {
     let mut w = [0i64; 19];
-    let mut i = 1;
-    while i < 19 {
+    for i in 1..19 {
         w[i] = even(flags[k + off[i]]);
-        i += 1;
     }
     w
 }

@@ -50,6 +50,7 @@ pub fn new_carry(
     let low = low_of(s);
     let mut t = carry;
     let mut c = 0;
+    // On to the next mark, which only the search tells: no range says that.
     while c < marks.len() {
         let m = marks[c];
         if m != 0 {

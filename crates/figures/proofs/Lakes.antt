@@ -9,8 +9,7 @@ use Rattle.whole.specs.laws.Bools.{T_true}
 use Rattle.whole.specs.Fold.{open-fold}
 use Rattle.lattice.specs.Lattice.{open-lattice}
 use Rattle.lattice.specs.Cell.{open-cell}
-use Rattle.grid.specs.declared.Answer.{Answer}
-use Rattle.grid.specs.declared.Answer.TheVariants.{Done, Refused}
+use Rattle.grid.specs.Answer.{Answer, Done}
 use Rattle.grid.specs.Grid.{sides_good, grid_of, open-grid}
 use Rattle.grid.specs.State.{open-state, flag_of}
 use Rattle.grid.specs.Step.{open_step}
@@ -23,14 +22,15 @@ use Rattle.pools.proofs.Tested.{lengths, then-tested}
 use Rattle.pools.proofs.Guessed.{Right, guessed, guess-right, told_guess, room_guess, open-guess}
 use Rattle.figures.specs.Lakes.{lake_sides, lake, space, told_list, asked, two_pools, no_room, one_pool, pool_figures}
 use Rattle.figures.specs.Table.{Figure, same_z, hold}
+use Rattle.std.specs.Prelude.{Ok, Err}
 
 -- the lowest cells: each its own, and with 22 between them 21
 abbrev low : Bool → ℕ → ℕ
 low between c = cond (between && (eqb c 22 || eqb c 42)) 21 c
 
 is-done : (a : Answer) → T (accepted a) → a ≡ Done
-is-done Done t = refl
-is-done (Refused n p) t = absurd t
+is-done (Ok _) t = refl
+is-done (Err refusal) t = absurd t
 
 -- a figure before others
 pub more : (f : Figure) (fs : List Figure) → T (same_z f.worked f.said) → T (hold fs) → T (hold (f ∷ fs))

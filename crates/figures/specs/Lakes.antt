@@ -5,8 +5,7 @@ use Rattle.std.proofs.lemmas.List.Edits.{sets}
 use Rattle.whole.specs.Fold.{tab}
 use Rattle.grid.specs.declared.Sides.{Sides}
 use Rattle.grid.specs.State.{Lent, lent}
-use Rattle.pools.specs.declared.Told.{Told}
-use Rattle.pools.specs.Outcome.{Room, room, told_number, told_place, told_pools, pools_answer, pools_room}
+use Rattle.pools.specs.Outcome.{Told, Room, room, told_number, told_place, told_pools, pools_answer, pools_room}
 use Rattle.figures.specs.Cases.{rest}
 use Rattle.figures.specs.Table.{Figure}
 

@@ -2,7 +2,7 @@
 use Rattle.std.specs.Prelude.{Bool, true, false, ◌&&◌, cond, List, [], ◌∷◌, ◌++◌, map, ℕ, ◌+◌, ℤ, pos, negsuc, get_or, replicate}
 use Rattle.whole.specs.Fold.{tab}
 use Rattle.lattice.specs.Cell.{fill_of, exchange, over, under, share}
-use Rattle.grid.specs.declared.Answer.{Answer}
+use Rattle.grid.specs.Answer.{Answer}
 use Rattle.grid.specs.State.{Lent, Scene}
 use Rattle.grid.specs.Step.{new_flag, new_part, new_mass, new_fill, excess, normal, gift}
 use Rattle.lattice.specs.Body.{eq_z}
@@ -10,17 +10,13 @@ use Rattle.grid.specs.Outcome.{number_of, place_of, check_answer, scene_of, step
 use Rattle.pumps.specs.Three.{number_in, with_totals}
 use Rattle.pumps.specs.Acts.{acted_number, acted_place, acted_moved, moved_of, act_answer, act_set, acted_by}
 use Rattle.pumps.specs.Demands.{balance}
-use Rattle.index.specs.declared.Counted.{Counted}
-use Rattle.index.specs.declared.Next.{Next}
 use Rattle.index.specs.Index.{Index, index, index_of}
-use Rattle.index.specs.Outcome.{load_answer, count_answer, count_number, count_place, count_cells, next_answer, next_number, next_place, next_kind, next_cell, next_words}
-use Rattle.tunnel.specs.declared.Placed.{Placed}
-use Rattle.tunnel.specs.Place.{refusal_number, cell_number}
+use Rattle.index.specs.Outcome.{Counted, Asked, load_answer, count_answer, count_number, count_place, count_cells, next_answer, next_number, next_place, next_kind, next_cell, next_words}
+use Rattle.tunnel.specs.Place.{Placed, placed_number, cell_number}
 use Rattle.tunnel.specs.Place as placing
-use Rattle.profile.specs.declared.Profiled.{Profiled}
 use Rattle.profile.specs.Kinds.{line_kind}
 use Rattle.profile.specs.Profile.{seen, depth_at}
-use Rattle.profile.specs.Outcome.{profile_answer, profiled_number, profiled_place, wet_of, deepest_of}
+use Rattle.profile.specs.Outcome.{Profiled, profile_answer, profiled_number, profiled_place, wet_of, deepest_of}
 use Rattle.figures.specs.Cases.{sides, falling, single, fallen, case_t, marks, calm, row_sides, row, pool_sides, pool}
 use Rattle.figures.specs.Gutter.{points, chainages, along}
 use Rattle.figures.specs.Surface.{words_t, cube, two, words_two, past}
@@ -54,7 +50,7 @@ placed point =
     placing.placing_of (record { nx = 10; ny = 3; nz = 3 }) (pos 50) (record { x = pos 5200000000; y = pos 0; z = pos 0 }) (record { x = point; y = pos 0; z = pos 0 })
 
 abbrev found : ℤ → ℕ → ℕ → Figure
-found point number cell = record { worked = pos (refusal_number (placed point)) ∷ pos (cell_number (placed point)) ∷ []; said = pos number ∷ pos cell ∷ [] }
+found point number cell = record { worked = pos (placed_number (placed point)) ∷ pos (cell_number (placed point)) ∷ []; said = pos number ∷ pos cell ∷ [] }
 
 -- the two grids of P1 and P6 as a step reads them
 abbrev a_row : Scene
@@ -86,7 +82,7 @@ abbrev counts : Counted → ℕ → Figure
 counts a cells =
     record { worked = map pos (count_number a ∷ count_place a ∷ count_cells a ∷ []); said = pos 0 ∷ pos 0 ∷ pos cells ∷ [] }
 
-abbrev asks : Next → ℕ → ℕ → ℕ → ℕ → Figure
+abbrev asks : Asked → ℕ → ℕ → ℕ → ℕ → Figure
 asks a number kind cell read =
     record {
       worked = map pos (next_number a ∷ next_place a ∷ next_kind a ∷ next_cell a ∷ next_words a ∷ []);

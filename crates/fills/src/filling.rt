@@ -24,10 +24,8 @@ pub fn plain_fills(flags: &[u8], fills: &mut [u32])
     requires { length fills.old ≡ length flags.now }
     ensures { fills.new ≡ tab (length flags.now) (plain_at flags.now) }
 {
-    let mut c = 0;
-    while c < flags.len() {
+    for c in 0..flags.len() {
         fills[c] = plain_fill(flags[c]);
-        c += 1;
     }
 }
 
@@ -39,6 +37,7 @@ pub fn new_fills(flags: &[u8], parts: &[i32], masses: &[i32], fills: &mut [u32])
     plain_fills(flags, fills);
     let mut fair = true;
     let mut c = 0;
+    // From one interface cell to the next: no range says that.
     while c < flags.len() {
         if flags[c] == 1 {
             let m = wide(masses[c]);

@@ -1,11 +1,11 @@
 -- A cell's stages turn on nothing but flags, parts, fills and masses, and on where it and its neighbours lie: two scenes that agree in these agree in what
 -- they make of the cell. So what a function of one cell promises of its sight is what the step's scene has. Assumes nothing.
-use mathlib.Core.Path.{◌≡◌, refl, ap, ap₂, ◌∙◌}
+use mathlib.Core.Path.{◌≡◌, refl, ap, ap₂}
 use mathlib.Core.Bool.{Bool, true, false, ◌&&◌, not, cond}
-use Prim.Native.Nat.{ℕ, zero, suc, ◌+◌, ◌≤◌, ◌<◌}
+use Prim.Native.Nat.{ℕ, zero, suc, ◌+◌, ◌≤◌}
 use native.Mathlib.Omega.{arith}
 use lib.Dec.{eqb}
-use lib.IntN.{ℤ, pos, ◌+ℤ◌, ◌-ℤ◌, ◌*ℤ◌}
+use lib.IntN.{ℤ, pos, ◌+ℤ◌, ◌-ℤ◌}
 use Rattle.lattice.specs.Body.{collided_part, relaxed_dir}
 use Rattle.whole.specs.Fold.{Dir}
 use Rattle.whole.specs.laws.Search.{as-dir}

@@ -18,10 +18,8 @@ pub fn sources(off: [usize; 19], low: usize) -> [usize; 19]
     ensures { result ≡ tab 19 (source_of off) }
 {
     let mut f = [0; 19];
-    let mut i = 0;
-    while i < 19 {
+    for i in 0..19 {
         f[i] = 19 * (low + low - off[i]) + i;
-        i += 1;
     }
     f
 }
@@ -33,10 +31,8 @@ fn streamed_open(parts: &[i32], from: &[usize; 19], a: usize) -> [i32; 19]
 {
     let here = &parts[a..];
     let mut f = [0i32; 19];
-    let mut i = 0;
-    while i < 19 {
+    for i in 0..19 {
         f[i] = here[from[i]];
-        i += 1;
     }
     f
 }
@@ -49,11 +45,10 @@ fn reflected(flags: &[u8], parts: &[i32], off: &[usize; 19], low: usize, c: usiz
     let k = c - low;
     let mut f = [0i32; 19];
     f[0] = parts[19 * c];
-    let mut i = 1;
-    while i < 19 {
+    for pair in 0..9 {
+        let i = 2 * pair + 1;
         f[i + 1] = parts[source(flags, c, k + off[i], i, i + 1)];
         f[i] = parts[source(flags, c, k + off[i + 1], i + 1, i)];
-        i += 2;
     }
     f
 }
@@ -76,8 +71,8 @@ fn rebuilt(
     let n = leaning(flags, fills, off, low, c);
     let mut f = [0i32; 19];
     f[0] = parts[19 * c];
-    let mut i = 1;
-    while i < 19 {
+    for pair in 0..9 {
+        let i = 2 * pair + 1;
         f[i + 1] = arriving(flags, parts, c, k + off[i], i, i + 1, v, d[i], n[i]);
         f[i] = arriving(
             flags,
@@ -90,7 +85,6 @@ fn rebuilt(
             d[i + 1],
             n[i + 1],
         );
-        i += 2;
     }
     f
 }

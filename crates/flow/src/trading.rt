@@ -24,11 +24,10 @@ fn traded_mass(
 {
     let k = c - low;
     let mut m = wide(masses[c]);
-    let mut i = 1;
-    while i < 19 {
+    for pair in 0..9 {
+        let i = 2 * pair + 1;
         m += traded(flags, parts, fills, c, k + off[i], i, i + 1);
         m += traded(flags, parts, fills, c, k + off[i + 1], i + 1, i);
-        i += 2;
     }
     m
 }

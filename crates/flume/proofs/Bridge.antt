@@ -15,8 +15,8 @@ use Rattle.whole.specs.laws.Tab.{tab-cong}
 use Rattle.lattice.specs.Lattice.{dot, d3q19, d2q9}
 use Rattle.lattice.specs.Cell.{part_good, dense, slow, mass_good, carry_good}
 use Rattle.lattice.specs.Body.{body_good, eq_z}
-use Rattle.grid.specs.declared.Answer.{Answer}
-use Rattle.grid.specs.declared.Answer.TheVariants.{Done}
+use Rattle.grid.specs.Answer.{Answer}
+use Rattle.grid.specs.Answer.{Done}
 use Rattle.grid.specs.Grid.{Grid, cell_at, toward}
 use Rattle.grid.specs.State.{lent, State, Scene, by_flag, liquid, lent_of}
 use Rattle.grid.specs.Step.{streamed_density, streamed_momentum, unsteady, new_flag, new_part, new_mass, new_fill, new_carry, fill_for, next}
@@ -28,6 +28,7 @@ use Rattle.flume.proofs.Places.{at_places, spread_at, spread_none, any_same, tes
 use Rattle.flume.proofs.Flowing.{e-at, opp-at, opp-dir, opp-none, density-same, momentum-same, old-spreads, unsteady-same}
 use Rattle.flume.proofs.Turning.{Steady}
 use Rattle.flume.proofs.Giving.{next-spreads}
+use Rattle.grid.specs.declared.refusals.Refusal.TheVariants.{BadFlag, BadFlow, BadLayer, BadNext, BadState}
 
 -- ---- the nineteen places are a lattice and a grid like any other
 
@@ -124,9 +125,9 @@ module _ (S : Scene) where
   pub good-answer-same : (rest : Answer) → good_answer T.lat T.grid T.old rest ≡ good_answer P.lat P.grid P.old rest
   unfolding good_answer d3q19 d2q9
   good-answer-same rest j =
-      if_none S.grid.cells 4 (bad-flag-same S.grid S.old.flag j)
-      (if_none S.grid.cells 5 (bad-fluid-same S.grid S.old.flag j)
-      (if_none (suc S.grid.cells) 6 (bad-rule-same S.old (spread_state S.old) (spread-of S) S.grid.cells j) rest))
+      if_none S.grid.cells BadFlag (bad-flag-same S.grid S.old.flag j)
+      (if_none S.grid.cells BadLayer (bad-fluid-same S.grid S.old.flag j)
+      (if_none (suc S.grid.cells) BadState (bad-rule-same S.old (spread_state S.old) (spread-of S) S.grid.cells j) rest))
 
   -- what is no cell counts as wall
   abbrev pub Outside : Type 0
@@ -158,18 +159,18 @@ module _ (S : Scene) where
     where
       moves : S.grid.cells ≤ first S.grid.cells (unsteady P) → move_answer T ≡ move_answer P
       moves h j =
-          if_none S.grid.cells 7 (fast-same j)
-          (if_none (suc S.grid.cells) 8 (bad-rule-same (next P) (next T) (next-spreads S (steady o h)) S.grid.cells j) Done)
+          if_none S.grid.cells BadFlow (fast-same j)
+          (if_none (suc S.grid.cells) BadNext (bad-rule-same (next P) (next T) (next-spreads S (steady o h)) S.grid.cells j) Done)
 
       go : (b : Bool) → leb S.grid.cells (first S.grid.cells (unsteady P)) ≡ b → move_answer T ≡ move_answer P
       go true e = moves (leb-true S.grid.cells (first S.grid.cells (unsteady P)) e)
       go false e =
-          ap (λ (m : ℕ). if_none S.grid.cells 7 m (if_none (suc S.grid.cells) 8 (bad_rule spread_lattice S.grid.cells (next T)) Done)) fast-same
+          ap (λ (m : ℕ). if_none S.grid.cells BadFlow m (if_none (suc S.grid.cells) BadNext (bad_rule spread_lattice S.grid.cells (next T)) Done)) fast-same
           ∙ refuses (leb S.grid.cells (first S.grid.cells (unsteady P))) (first S.grid.cells (unsteady P))
-          (if_none (suc S.grid.cells) 8 (bad_rule spread_lattice S.grid.cells (next T)) Done)
-          (if_none (suc S.grid.cells) 8 (bad_rule d2q9 S.grid.cells (next P)) Done) e
+          (if_none (suc S.grid.cells) BadNext (bad_rule spread_lattice S.grid.cells (next T)) Done)
+          (if_none (suc S.grid.cells) BadNext (bad_rule d2q9 S.grid.cells (next P)) Done) e
         where
-          refuses : (b : Bool) (m : ℕ) (u v : Answer) → b ≡ false → or_refuse b 7 m u ≡ or_refuse b 7 m v
+          refuses : (b : Bool) (m : ℕ) (u v : Answer) → b ≡ false → or_refuse b (BadFlow m) u ≡ or_refuse b (BadFlow m) v
           refuses true m u v h = absurd (false≢true (sym h))
           refuses false m u v h = refl
 

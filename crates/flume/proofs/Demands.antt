@@ -15,8 +15,8 @@ use Rattle.lattice.specs.Lattice.{momentum, d2q9, open-lattice}
 use Rattle.lattice.specs.Cell.{pull}
 use Rattle.lattice.proofs.Paired.{paired9}
 use Rattle.lattice.proofs.Balanced.{Balanced, balanced9}
-use Rattle.grid.specs.declared.Answer.{Answer}
-use Rattle.grid.specs.declared.Answer.TheVariants.{Done}
+use Rattle.grid.specs.Answer.{Answer}
+use Rattle.grid.specs.Answer.{Done}
 use Rattle.grid.specs.Grid.{flume}
 use Rattle.grid.specs.State.{Lent, Scene}
 use Rattle.grid.specs.Step.{streamed, streamed_density, streamed_momentum}

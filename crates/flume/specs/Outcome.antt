@@ -1,6 +1,6 @@
 -- What the flume's check, step and run answer, and what each lent slice then holds, for every input: the outcomes over a ground, on the flume's. Assumes nothing.
 use Rattle.std.specs.Prelude.{ℕ, List}
-use Rattle.grid.specs.declared.Answer.{Answer}
+use Rattle.grid.specs.Answer.{Answer}
 use Rattle.grid.specs.State.{Lent, Scene}
 use Rattle.grid.specs.Ground.{check_on, scene_on, entry_on, step_on, next_on, second_on, marks_on, run_entry_on, run_count_on, run_answer_on, run_first_on, run_second_on, run_marks_on}
 use Rattle.flume.specs.declared.FlumeSides.{FlumeSides}

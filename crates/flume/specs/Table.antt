@@ -2,7 +2,7 @@
 -- Assumes nothing.
 use Rattle.std.specs.Prelude.{Bool, true, false, ◌&&◌, List, [], ◌∷◌, ◌++◌, map, ℕ, ℤ, pos, negsuc, replicate}
 use Rattle.lattice.specs.Body.{eq_z}
-use Rattle.grid.specs.declared.Answer.{Answer}
+use Rattle.grid.specs.Answer.{Answer}
 use Rattle.grid.specs.State.{Lent, Scene}
 use Rattle.grid.specs.Step.{normal, new_flag, excess, gift}
 use Rattle.grid.specs.Outcome.{number_of, place_of}

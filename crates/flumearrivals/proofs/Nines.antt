@@ -46,14 +46,17 @@ pub record Paired (k : ℕ) : Type 0 where
   pub odd : wide k % 2 ≡ 1
   pub low : wide k < 18
 
-pub paired : (k : ℕ) → 0 < k → k < 9 → k % 2 ≡ 1 → Paired k
+-- pair number p of the four, and the place of its second
+pub nth-pair : (p : ℕ) → p < 4 → Paired (2 * p + 1)
 unfolding wide
-paired k z h =
-    by-eight (λ k. k % 2 ≡ 1 → Paired k) (λ e. pair refl refl (omega arith)) (λ e. absurd (omega arith)) (λ e. pair refl refl (omega arith)) (λ e. absurd (omega arith))
-    (λ e. pair refl refl (omega arith)) (λ e. absurd (omega arith)) (λ e. pair refl refl (omega arith)) (λ e. absurd (omega arith)) k (record { some = z; most = le_of_suc-le-suc h })
-  where
-    pair : {k : ℕ} → wide (k + 1) ≡ wide k + 1 → wide k % 2 ≡ 1 → wide k < 18 → Paired k
-    pair e o l = record { next = e; odd = o; low = l }
+nth-pair zero h = record { next = refl; odd = refl; low = omega arith }
+nth-pair (suc zero) h = record { next = refl; odd = refl; low = omega arith }
+nth-pair (suc (suc zero)) h = record { next = refl; odd = refl; low = omega arith }
+nth-pair (suc (suc (suc zero))) h = record { next = refl; odd = refl; low = omega arith }
+nth-pair (suc (suc (suc (suc p)))) h = absurd (omega arith)
+
+pub nth-second : (p i : ℕ) → p < 4 → i ≡ wide (2 * p + 1) → i + 1 < 19
+nth-second p i h e = omega (arith, (nth-pair p h).low, e)
 
 pub place-low : (k : ℕ) → k < 9 → wide k < 19
 unfolding wide
@@ -108,11 +111,11 @@ module _ (flags : List ℕ) (parts : List ℤ) (fills off : List ℕ) (low : ℕ
   }
 
 -- ---- a loop that stores a pair a turn, the second first
-pub filled-pair : (g : ℕ → ℤ) (v : List ℤ) (k i : ℕ) (x y : ℤ) → Filled g v k → Paired k → k + 1 < 9 → i ≡ wide k → y ≡ g k → x ≡ g (k + 1) → Filled g (set (set v (i + 1) x) i y) (k + 2)
-filled-pair g v k i x y f p h e ey ex =
+pub filled-pair : (g : ℕ → ℤ) (v : List ℤ) (k n i : ℕ) (x y : ℤ) → Filled g v k → Paired k → k + 1 < 9 → n ≡ k + 2 → i ≡ wide k → y ≡ g k → x ≡ g (k + 1) → Filled g (set (set v (i + 1) x) i y) n
+filled-pair g v k n i x y f p h s e ey ex =
     let first = filled_more g v k i y f (omega arith) e (omega (arith, p.low, e)) ey in
     let both = filled_more g (set v i y) (k + 1) (i + 1) x first h (ap (λ (n : ℕ). n + 1) e ∙ sym p.next) (omega (arith, p.low, e)) ex in
-    subst (λ (l : List ℤ). Filled g l (k + 2)) (set_comm v i (i + 1) y x (λ e. omega arith))
+    subst (λ (l : List ℤ). Filled g l n) (set_comm v i (i + 1) y x (λ e. omega arith))
     (subst (λ (n : ℕ). Filled g (set (set v i y) (i + 1) x) n) (omega arith) both)
 
 -- ---- places

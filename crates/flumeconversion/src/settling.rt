@@ -28,6 +28,7 @@ pub fn settle9(parts: &mut [i32], masses: &mut [i32], marks: &mut [u8])
     ensures { Settled parts.old masses.old marks.old parts.new masses.new marks.new }
 {
     let mut c = 0;
+    // From one marked cell to the next: no range says that.
     while c < marks.len() {
         let m = marks[c];
         if m != 0 {

@@ -11,7 +11,6 @@ use flumegrid::neighbours;
 use flumemarks::marks;
 use lattice::Settings;
 use lattice::limits::fair_carry;
-use walks::copying;
 
 // Passes 2 to 7. The flags are a copy of the old ones, of which pass 3 changes those that turn.
 fn converted9(
@@ -62,8 +61,8 @@ pub fn turned9(
     requires { FlumeTurning s g (lent flags.now parts.now masses.now fills.now carry.now) flags2.old parts2.old masses2.old carry2.old marks.old calm }
     ensures { FlumeTurned s g (lent flags.now parts.now masses.now fills.now carry.now) flags2.new parts2.new masses2.new carry2.new marks.new result }
 {
-    copying::copy_u8(flags, flags2);
-    copying::copy_i64(carry, carry2);
+    flags2.copy_from_slice(flags);
+    carry2.copy_from_slice(carry);
     if calm {
         return true;
     }

@@ -82,8 +82,7 @@ fn all_gifts9(
 {
     let k = c - low;
     let mut t: i64 = 0;
-    let mut i = 1;
-    while i < 19 {
+    for i in 1..19 {
         t += gift_from9(
             flags,
             fills,
@@ -95,7 +94,6 @@ fn all_gifts9(
             k + off[i],
             opposite(i),
         );
-        i += 1;
     }
     t
 }
@@ -134,6 +132,7 @@ pub fn gather9(
     ensures { masses.new ≡ tab (length flags.now) (gathered_at flags.now fills.now (part_of9 parts.now) masses.old marks.now off.now low) }
 {
     let mut c = 0;
+    // On to the next interface cell, which only the search tells: no range says that.
     while c < flags.len() {
         if flags[c] == 1 {
             let t = gifts9(flags, fills, parts, masses, marks, off, low, c);

@@ -18,6 +18,7 @@ pub fn new_fills9(flags: &[u8], parts: &[i32], masses: &[i32], fills: &mut [u32]
     plain_fills(flags, fills);
     let mut fair = true;
     let mut c = 0;
+    // From one interface cell to the next: no range says that.
     while c < flags.len() {
         if flags[c] == 1 {
             let m = wide(masses[c]);

@@ -15,8 +15,8 @@ use Rattle.whole.specs.laws.Tab.{length-tab, get_or-tab}
 use Rattle.lattice.specs.Lattice.{d3q19, d2q9}
 use Rattle.lattice.specs.Body.{body_good}
 use Rattle.lattice.specs.declared.Settings.{Settings}
-use Rattle.grid.specs.declared.Answer.{Answer}
-use Rattle.grid.specs.declared.Answer.TheVariants.{Done, Refused}
+use Rattle.grid.specs.Answer.{Answer}
+use Rattle.grid.specs.Answer.{Done}
 use Rattle.grid.specs.State.{Lent, lent, Scene, liquid, state_of}
 use Rattle.grid.specs.Step.{unsteady, collided, new_flag, new_part, new_mass, new_fill, new_carry}
 use Rattle.grid.specs.Good.{bad_rule}
@@ -49,6 +49,8 @@ use Rattle.flumefills.specs.inner.Filled.{Fillable9}
 use Rattle.flumeconversion.specs.inner.Turned.{FlumeTurning, FlumeTurned}
 use Rattle.flumeconversion.proofs.Flumes.{flume_field, flume-scene, flume-sound}
 use Rattle.flumefinish.specs.inner.Finished.{FlumeFinishing, FlumeFinished}
+use Rattle.grid.specs.declared.refusals.Refusal.TheVariants.{BadFlow, BadNext}
+use Rattle.std.specs.Prelude.{Err}
 
 -- nine parts a cell in one list, from the nineteen places
 nine-list : (f : ℕ → ℕ → ℤ) (parts : List ℤ) (n : ℕ) → length parts ≡ 9 * n → ((c k : ℕ) → c < n → k < 19 → part_of9 parts c k ≡ f c k)
@@ -97,7 +99,7 @@ module _ (s : FlumeSides) (g : FlumeSettings) (a : Lent) where
     move-is = ap move_answer (flume-scene s g a) ∙ flume-move s g a r.sized.flags
 
     -- a cell that is unsteady: refusal 7 there
-    pub stopped-answer : {c : ℕ} → c < n → first n (unsteady U) ≡ c → Refused 7 c ≡ move_answer (flume_scene s g a)
+    pub stopped-answer : {c : ℕ} → c < n → first n (unsteady U) ≡ c → Err (BadFlow c) ≡ move_answer (flume_scene s g a)
     stopped-answer h e = Tests.stopped-answer F field.stands h (sym (ap (first n) fast-carried) ∙ e) ∙ move-is
 
     -- after pass 0
@@ -163,8 +165,8 @@ module _ (s : FlumeSides) (g : FlumeSettings) (a : Lent) where
         unfolding flume_scene state_of part_of9
         scan-is m = sym (bad-rule-same (state_of 8 second) _ (spread-of (flume_scene s g second)) m)
 
-        pub judged-answer : {m : ℕ} {answer : Answer} → m ≡ n → answer ≡ if_none (suc m) 8 (bad_rule d2q9 m (state_of 8 second)) Done → answer ≡ move_answer (flume_scene s g a)
-        judged-answer {m} e k = Tests.judged-answer F field.stands t w.turned f e (k ∙ ap (λ (d : ℕ). if_none (suc m) 8 d Done) (scan-is m)) ∙ move-is
+        pub judged-answer : {m : ℕ} {answer : Answer} → m ≡ n → answer ≡ if_none (suc m) BadNext (bad_rule d2q9 m (state_of 8 second)) Done → answer ≡ move_answer (flume_scene s g a)
+        judged-answer {m} e k = Tests.judged-answer F field.stands t w.turned f e (k ∙ ap (λ (d : ℕ). if_none (suc m) BadNext d Done) (scan-is m)) ∙ move-is
 
 -- ---- the functions' contracts, one from the other
 
@@ -225,5 +227,5 @@ module _ {s : FlumeSides} {g : FlumeSettings} {a : Lent} where
             marks-are = w.turned.marks-are;
           }
 
-      pub finished-judged : {answer : Answer} → answer ≡ if_none (suc (length flags2)) 8 (bad_rule d2q9 (length flags2) (state_of 8 set)) Done → FlumeFinished s g a answer set marks
+      pub finished-judged : {answer : Answer} → answer ≡ if_none (suc (length flags2)) BadNext (bad_rule d2q9 (length flags2) (state_of 8 set)) Done → FlumeFinished s g a answer set marks
       finished-judged e = record { answer-is = judged-answer s g a f.ready f.moved.steady w r flags-count e; second_is = set_next; marks-are = w.turned.marks-are }

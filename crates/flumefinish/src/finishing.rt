@@ -12,18 +12,18 @@ use flume::{FlumeSettings, FlumeSides};
 use flumeconversion::turning;
 use flumefills::filling;
 use flumegrid::checking;
-use grid::Answer;
+use grid::refusals::{Answer, Refusal};
 
 // Test 8 where something is not fair: test 6's own scan of the second set.
 fn judged(flags2: &[u8], parts2: &[i32], masses2: &[i32], fills2: &[u32], carry2: &[i64]) -> Answer
     requires { FlumeSized (length flags2.now) (lent flags2.now parts2.now masses2.now fills2.now carry2.now) }
-    ensures { result ≡ if_none (suc (length flags2.now)) 8 (bad_rule d2q9 (length flags2.now) (state_of 8 (lent flags2.now parts2.now masses2.now fills2.now carry2.now))) Answer.Done }
+    ensures { result ≡ if_none (suc (length flags2.now)) Refusal.BadNext (bad_rule d2q9 (length flags2.now) (state_of 8 (lent flags2.now parts2.now masses2.now fills2.now carry2.now))) (Ok tt) }
 {
     let d = checking::first_bad9(flags2, parts2, masses2, fills2, carry2[0]);
     if d <= flags2.len() {
-        return Answer::Refused(8, d);
+        return Err(Refusal::BadNext(d));
     }
-    Answer::Done
+    Ok(())
 }
 
 // Stage 7, and test 8 by what the passes found fair.
@@ -53,7 +53,7 @@ pub fn finished(
     );
     let b = filling::new_fills9(flags2, parts2, masses2, fills2);
     if fair & a & b {
-        return Answer::Done;
+        return Ok(());
     }
     judged(flags2, parts2, masses2, fills2, carry2)
 }

@@ -21,10 +21,8 @@ pub fn sources9(off: [usize; 19], low: usize) -> [usize; 9]
     ensures { result ≡ tab 9 (source_of9 off) }
 {
     let mut f = [0; 9];
-    let mut k = 0;
-    while k < 9 {
+    for k in 0..9 {
         f[k] = 9 * (low + low - off[place(k)]) + k;
-        k += 1;
     }
     f
 }
@@ -35,10 +33,8 @@ fn streamed_open9(parts: &[i32], from: &[usize; 9], a: usize) -> [i32; 19]
     ensures { result ≡ tab 19 (spread (pos 0) (λ (k : ℕ). get_or parts.now (a + get_or from.now k 0) (pos 0))) }
 {
     let mut f = [0i32; 19];
-    let mut k = 0;
-    while k < 9 {
+    for k in 0..9 {
         f[place(k)] = parts[a + from[k]];
-        k += 1;
     }
     f
 }
@@ -61,8 +57,8 @@ pub fn streamed9(
     let n = leaning(flags, fills, off, low, c);
     let mut f = [0i32; 19];
     f[0] = parts[9 * c];
-    let mut k = 1;
-    while k < 9 {
+    for pair in 0..4 {
+        let k = 2 * pair + 1;
         let i = place(k);
         f[i + 1] = arriving9(flags, parts, c, b + off[i], i, k, k + 1, v, d[i], n[i]);
         f[i] = arriving9(
@@ -77,7 +73,6 @@ pub fn streamed9(
             d[i + 1],
             n[i + 1],
         );
-        k += 2;
     }
     f
 }

@@ -25,12 +25,11 @@ fn traded_mass9(
 {
     let b = c - low;
     let mut m = wide(masses[c]);
-    let mut k = 1;
-    while k < 9 {
+    for pair in 0..4 {
+        let k = 2 * pair + 1;
         let i = place(k);
         m += traded9(flags, parts, fills, c, b + off[i], k, k + 1);
         m += traded9(flags, parts, fills, c, b + off[i + 1], k + 1, k);
-        k += 2;
     }
     m
 }

@@ -11,8 +11,8 @@ use lib.ListN.{length, get_or}
 use borrow.Author.Tests.{eqb-true}
 use Rattle.whole.specs.laws.Bools.{and_left, and_right}
 use Rattle.lattice.specs.Lattice.{Lattice, d2q9}
-use Rattle.grid.specs.declared.Answer.{Answer}
-use Rattle.grid.specs.declared.Answer.TheVariants.{Done, Refused}
+use Rattle.grid.specs.Answer.{Answer}
+use Rattle.grid.specs.Answer.{Done}
 use Rattle.grid.specs.Grid.{Grid}
 use Rattle.grid.specs.State.{Lent, lent, State, state_of}
 use Rattle.grid.specs.Good.{bad_flag, bad_fluid, bad_rule, cell_good, dry_good, interface_good, fluid_good, fill_good}
@@ -23,6 +23,8 @@ use Rattle.flume.specs.declared.FlumeSides.{FlumeSides}
 use Rattle.flume.specs.Flume.{flume_sides_good, flume_cells, flume_grid, flume_lengths}
 use Rattle.flume.specs.Outcome.{flume_check}
 use Rattle.flumegrid.specs.inner.Ready.{FlumeSized}
+use Rattle.grid.specs.declared.refusals.Refusal.TheVariants.{BadFlag, BadLayer, BadLength, BadSides, BadState}
+use Rattle.std.specs.Prelude.{Err}
 
 module _ (L : Lattice) (G : Grid) (t : State) where
   abbrev answer : Answer
@@ -41,30 +43,30 @@ module _ (L : Lattice) (G : Grid) (t : State) where
   abbrev broken : ℕ
   broken = bad_rule L n t
 
-  chain : answer ≡ if_none n 4 flagged (if_none n 5 opened (if_none (suc n) 6 broken Done))
+  chain : answer ≡ if_none n BadFlag flagged (if_none n BadLayer opened (if_none (suc n) BadState broken Done))
   unfolding good_answer
   chain = refl
 
   module _ (f : ℕ) (ef : f ≡ flagged) where
-    pub stops-at-flag : f < n → Refused 4 f ≡ answer
-    stops-at-flag h = sym (chain ∙ stop n 4 flagged (if_none n 5 opened (if_none (suc n) 6 broken Done)) (omega arith) ∙ ap (Refused 4) (sym ef))
+    pub stops-at-flag : f < n → Err (BadFlag f) ≡ answer
+    stops-at-flag h = sym (chain ∙ stop n BadFlag flagged (if_none n BadLayer opened (if_none (suc n) BadState broken Done)) (omega arith) ∙ ap (λ (p : ℕ). Err (BadFlag p)) (sym ef))
 
     module _ (passed : n ≤ f) (o : ℕ) (eo : o ≡ opened) where
-      second : answer ≡ if_none n 5 opened (if_none (suc n) 6 broken Done)
-      second = chain ∙ skip n 4 flagged (if_none n 5 opened (if_none (suc n) 6 broken Done)) (omega arith)
+      second : answer ≡ if_none n BadLayer opened (if_none (suc n) BadState broken Done)
+      second = chain ∙ skip n BadFlag flagged (if_none n BadLayer opened (if_none (suc n) BadState broken Done)) (omega arith)
 
-      pub stops-at-fluid : o < n → Refused 5 o ≡ answer
-      stops-at-fluid h = sym (second ∙ stop n 5 opened (if_none (suc n) 6 broken Done) (omega arith) ∙ ap (Refused 5) (sym eo))
+      pub stops-at-fluid : o < n → Err (BadLayer o) ≡ answer
+      stops-at-fluid h = sym (second ∙ stop n BadLayer opened (if_none (suc n) BadState broken Done) (omega arith) ∙ ap (λ (p : ℕ). Err (BadLayer p)) (sym eo))
 
       module _ (closed : n ≤ o) (b : ℕ) (eb : b ≡ broken) where
-        third : answer ≡ if_none (suc n) 6 broken Done
-        third = second ∙ skip n 5 opened (if_none (suc n) 6 broken Done) (omega arith)
+        third : answer ≡ if_none (suc n) BadState broken Done
+        third = second ∙ skip n BadLayer opened (if_none (suc n) BadState broken Done) (omega arith)
 
-        pub stops-at-rule : b ≤ n → Refused 6 b ≡ answer
-        stops-at-rule h = sym (third ∙ stop (suc n) 6 broken Done (omega arith) ∙ ap (Refused 6) (sym eb))
+        pub stops-at-rule : b ≤ n → Err (BadState b) ≡ answer
+        stops-at-rule h = sym (third ∙ stop (suc n) BadState broken Done (omega arith) ∙ ap (λ (p : ℕ). Err (BadState p)) (sym eb))
 
         pub goes_through : n < b → Done ≡ answer
-        goes_through h = sym (third ∙ skip (suc n) 6 broken Done (omega arith))
+        goes_through h = sym (third ∙ skip (suc n) BadState broken Done (omega arith))
 
 -- test 6 looks at the carry's one number
 same : (n : ℕ) (a : Lent)
@@ -101,12 +103,12 @@ unfolding flume_lengths
 lengths-are s a cells e = e ∙ ap (λ (m : ℕ). flume_lengths m a) cells
 
 module _ (s : FlumeSides) (a : Lent) where
-  pub refuses-sides : flume_sides_good s ≡ false → Refused 1 0 ≡ flume_check s a
+  pub refuses-sides : flume_sides_good s ≡ false → Err BadSides ≡ flume_check s a
   unfolding flume_check
   refuses-sides e = rw e refl
 
   module _ (g : flume_sides_good s ≡ true) where
-    pub refuses-lengths : flume_lengths (flume_cells s) a ≡ false → Refused 2 0 ≡ flume_check s a
+    pub refuses-lengths : flume_lengths (flume_cells s) a ≡ false → Err BadLength ≡ flume_check s a
     unfolding flume_check flume_lengths
     refuses-lengths e = rw (g, e) refl
 

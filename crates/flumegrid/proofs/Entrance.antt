@@ -8,7 +8,7 @@ use lib.ListN.{length}
 use borrow.Author.Tests.{eqb-true}
 use Rattle.whole.specs.laws.Bools.{and_left, and_right}
 use Rattle.lattice.specs.Lattice.{d2q9}
-use Rattle.grid.specs.declared.Answer.TheVariants.{Done, Refused}
+use Rattle.grid.specs.Answer.{Done}
 use Rattle.grid.specs.State.{Lent, state_of}
 use Rattle.grid.specs.Outcome.{good_answer, settings_good}
 use Rattle.grid.proofs.Accepted.{passed}
@@ -18,6 +18,8 @@ use Rattle.flume.specs.Flume.{flume_sides_good, flume_cells, flume_grid, flume_l
 use Rattle.flume.specs.Outcome.{flume_entry}
 use Rattle.flumegrid.specs.inner.Ready.{FlumeSized, FlumeEntered}
 use Rattle.flumegrid.proofs.Checks.{sized, lengths-are}
+use Rattle.grid.specs.declared.refusals.Refusal.TheVariants.{BadLength, BadSetting, BadSides}
+use Rattle.std.specs.Prelude.{Err}
 
 module _ (s : FlumeSides) (g : FlumeSettings) (a b : Lent) (marks : List ℕ) where
   -- test 2 of both sets and the marks
@@ -30,12 +32,12 @@ module _ (s : FlumeSides) (g : FlumeSettings) (a b : Lent) (marks : List ℕ) wh
       → (x && y && eqb (length marks) n) ≡ lengths
   lengths-told e p q i = lengths-are s a e p i && lengths-are s b e q i && eqb (length marks) (e i)
 
-  pub refuses-sides : flume_sides_good s ≡ false → Refused 1 0 ≡ flume_entry s g a b marks Done
+  pub refuses-sides : flume_sides_good s ≡ false → Err BadSides ≡ flume_entry s g a b marks Done
   unfolding flume_entry
   refuses-sides e = rw e refl
 
   module _ (es : flume_sides_good s ≡ true) where
-    pub refuses-lengths : lengths ≡ false → Refused 2 0 ≡ flume_entry s g a b marks Done
+    pub refuses-lengths : lengths ≡ false → Err BadLength ≡ flume_entry s g a b marks Done
     unfolding flume_entry flume_lengths
     refuses-lengths e = rw (es, e) refl
 
@@ -50,7 +52,7 @@ module _ (s : FlumeSides) (g : FlumeSettings) (a b : Lent) (marks : List ℕ) wh
           sized (flume_cells s) b (and_right (flume_lengths (flume_cells s) a) (flume_lengths (flume_cells s) b)
           (and_left (flume_lengths (flume_cells s) a && flume_lengths (flume_cells s) b) (eqb (length marks) (flume_cells s)) el))
 
-      pub refuses-settings : settings_good (level_settings g) ≡ false → Refused 3 0 ≡ flume_entry s g a b marks Done
+      pub refuses-settings : settings_good (level_settings g) ≡ false → Err (BadSetting 0) ≡ flume_entry s g a b marks Done
       unfolding flume_entry flume_lengths
       refuses-settings e = rw (es, el, e) refl
 
@@ -62,9 +64,9 @@ module _ (s : FlumeSides) (g : FlumeSettings) (a b : Lent) (marks : List ℕ) wh
   pub enters : flume_entry s g a b marks Done ≡ Done → FlumeEntered s g a b marks
   unfolding flume_entry flume_lengths
   enters e =
-      let x = passed (flume_sides_good s) 1 0 _ e in
-      let y = passed lengths 2 0 _ x.1 in
-      let z = passed (settings_good (level_settings g)) 3 0 _ y.1 in
+      let x = passed (flume_sides_good s) BadSides _ e in
+      let y = passed lengths BadLength _ x.1 in
+      let z = passed (settings_good (level_settings g)) (BadSetting 0) _ y.1 in
       record {
         ready = record { sides = x.0; sized = first_good x.0 y.0; settings = z.0; good = z.1 };
         second = second-good x.0 y.0;

@@ -16,7 +16,7 @@ use Rattle.lattice.specs.Lattice.{d3q19, d2q9, density, momentum}
 use Rattle.lattice.specs.Cell.{carry_good}
 use Rattle.lattice.specs.Body.{body_good}
 use Rattle.lattice.proofs.Fills.{fill-most}
-use Rattle.grid.specs.declared.Answer.TheVariants.{Done}
+use Rattle.grid.specs.Answer.{Done}
 use Rattle.grid.specs.Grid.{flume}
 use Rattle.grid.specs.State.{Lent, lent, State, liquid, state_of}
 use Rattle.grid.specs.Step.{fill_for}
@@ -39,6 +39,7 @@ use Rattle.flume.proofs.Places.{at_places, spread_at, spread_none}
 use Rattle.nine.specs.inner.Cells.{part_of9}
 use Rattle.flumegrid.specs.inner.Ready.{FlumeReady, FlumeDried, FlumePoised}
 use Rattle.flumegrid.proofs.Offsets.{wide_grid, inner_of}
+use Rattle.grid.specs.declared.refusals.Refusal.TheVariants.{BadFlag, BadLayer, BadState}
 
 -- ---- tests 1 to 6
 module _ (s : FlumeSides) (g : FlumeSettings) (a : Lent) (r : FlumeReady s g a) where
@@ -48,9 +49,9 @@ module _ (s : FlumeSides) (g : FlumeSettings) (a : Lent) (r : FlumeReady s g a) 
   rules : suc (flume_cells s) ≤ bad_rule d2q9 (flume_cells s) (state_of 8 a)
   unfolding good_answer flume_grid flume flume_cells
   rules =
-      let x = none_found (flume_grid s).cells 4 _ _ r.good in
-      let y = none_found (flume_grid s).cells 5 _ _ x.1 in
-      (none_found (suc (flume_grid s).cells) 6 _ _ y.1).0
+      let x = none_found (flume_grid s).cells BadFlag _ _ r.good in
+      let y = none_found (flume_grid s).cells BadLayer _ _ x.1 in
+      (none_found (suc (flume_grid s).cells) BadState _ _ y.1).0
 
   -- the carry is in its range
   pub ready-carry : carry_good (get_or a.carry 0 (pos 0)) ≡ true

@@ -10,7 +10,8 @@ ghost use Rattle.flumegrid.specs.inner.Ready.{FlumeSized};
 
 use crate::{fluid, layer, lengths};
 use flume::{FlumeSides, extent};
-use grid::{Answer, kinds};
+use grid::kinds;
+use grid::refusals::{Answer, Refusal};
 use lattice::{limits, rules};
 use nine::cells;
 
@@ -32,17 +33,16 @@ pub fn first_bad9(flags: &[u8], parts: &[i32], masses: &[i32], fills: &[u32], ca
     requires { FlumeSized (length flags.now) (lent flags.now parts.now masses.now fills.now (carry ∷ [])) }
     ensures { result ≡ bad_rule d2q9 (length flags.now) (state_of 8 (lent flags.now parts.now masses.now fills.now (carry ∷ []))) }
 {
-    let mut c = 0;
-    while c < flags.len() {
+    let n = flags.len();
+    for c in 0..n {
         if !good_cell9(flags, parts, masses, fills, c) {
             return c;
         }
-        c += 1;
     }
     if limits::fair_carry(carry) {
-        return c + 1;
+        return n + 1;
     }
-    c
+    n
 }
 
 // Tests 4 to 6 of a set whose sides and lengths are good.
@@ -55,22 +55,22 @@ pub fn checked9(
     s: FlumeSides,
 ) -> Answer
     requires { (flume_sides_good s ≡ true) × FlumeSized (flume_cells s) (lent flags.now parts.now masses.now fills.now carry.now) }
-    ensures { result ≡ good_answer d2q9 (flume_grid s) (state_of 8 (lent flags.now parts.now masses.now fills.now carry.now)) Answer.Done }
+    ensures { result ≡ good_answer d2q9 (flume_grid s) (state_of 8 (lent flags.now parts.now masses.now fills.now carry.now)) (Ok tt) }
 {
     let n = flags.len();
     let flagged = layer::first_bad_flag(flags, s);
     if flagged < n {
-        return Answer::Refused(4, flagged);
+        return Err(Refusal::BadFlag(flagged));
     }
     let opened = fluid::first_open(flags, s);
     if opened < n {
-        return Answer::Refused(5, opened);
+        return Err(Refusal::BadLayer(opened));
     }
     let broken = first_bad9(flags, parts, masses, fills, carry[0]);
     if broken <= n {
-        return Answer::Refused(6, broken);
+        return Err(Refusal::BadState(broken));
     }
-    Answer::Done
+    Ok(())
 }
 
 // The check of one lent set: what is refused, and where.
@@ -85,7 +85,7 @@ pub fn check(
     ensures { result ≡ flume_check s (lent flags.now parts.now masses.now fills.now carry.now) }
 {
     if !extent::good_sides(s) {
-        return Answer::Refused(1, 0);
+        return Err(Refusal::BadSides);
     }
     let n = extent::cells(s);
     if !lengths::good_lengths9(
@@ -96,7 +96,7 @@ pub fn check(
         carry.len(),
         n,
     ) {
-        return Answer::Refused(2, 0);
+        return Err(Refusal::BadLength);
     }
     checked9(flags, parts, masses, fills, carry, s)
 }

@@ -7,7 +7,7 @@ ghost use Rattle.flume.specs.Outcome.{flume_entry};
 
 use crate::{checking, lengths};
 use flume::{FlumeSettings, FlumeSides, extent};
-use grid::Answer;
+use grid::refusals::{Answer, Refusal};
 use lattice::{Settings, limits};
 
 // Test 3: the box's, of gravity with no y.
@@ -39,10 +39,10 @@ pub fn entered(
     s: FlumeSides,
     g: FlumeSettings,
 ) -> Answer
-    ensures { result ≡ flume_entry s g (lent flags.now parts.now masses.now fills.now carry.now) (lent flags2.now parts2.now masses2.now fills2.now carry2.now) marks.now Answer.Done }
+    ensures { result ≡ flume_entry s g (lent flags.now parts.now masses.now fills.now carry.now) (lent flags2.now parts2.now masses2.now fills2.now carry2.now) marks.now (Ok tt) }
 {
     if !extent::good_sides(s) {
-        return Answer::Refused(1, 0);
+        return Err(Refusal::BadSides);
     }
     let n = extent::cells(s);
     let first = lengths::good_lengths9(
@@ -62,10 +62,10 @@ pub fn entered(
         n,
     );
     if !(first & second & (marks.len() == n)) {
-        return Answer::Refused(2, 0);
+        return Err(Refusal::BadLength);
     }
     if !good_settings(g) {
-        return Answer::Refused(3, 0);
+        return Err(Refusal::BadSetting(0));
     }
     checking::checked9(flags, parts, masses, fills, carry, s)
 }

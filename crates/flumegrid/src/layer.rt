@@ -28,14 +28,12 @@ fn first_in_row(flags: &[u8], c: usize, z: usize, s: FlumeSides) -> usize
     requires { (flume_sides_good s ≡ true) × (length flags.now ≡ flume_cells s) × Row s c z }
     ensures { FirstInRow s flags.now c result }
 {
-    let mut x = 0;
-    while x < s.nx {
+    for x in 0..s.nx {
         if bad_flag(flags[c + x], x, z, s) {
             return x;
         }
-        x += 1;
     }
-    x
+    s.nx
 }
 
 // The lowest cell whose flag is above 3, or that is outer and not wall; N if there is none.
@@ -43,14 +41,12 @@ pub fn first_bad_flag(flags: &[u8], s: FlumeSides) -> usize
     requires { (flume_sides_good s ≡ true) × (length flags.now ≡ flume_cells s) }
     ensures { result ≡ bad_flag (flume_grid s) (λ c. get_or flags.now c 3) }
 {
-    let mut z = 0;
     let mut c = 0;
-    while z < s.nz {
+    for z in 0..s.nz {
         let x = first_in_row(flags, c, z, s);
         if x < s.nx {
             return c + x;
         }
-        z += 1;
         c += s.nx;
     }
     c

@@ -15,10 +15,8 @@ pub fn mark_open9(flags: &[u8], marks: &mut [u8], off: &[usize; 19], low: usize)
     ensures { marks.new ≡ tab (length flags.now) (opened_by flags.now marks.old off.now low) }
 {
     let end = flags.len() - low;
-    let mut c = low;
-    while c < end {
+    for c in low..end {
         marks[c] = open_mark(flags[c], beside9(flags, off, c - low, 3));
-        c += 1;
     }
 }
 
@@ -28,14 +26,12 @@ pub fn new_flags9(flags: &[u8], marks: &[u8], next: &mut [u8], off: &[usize; 19]
     ensures { next.new ≡ tab (length flags.now) (turned_by flags.now marks.now off.now low) }
 {
     let end = flags.len() - low;
-    let mut c = low;
-    while c < end {
+    for c in low..end {
         next[c] = kind_after(
             flags[c],
             marks[c],
             beside9(marks, off, c - low, 1),
             beside9(marks, off, c - low, 2),
         );
-        c += 1;
     }
 }

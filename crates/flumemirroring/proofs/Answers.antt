@@ -10,8 +10,8 @@ use lib.ListN.{length}
 use Rattle.whole.specs.laws.Bools.{and_left, and_right}
 use Rattle.whole.specs.Fold.{tab}
 use Rattle.lattice.specs.Lattice.{d2q9}
-use Rattle.grid.specs.declared.Answer.{Answer}
-use Rattle.grid.specs.declared.Answer.TheVariants.{Done, Refused}
+use Rattle.grid.specs.Answer.{Answer}
+use Rattle.grid.specs.Answer.{Done}
 use Rattle.grid.specs.Grid.{cells_of}
 use Rattle.grid.specs.State.{Lent, lent, state_of, lent_of}
 use Rattle.grid.specs.Outcome.{good_answer}
@@ -29,13 +29,16 @@ use Rattle.flumemirroring.specs.Turned.{flume_turned}
 use Rattle.flumemirroring.specs.Outcome.{flume_axis, flume_mirror_answer, if_done, flume_mirror_second}
 use Rattle.flumemirroring.specs.Promise.{FlumeMirrored}
 use Rattle.flumemirroring.proofs.Reflected.{flume-directed, layer_of, layer-cells, layer-turned}
+use Rattle.grid.specs.declared.refusals.Refusal.TheVariants.{BadLength, BadSetting, BadSides}
+use Rattle.std.specs.Prelude.{Err}
+use Rattle.grid.specs.declared.refusals.Refusal.{Refusal}
 
 module _ (s : FlumeSides) (axis : ℕ) (a b : Lent) where
   abbrev pub lengths : Bool
   lengths = flume_lengths (flume_cells s) a && flume_lengths (flume_cells s) b
 
   -- ---- the tests, one by one
-  pub sides-refused : flume_sides_good s ≡ false → Refused 1 0 ≡ flume_mirror_answer s axis a b
+  pub sides-refused : flume_sides_good s ≡ false → Err BadSides ≡ flume_mirror_answer s axis a b
   unfolding flume_mirror_answer
   sides-refused e = rw e refl
 
@@ -46,12 +49,12 @@ module _ (s : FlumeSides) (axis : ℕ) (a b : Lent) where
   lengths-told e p q i = lengths-are s a e p i && lengths-are s b e q i
 
   module _ (g : flume_sides_good s ≡ true) where
-    pub lengths-refused : lengths ≡ false → Refused 2 0 ≡ flume_mirror_answer s axis a b
+    pub lengths-refused : lengths ≡ false → Err BadLength ≡ flume_mirror_answer s axis a b
     unfolding flume_mirror_answer
     lengths-refused e = rw (g, e) refl
 
     module _ (l : lengths ≡ true) where
-      pub axis-refused : flume_axis axis ≡ false → Refused 3 0 ≡ flume_mirror_answer s axis a b
+      pub axis-refused : flume_axis axis ≡ false → Err (BadSetting 0) ≡ flume_mirror_answer s axis a b
       unfolding flume_mirror_answer
       axis-refused e = rw (g, l, e) refl
 
@@ -83,9 +86,9 @@ module _ (s : FlumeSides) (axis : ℕ) (a b : Lent) where
   pub accepted : flume_mirror_answer s axis a b ≡ Done → Accepted
   unfolding flume_mirror_answer
   accepted e =
-      let x = passed (flume_sides_good s) 1 0 _ e in
-      let y = passed lengths 2 0 _ x.1 in
-      let z = passed (flume_axis axis) 3 0 _ y.1 in
+      let x = passed (flume_sides_good s) BadSides _ e in
+      let y = passed lengths BadLength _ x.1 in
+      let z = passed (flume_axis axis) (BadSetting 0) _ y.1 in
       let f = first_good x.0 y.0 in
       let g = second-good x.0 y.0 in
       record {
@@ -105,7 +108,7 @@ module _ (s : FlumeSides) (axis : ℕ) (a b : Lent) where
       }
 
   -- ---- what either answer leaves
-  pub refused : {n p : ℕ} → Refused n p ≡ flume_mirror_answer s axis a b → FlumeMirrored s axis a b (Refused n p) b
+  pub refused : {refusal : Refusal} → Err refusal ≡ flume_mirror_answer s axis a b → FlumeMirrored s axis a b (Err refusal) b
   unfolding flume_mirror_second
   refused e = record { answer-is = e; second_is = ap (λ (x : Answer). if_done x (flume_turned s axis a) b) e }
 

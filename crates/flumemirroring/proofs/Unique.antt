@@ -1,7 +1,7 @@
 -- Unique: no second answer, and no second content of the set that may be written, fits what the flume's mirror promises. Assumes nothing.
 use mathlib.Core.Path.{◌≡◌, sym, ◌∙◌}
 use Prim.Native.Nat.{ℕ}
-use Rattle.grid.specs.declared.Answer.{Answer}
+use Rattle.grid.specs.Answer.{Answer}
 use Rattle.grid.specs.State.{Lent}
 use Rattle.flume.specs.declared.FlumeSides.{FlumeSides}
 use Rattle.flumemirroring.specs.Promise.{FlumeMirrored}

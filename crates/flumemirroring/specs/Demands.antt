@@ -1,7 +1,7 @@
 -- What follows of an accepted mirror of a flume: the second set passes the check and has the first one's carry; mirrored again it is the first set; and it is
 -- the set of which P13 speaks, so that stepping it gives reflected water. Assumes nothing.
 use Rattle.std.specs.Prelude.{◌≡◌, List, ℕ}
-use Rattle.grid.specs.declared.Answer.TheVariants.{Done}
+use Rattle.grid.specs.Answer.{Done}
 use Rattle.grid.specs.State.{Lent, state_of}
 use Rattle.flume.specs.declared.FlumeSides.{FlumeSides}
 use Rattle.flume.specs.declared.FlumeSettings.{FlumeSettings}

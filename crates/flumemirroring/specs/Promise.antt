@@ -1,6 +1,6 @@
 -- What the flume's mirror promises of its answer and of every slice that it may write, refused or not. Assumes nothing.
 use Rattle.std.specs.Prelude.{◌≡◌, ℕ}
-use Rattle.grid.specs.declared.Answer.{Answer}
+use Rattle.grid.specs.Answer.{Answer}
 use Rattle.grid.specs.State.{Lent}
 use Rattle.flume.specs.declared.FlumeSides.{FlumeSides}
 use Rattle.flumemirroring.specs.Outcome.{flume_mirror_answer, flume_mirror_second}

@@ -5,7 +5,7 @@ ghost use Rattle.flumemirroring.specs.Outcome.{flume_axis, flume_mirror_answer};
 
 use flume::{FlumeSides, extent};
 use flumegrid::{checking, lengths};
-use grid::Answer;
+use grid::refusals::{Answer, Refusal};
 
 // Test 3: an axis that a flume has, x or z, by the box's numbers.
 fn good_axis(axis: usize) -> bool
@@ -32,7 +32,7 @@ pub(crate) fn entered(
     ensures { result ≡ flume_mirror_answer s axis (lent flags.now parts.now masses.now fills.now carry.now) (lent flags2.now parts2.now masses2.now fills2.now carry2.now) }
 {
     if !extent::good_sides(s) {
-        return Answer::Refused(1, 0);
+        return Err(Refusal::BadSides);
     }
     let n = extent::cells(s);
     let first = lengths::good_lengths9(
@@ -52,10 +52,10 @@ pub(crate) fn entered(
         n,
     );
     if !(first & second) {
-        return Answer::Refused(2, 0);
+        return Err(Refusal::BadLength);
     }
     if !good_axis(axis) {
-        return Answer::Refused(3, 0);
+        return Err(Refusal::BadSetting(0));
     }
     checking::checked9(flags, parts, masses, fills, carry, s)
 }

@@ -4,9 +4,9 @@ ghost use Rattle.flumemirroring.specs.Promise.{FlumeMirrored};
 
 use crate::{entry, reflection};
 use flume::FlumeSides;
-use grid::{Answer, Sides};
+use grid::Sides;
+use grid::refusals::Answer;
 use mirroring::turning;
-use walks::copying;
 
 // The first set reflected in an axis, 0 x, 2 z, into the second: the box's pass over its one layer of cells.
 pub fn mirrored(
@@ -25,12 +25,9 @@ pub fn mirrored(
 ) -> Answer
     ensures { FlumeMirrored s axis (lent flags.now parts.now masses.now fills.now carry.now) (lent flags2.old parts2.old masses2.old fills2.old carry2.old) result (lent flags2.new parts2.new masses2.new fills2.new carry2.new) }
 {
-    let a = entry::entered(
+    entry::entered(
         flags, parts, masses, fills, carry, flags2, parts2, masses2, fills2, carry2, axis, s,
-    );
-    if let Answer::Refused(no, at) = a {
-        return Answer::Refused(no, at);
-    }
+    )?;
     let dirs = reflection::directions9(axis);
     let layer = Sides {
         nx: s.nx,
@@ -40,6 +37,6 @@ pub fn mirrored(
     turning::turn(
         flags, parts, masses, fills, flags2, parts2, masses2, fills2, &dirs, 8, axis, layer,
     );
-    copying::copy_i64(carry, carry2);
-    Answer::Done
+    carry2.copy_from_slice(carry);
+    Ok(())
 }

@@ -8,7 +8,7 @@ use flumeflow::{moving, streaming, trading};
 use flumegrid::neighbours;
 use grid::kinds;
 use lattice::Settings;
-use passes::passing::{Passed, skip_dry};
+use passes::passing::{Found, skip_dry};
 
 pub fn flowing9(
     flags: &[u8],
@@ -21,7 +21,7 @@ pub fn flowing9(
     marks: &mut [u8],
     s: FlumeSides,
     g: Settings,
-) -> Passed
+) -> Result<Found, usize>
     requires { FlumeFlowable s g flags.now parts.now masses.now fills.now flags2.now parts2.old masses2.old marks.old }
     ensures { FlumeFlowed s g flags.now parts.now masses.now fills.now result parts2.new masses2.new marks.new }
 {
@@ -32,13 +32,14 @@ pub fn flowing9(
     let mut fair = true;
     let mut calm = true;
     let mut c = 0;
+    // It goes on where the dry cells end: no range says that.
     while c < flags.len() {
         if kinds::either_liquid(flags, flags2, c) {
             let o = moving::put_parts9(
                 flags, parts, fills, parts2, marks[c], &off, &from, low, c, g, keep,
             );
             if !o.ok {
-                return Passed::Stopped(c);
+                return Err(c);
             }
             let m = trading::new_mass9(flags, parts, masses, fills, &off, low, c, o.rho);
             let k = new_mark(flags[c], m, o.rho);
@@ -51,5 +52,5 @@ pub fn flowing9(
             c = skip_dry(flags, flags2, masses2, marks, c);
         }
     }
-    Passed::Through(fair, calm)
+    Ok(Found { fair, calm })
 }

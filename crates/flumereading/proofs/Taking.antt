@@ -13,7 +13,7 @@ use Rattle.whole.specs.laws.Machine.{Within}
 use Rattle.whole.specs.laws.Tab.{tab-cong}
 use Rattle.lattice.specs.Lattice.{d2q9, density}
 use Rattle.lattice.proofs.Tame.{dense-low}
-use Rattle.grid.specs.declared.Answer.TheVariants.{Done}
+use Rattle.grid.specs.Answer.{Done}
 use Rattle.grid.specs.Grid.{flume}
 use Rattle.grid.specs.State.{by_flag, liquid, lent_of, flag_of}
 use Rattle.grid.specs.Step.{fill_for}
@@ -29,6 +29,7 @@ use Rattle.record.specs.inner.Passes.{held_mass, part_held, Heavy, mass_loaded, 
 use Rattle.record.proofs.Rules.{part_small, is-dense}
 use Rattle.flumerecord.specs.Layout.{flume_counts, flume_site_good}
 use Rattle.flumerecord.specs.Reading.{flume_sides_in, flume_settings_in, flume_site_in, flume_cells_in, flume_flags_in, flume_flag_in, flume_interfaces_in, flume_state_in, flume_content}
+use Rattle.grid.specs.declared.refusals.Refusal.TheVariants.{BadLayer, BadSetting, BadState}
 
 module _ (r : List ℕ) where
   abbrev N : ℕ
@@ -91,11 +92,11 @@ module _ (r : List ℕ) where
     unfolding flume_content flume_grid flume flume_cells_in flume_cells
     cells-good c h =
         let n = flume_cells_in r in
-        let six = if_none (suc n) 6 (bad_rule d2q9 n (flume_state_in r)) Done in
-        let five = if_none n 5 (bad_fluid 8 (flume_grid (flume_sides_in r)) (flume_flag_in r)) six in
-        let a = passed (flume_site_good (flume_settings_in r) (flume_site_in r)) 3 0 five done in
-        let b = none_found n 5 (bad_fluid 8 (flume_grid (flume_sides_in r)) (flume_flag_in r)) six a.1 in
-        let d = none_found (suc n) 6 (bad_rule d2q9 n (flume_state_in r)) Done b.1 in
+        let six = if_none (suc n) BadState (bad_rule d2q9 n (flume_state_in r)) Done in
+        let five = if_none n BadLayer (bad_fluid 8 (flume_grid (flume_sides_in r)) (flume_flag_in r)) six in
+        let a = passed (flume_site_good (flume_settings_in r) (flume_site_in r)) (BadSetting 0) five done in
+        let b = none_found n BadLayer (bad_fluid 8 (flume_grid (flume_sides_in r)) (flume_flag_in r)) six a.1 in
+        let d = none_found (suc n) BadState (bad_rule d2q9 n (flume_state_in r)) Done b.1 in
         cell-good d2q9 (flume_grid (flume_sides_in r)) (flume_state_in r) d.0 c h
 
     small-there : (c : ℕ) → c < flume_cells_in r → liquid (flume_flag_in r c) ≡ true → (k : ℕ) → k ≤ 8 → Within (P c k) 1179648

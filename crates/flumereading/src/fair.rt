@@ -21,10 +21,8 @@ fn parts_at(rec: &[u8], at: usize) -> [i32; 19]
     ensures { result ≡ tab 19 (spread (pos 0) (λ (k : ℕ). i32_at rec.now (at + 4 * k))) }
 {
     let mut v = [0i32; 19];
-    let mut k = 0;
-    while k < 9 {
+    for k in 0..9 {
         v[place(k)] = i32_at(rec, at + 4 * k);
-        k += 1;
     }
     v
 }
@@ -55,15 +53,12 @@ pub fn first_unfair(rec: &[u8], flags: &[u8], masses: usize, parts: usize) -> us
 {
     let mut m = masses;
     let mut p = parts;
-    let mut c = 0;
-    while c < flags.len() {
-        let flag = flags[c];
-        if !fair_cell(rec, flag, m, p) {
+    for (c, flag) in flags.iter().enumerate() {
+        if !fair_cell(rec, *flag, m, p) {
             return c;
         }
-        m += 4 * one_interface(flag);
-        p += 36 * one_liquid(flag);
-        c += 1;
+        m += 4 * one_interface(*flag);
+        p += 36 * one_liquid(*flag);
     }
-    c
+    flags.len()
 }

@@ -38,13 +38,10 @@ pub fn load_parts(rec: &[u8], flags: &[u8], from: usize, parts: &mut [i32])
     ensures { parts.new ≡ tab (9 * length flags.now) (λ (m : ℕ). by_flag (flag_of flags.now (m / 9)) (pos 0) (i32_at rec.now (from + 4 * (9 * liquids (m / 9) (flag_of flags.now) + m % 9))) (i32_at rec.now (from + 4 * (9 * liquids (m / 9) (flag_of flags.now) + m % 9))) (pos 0)) }
 {
     let mut at = from;
-    let mut m = 0;
-    while m < parts.len() {
+    for (m, part) in parts.iter_mut().enumerate() {
         let flag = flags[m / 9];
         let k = m % 9;
-        let x = held_part(rec, flag, at + 4 * k);
-        parts[m] = x;
+        *part = held_part(rec, flag, at + 4 * k);
         at = next_at(at, flag, k);
-        m += 1;
     }
 }

@@ -11,8 +11,7 @@ use flume::extent::cells;
 use flume::{FlumeSettings, FlumeSides};
 use flumerecord::given::{settings_in, sides_in, site_in};
 use flumerecord::{FlumeHead, FlumeSite};
-use grid::Answer;
-use record::section::passed;
+use grid::refusals::Answer;
 
 // What is returned beside a refusal.
 pub fn refused(a: Answer) -> FlumeHead
@@ -48,20 +47,18 @@ pub fn read(
 ) -> FlumeHead
     ensures { FlumeRead rec.now (lent [] parts.old masses.old fills.old carry.old) result parts.new masses.new fills.new carry.new }
 {
-    let shaped = shape(rec, parts.len(), masses.len(), fills.len(), carry.len());
-    if !passed(shaped) {
-        return refused(shaped);
+    if let Err(refusal) = shape(rec, parts.len(), masses.len(), fills.len(), carry.len()) {
+        return refused(Err(refusal));
     }
     let s = sides_in(rec);
-    let tested = content(rec, s);
-    if !passed(tested) {
-        return refused(tested);
+    if let Err(refusal) = content(rec, s) {
+        return refused(Err(refusal));
     }
     take(rec, cells(s), parts, masses, fills, carry);
     let g = settings_in(rec);
     let t = site_in(rec);
     FlumeHead {
-        answer: Answer::Done,
+        answer: Ok(()),
         sides: s,
         settings: g,
         site: t,

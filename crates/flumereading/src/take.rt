@@ -1,6 +1,6 @@
 // An accepted record into the lent slices.
 ghost use Rattle.std.specs.Prelude.{◌≡◌, ◌*◌, length};
-ghost use Rattle.grid.specs.declared.Answer.TheVariants.{Done};
+ghost use Rattle.grid.specs.Answer.{Done};
 ghost use Rattle.flumerecord.specs.Reading.{flume_cells_in, flume_content};
 ghost use Rattle.flumerecord.specs.inner.Passes.{FlumeSound, FlumeTaken};
 

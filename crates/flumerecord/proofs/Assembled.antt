@@ -1,7 +1,6 @@
 -- The length of a flume's record is 76 + N + 4I + 36L. Assumes nothing.
 use mathlib.Core.Path.{◌≡◌, refl, ap, ◌∙◌}
 use Prim.Native.Nat.{ℕ, ◌+◌}
-use mathlib.Core.List.{◌++◌}
 use lib.IntN.{ℤ}
 use lib.ListN.{length, length-append}
 use Rattle.grid.specs.State.{Lent, state_of}

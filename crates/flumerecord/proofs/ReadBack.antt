@@ -3,8 +3,8 @@
 -- counts says it. Assumes nothing.
 use mathlib.Core.Path.{◌≡◌, refl, sym, ap, ap₂, ◌∙◌, subst}
 use mathlib.Core.Bool.{true, false, ◌&&◌}
-use mathlib.Core.List.{List, [], ◌∷◌, ◌++◌}
-use Prim.Native.Nat.{ℕ, suc, ◌+◌, ◌*◌, ◌≤◌, ◌<◌}
+use mathlib.Core.List.{List, ◌++◌}
+use Prim.Native.Nat.{ℕ, suc, ◌*◌, ◌≤◌, ◌<◌}
 use native.Mathlib.Nat.{le_trans, le_of_eq}
 use native.Mathlib.Omega.{arith}
 use lib.IntN.{ℤ, pos, nat_abs}
@@ -15,7 +15,7 @@ use mir.Val.{SFits}
 use Rattle.whole.specs.laws.Bools.{and_left, and_right}
 use Rattle.lattice.specs.Lattice.{d2q9, density}
 use Rattle.lattice.specs.Cell.{edge_good, coordinate_good}
-use Rattle.grid.specs.declared.Answer.TheVariants.{Done}
+use Rattle.grid.specs.Answer.{Done}
 use Rattle.grid.specs.Grid.{flume}
 use Rattle.grid.specs.State.{Lent, State, state_of, lent_of, by_flag, flag_of}
 use Rattle.grid.specs.Good.{bad_flag, bad_fluid, bad_rule, cell_good}
@@ -46,6 +46,7 @@ use Rattle.flumerecord.specs.inner.Passes.{FlumeSound}
 use Rattle.flumerecord.proofs.Assembled.{length-head}
 use Rattle.flumerecord.proofs.WrittenBy.{Fit, level-small, write-fit}
 use Rattle.flumerecord.proofs.Shaped.{shape-passes}
+use Rattle.grid.specs.declared.refusals.Refusal.TheVariants.{BadFlag, BadLayer, BadSetting, BadState}
 
 -- the claim
 abbrev pub Claim : Type 0
@@ -117,9 +118,9 @@ module _ (s : FlumeSides) (g : FlumeSettings) (t : FlumeSite) (a : Lent) (fit : 
   tests : (n ≤ bad_flag (flume_grid s) S.flag) × (n ≤ bad_fluid 8 (flume_grid s) S.flag) × (suc n ≤ bad_rule d2q9 n S)
   unfolding good_answer flume_grid flume flume_cells d2q9
   tests =
-      let four = none_found (flume_cells s) 4 (bad_flag (flume_grid s) S.flag) _ fit.good in
-      let five = none_found (flume_cells s) 5 (bad_fluid 8 (flume_grid s) S.flag) _ four.1 in
-      let six = none_found (suc (flume_cells s)) 6 (bad_rule d2q9 (flume_cells s) S) Done five.1 in
+      let four = none_found (flume_cells s) BadFlag (bad_flag (flume_grid s) S.flag) _ fit.good in
+      let five = none_found (flume_cells s) BadLayer (bad_fluid 8 (flume_grid s) S.flag) _ four.1 in
+      let six = none_found (suc (flume_cells s)) BadState (bad_rule d2q9 (flume_cells s) S) Done five.1 in
       (four.0, five.0, six.0)
 
   cells-good : (c : ℕ) → c < n → cell_good d2q9 S c ≡ true
@@ -228,7 +229,7 @@ module _ (s : FlumeSides) (g : FlumeSettings) (t : FlumeSite) (a : Lent) (fit : 
       le_trans (le_of_eq cells-so) (le_trans tests.1 (le_of_eq (ap₂ (λ (z : FlumeSides) (o : List ℕ). bad_fluid 8 (flume_grid z) (flag_of o)) (sym sides-so) (sym flags-so)))) in
       let kept : suc m ≤ rules =
       subst (λ (k : ℕ). suc k ≤ bad_rule d2q9 k (flume_state_in rec)) (sym cells-so) (le_trans tests.2 (le_of_eq (sym (bad-rule-same d2q9 n (flume_state_in rec) S same-so)))) in
-      or-pass 3 0 _ (ap₂ flume_site_good settings-so site-so ∙ no_mode g t ∙ fit.site) ∙ skip m 5 place (if_none (suc m) 6 rules Done) shut ∙ skip (suc m) 6 rules Done kept
+      or-pass (BadSetting 0) _ (ap₂ flume_site_good settings-so site-so ∙ no_mode g t ∙ fit.site) ∙ skip m BadLayer place (if_none (suc m) BadState rules Done) shut ∙ skip (suc m) BadState rules Done kept
 
 pub read_back : Claim
 unfolding flume_read_head flume_read_flags flume_read_set flume_read_answer

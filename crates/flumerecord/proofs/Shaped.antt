@@ -4,8 +4,8 @@ use mathlib.Core.Bool.{Bool, true}
 use mathlib.Core.List.{List}
 use Prim.Native.Nat.{ℕ, ◌*◌}
 use lib.ListN.{length}
-use Rattle.grid.specs.declared.Answer.{Answer}
-use Rattle.grid.specs.declared.Answer.TheVariants.{Done}
+use Rattle.grid.specs.Answer.{Answer}
+use Rattle.grid.specs.Answer.{Done}
 use Rattle.grid.specs.State.{Lent}
 use Rattle.grid.specs.Good.{bad_flag}
 use Rattle.grid.specs.Outcome.{accepted, if_none}
@@ -18,6 +18,7 @@ use Rattle.record.proofs.Sections.{chain-opens-on, chain-fronts-on, chain-shapes
 use Rattle.flumerecord.specs.Layout.{flume_counts}
 use Rattle.flumerecord.specs.Reading.{flume_sides_in, flume_cells_in, flume_flag_in, flume_interfaces_in, flume_liquids_in, flume_slices_fit, flume_shape, flume_content, flume_read_answer}
 use Rattle.flumerecord.specs.inner.Passes.{FlumeSound}
+use Rattle.grid.specs.declared.refusals.Refusal.TheVariants.{BadFlag}
 
 module _ (r : List ℕ) (p m f k : ℕ) where
   abbrev good : Bool
@@ -37,7 +38,7 @@ module _ (r : List ℕ) (p m f k : ℕ) where
   chain-opens = chain-opens-on r flume_counts good fit
 
   pub shape_is : (rest : Answer)
-      → flume_shape r p m f k rest ≡ opens (fronts_on r flume_counts 1 (flume_cells_in r) (if_none (flume_cells_in r) 4 (bad_flag (flume_grid (flume_sides_in r)) (flume_flag_in r)) (ends_on r (masses_from flume_counts 1 (flume_cells_in r)) (flume_interfaces_in r) (9 * flume_liquids_in r) rest)))
+      → flume_shape r p m f k rest ≡ opens (fronts_on r flume_counts 1 (flume_cells_in r) (if_none (flume_cells_in r) BadFlag (bad_flag (flume_grid (flume_sides_in r)) (flume_flag_in r)) (ends_on r (masses_from flume_counts 1 (flume_cells_in r)) (flume_interfaces_in r) (9 * flume_liquids_in r) rest)))
   unfolding flume_shape
   shape_is rest = refl
 

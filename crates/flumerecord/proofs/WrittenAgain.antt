@@ -3,15 +3,15 @@
 use mathlib.Core.Path.{◌≡◌, refl, sym, ap, ap₂, ◌∙◌, subst}
 use mathlib.Core.Bool.{Bool, true, ◌&&◌, cond}
 use mathlib.Core.List.{List, ◌++◌}
-use Prim.Native.Nat.{ℕ, suc, ◌+◌, ◌*◌, ◌≤◌}
+use Prim.Native.Nat.{ℕ, suc, ◌*◌, ◌≤◌}
 use native.Mathlib.Omega.{arith}
 use lib.Dec.{eqb}
 use lib.ListN.{length, drop}
 use borrow.Author.Tests.{eq-eqb, le-leb}
 use Rattle.whole.specs.laws.Tab.{length-tab}
 use Rattle.lattice.specs.Lattice.{d2q9}
-use Rattle.grid.specs.declared.Answer.{Answer}
-use Rattle.grid.specs.declared.Answer.TheVariants.{Done}
+use Rattle.grid.specs.Answer.{Answer}
+use Rattle.grid.specs.Answer.{Done}
 use Rattle.grid.specs.Grid.{flume}
 use Rattle.grid.specs.Demands.{Same}
 use Rattle.grid.specs.Outcome.{accepted, good_answer}
@@ -31,6 +31,7 @@ use Rattle.flumerecord.specs.inner.Passes.{FlumeSound}
 use Rattle.flumerecord.proofs.Assembled.{length-record}
 use Rattle.flumerecord.proofs.Shaped.{sound, shape-accepted, content-accepted}
 use Rattle.flumerecord.proofs.SameBytes.{grid_read, same_bytes}
+use Rattle.grid.specs.declared.refusals.Refusal.TheVariants.{BadFlag, BadLayer, BadLength, BadRoom, BadSetting, BadSides, BadState}
 
 -- the claim
 abbrev pub Claim : Type 0
@@ -68,10 +69,10 @@ module _ (r : List ℕ) (k : FlumeSound r) (content : flume_content r ≡ Done) 
   unfolding flume_content good_answer flume_grid flume flume_cells_in flume_cells state_of d2q9
   tests =
       let n = flume_cells_in r in
-      let a = passed (flume_site_good (flume_settings_in r) (flume_site_in r)) 3 0 _ content in
-      let b = none_found n 5 _ _ a.1 in
-      let d = none_found (suc n) 6 _ _ b.1 in
-      (a.0, λ rest. skip n 4 _ _ k.tested ∙ skip n 5 _ _ b.0 ∙ skip (suc n) 6 _ rest (subst (λ (m : ℕ). suc n ≤ m) (bad-rule-same d2q9 n (flume_state_in r) (state_of 8 (taken r)) nine-same) d.0))
+      let a = passed (flume_site_good (flume_settings_in r) (flume_site_in r)) (BadSetting 0) _ content in
+      let b = none_found n BadLayer _ _ a.1 in
+      let d = none_found (suc n) BadState _ _ b.1 in
+      (a.0, λ rest. skip n BadFlag _ _ k.tested ∙ skip n BadLayer _ _ b.0 ∙ skip (suc n) BadState _ rest (subst (λ (m : ℕ). suc n ≤ m) (bad-rule-same d2q9 n (flume_state_in r) (state_of 8 (taken r)) nine-same) d.0))
 
   length-same : flume_record_of (flume_sides_in r) (flume_settings_in r) (flume_site_in r) (taken r) ≡ r → flume_record_length (flume_sides_in r) (taken r) ≡ length r
   unfolding flume_cells_in
@@ -80,8 +81,8 @@ module _ (r : List ℕ) (k : FlumeSound r) (content : flume_content r ≡ Done) 
   accepts : (room : List ℕ) → flume_record_length (flume_sides_in r) (taken r) ≤ length room → flume_write_answer (flume_sides_in r) (flume_settings_in r) (flume_site_in r) (taken r) room ≡ Done
   unfolding flume_write_answer flume_cells_in
   accepts room fits =
-      or-pass 1 0 _ k.sides ∙ or-pass 2 0 _ lengths-pass ∙ or-pass 3 0 _ tests.0 ∙ tests.1 _
-      ∙ or-pass 12 (flume_record_length (flume_sides_in r) (taken r)) Done (le-leb (flume_record_length (flume_sides_in r) (taken r)) (length room) fits)
+      or-pass BadSides _ k.sides ∙ or-pass BadLength _ lengths-pass ∙ or-pass (BadSetting 0) _ tests.0 ∙ tests.1 _
+      ∙ or-pass (BadRoom (flume_record_length (flume_sides_in r) (taken r))) Done (le-leb (flume_record_length (flume_sides_in r) (taken r)) (length room) fits)
 
   writes : (room : List ℕ) → flume_record_of (flume_sides_in r) (flume_settings_in r) (flume_site_in r) (taken r) ≡ r → length r ≤ length room
       → (flume_write_answer (flume_sides_in r) (flume_settings_in r) (flume_site_in r) (taken r) room ≡ Done)

@@ -6,8 +6,8 @@ use Prim.Native.Nat.{ℕ, ◌≤◌, ◌<◌}
 use lib.ListN.{length}
 use lib.Seq.{sets}
 use Rattle.lattice.specs.Lattice.{d2q9}
-use Rattle.grid.specs.declared.Answer.{Answer}
-use Rattle.grid.specs.declared.Answer.TheVariants.{Done, Refused}
+use Rattle.grid.specs.Answer.{Answer}
+use Rattle.grid.specs.Answer.{Done}
 use Rattle.grid.specs.State.{Lent, state_of}
 use Rattle.grid.specs.Outcome.{accepted, or_refuse, good_answer}
 use Rattle.grid.proofs.Accepted.{accepted-done, done-accepted}
@@ -26,6 +26,8 @@ use Rattle.flumerecord.specs.Layout.{level_site, flume_site_good, flume_record_o
 use Rattle.flumerecord.specs.Writing.{flume_fits, flume_write_answer, flume_written, flume_written_room}
 use Rattle.flumerecord.specs.Promise.{FlumeWrote}
 use Rattle.flumerecord.proofs.Assembled.{length-record}
+use Rattle.grid.specs.declared.refusals.Refusal.TheVariants.{BadLength, BadRoom, BadSetting, BadSides}
+use Rattle.std.specs.Prelude.{Err}
 
 -- settings in their ranges fit the record's numbers
 pub level-small : (g : FlumeSettings) (t : FlumeSite) → flume_site_good g t ≡ true → Small (level_settings g) (level_site t)
@@ -39,9 +41,9 @@ module _ (s : FlumeSides) (g : FlumeSettings) (t : FlumeSite) (a : Lent) where
       let A = flume_lengths (flume_cells s) a in
       let T = flume_site_good g t in
       let G = good_answer d2q9 (flume_grid s) (state_of 8 a) in
-      chain-then (or_refuse S 1 0) (λ rest. or_refuse A 2 0 (or_refuse T 3 0 (G rest))) (chain-or S 1 0)
-      (chain-then (or_refuse A 2 0) (λ rest. or_refuse T 3 0 (G rest)) (chain-or A 2 0)
-      (chain-then (or_refuse T 3 0) G (chain-or T 3 0) (chain-good d2q9 (flume_grid s) (state_of 8 a))))
+      chain-then (or_refuse S BadSides) (λ rest. or_refuse A BadLength (or_refuse T (BadSetting 0) (G rest))) (chain-or S BadSides)
+      (chain-then (or_refuse A BadLength) (λ rest. or_refuse T (BadSetting 0) (G rest)) (chain-or A BadLength)
+      (chain-then (or_refuse T (BadSetting 0)) G (chain-or T (BadSetting 0)) (chain-good d2q9 (flume_grid s) (state_of 8 a))))
 
   -- a set that passed them
   pub record Fit : Type 0 where
@@ -56,13 +58,13 @@ module _ (s : FlumeSides) (g : FlumeSettings) (t : FlumeSite) (a : Lent) where
       let A = flume_lengths (flume_cells s) a in
       let T = flume_site_good g t in
       let G = good_answer d2q9 (flume_grid s) (state_of 8 a) in
-      let one = chain-both (or_refuse S 1 0) (λ rest. or_refuse A 2 0 (or_refuse T 3 0 (G rest))) (chain-or S 1 0) e in
-      let two = chain-both (or_refuse A 2 0) (λ rest. or_refuse T 3 0 (G rest)) (chain-or A 2 0) one.1 in
-      let three = chain-both (or_refuse T 3 0) G (chain-or T 3 0) two.1 in
+      let one = chain-both (or_refuse S BadSides) (λ rest. or_refuse A BadLength (or_refuse T (BadSetting 0) (G rest))) (chain-or S BadSides) e in
+      let two = chain-both (or_refuse A BadLength) (λ rest. or_refuse T (BadSetting 0) (G rest)) (chain-or A BadLength) one.1 in
+      let three = chain-both (or_refuse T (BadSetting 0)) G (chain-or T (BadSetting 0)) two.1 in
       record {
-        sides = or-true S 1 0 one.0;
-        lengths = sized (flume_cells s) a (or-true A 2 0 two.0);
-        site = or-true T 3 0 three.0;
+        sides = or-true S BadSides one.0;
+        lengths = sized (flume_cells s) a (or-true A BadLength two.0);
+        site = or-true T (BadSetting 0) three.0;
         good = accepted-done (G Done) three.1;
       }
 
@@ -78,7 +80,7 @@ module _ (s : FlumeSides) (g : FlumeSettings) (t : FlumeSite) (a : Lent) where
     pub write-refused : (x : Answer) → x ≡ flume_fits s g t a Done → accepted x ≡ false → FlumeWrote s g t a room (record { answer = x; bytes = 0 }) room
     write-refused x e f = wrote (refused-on (flume_fits s g t a) chain_fits (flume_record_of s g t a) (flume_record_length s a) room x e f)
 
-    pub write-short : (n : ℕ) → n ≡ flume_record_length s a → accepted (flume_fits s g t a Done) ≡ true → length room < n → FlumeWrote s g t a room (record { answer = Refused 12 n; bytes = 0 }) room
+    pub write-short : (n : ℕ) → n ≡ flume_record_length s a → accepted (flume_fits s g t a Done) ≡ true → length room < n → FlumeWrote s g t a room (record { answer = Err (BadRoom n); bytes = 0 }) room
     write-short n is ok h = wrote (short_on (flume_fits s g t a) chain_fits (flume_record_of s g t a) (flume_record_length s a) room n is ok h)
 
     pub write_done : (n : ℕ) (after : List ℕ) → n ≡ flume_record_length s a → accepted (flume_fits s g t a Done) ≡ true → n ≤ length room → after ≡ sets room 0 (flume_record_of s g t a)

@@ -1,6 +1,6 @@
 -- Case F's record of document 02, and what reader and writer answer of it: what the definitions give, and what the document says. Assumes nothing.
-use Rattle.std.specs.Prelude.{Bool, true, false, ◌&&◌, cond, List, [], ◌∷◌, ◌++◌, ℕ, zero, suc, ◌+◌, eqb, leb, pos, length, take, replicate}
-use Rattle.grid.specs.declared.Answer.{Answer}
+use Rattle.std.specs.Prelude.{Bool, true, false, ◌&&◌, cond, List, [], ◌∷◌, ◌++◌, ℕ, zero, suc, eqb, leb, pos, length, take, replicate}
+use Rattle.grid.specs.Answer.{Answer}
 use Rattle.grid.specs.Outcome.{number_of, place_of}
 use Rattle.grid.specs.State.{Lent, lent}
 use Rattle.flume.specs.Cases.{square, falling, case_f}

@@ -1,8 +1,8 @@
 -- What the flume's reader answers, and what each lent slice then holds, for every input. Assumes nothing.
 use Rattle.std.specs.Prelude.{ℕ, suc, ◌+◌, ◌*◌, Bool, false, cond, List, [], ℤ, pos, length}
 use Rattle.lattice.specs.Lattice.{d2q9}
-use Rattle.grid.specs.declared.Answer.{Answer}
-use Rattle.grid.specs.declared.Answer.TheVariants.{Done}
+use Rattle.grid.specs.Answer.{Answer}
+use Rattle.grid.specs.Answer.{Done}
 use Rattle.grid.specs.State.{State, Lent, lent_of, flag_of}
 use Rattle.grid.specs.Good.{bad_flag, bad_fluid, bad_rule}
 use Rattle.grid.specs.Outcome.{accepted, or_refuse, if_none}
@@ -16,6 +16,7 @@ use Rattle.record.specs.Reading.{state_read, shapes_on, slices_of}
 use Rattle.flumerecord.specs.declared.FlumeSite.{FlumeSite}
 use Rattle.flumerecord.specs.declared.FlumeHead.{FlumeHead}
 use Rattle.flumerecord.specs.Layout.{flume_counts, flume_site_good}
+use Rattle.grid.specs.declared.refusals.Refusal.TheVariants.{BadLayer, BadSetting, BadState}
 
 -- ---- what the sections hold, were they whole
 
@@ -86,9 +87,9 @@ flume_shape r parts masses fills carry rest =
 unfoldable pub flume_content : List ℕ → Answer
 flume_content r =
     let n = flume_cells_in r in
-    or_refuse (flume_site_good (flume_settings_in r) (flume_site_in r)) 3 0
-    (if_none n 5 (bad_fluid 8 (flume_grid (flume_sides_in r)) (flume_flag_in r))
-    (if_none (suc n) 6 (bad_rule d2q9 n (flume_state_in r)) Done))
+    or_refuse (flume_site_good (flume_settings_in r) (flume_site_in r)) (BadSetting 0)
+    (if_none n BadLayer (bad_fluid 8 (flume_grid (flume_sides_in r)) (flume_flag_in r))
+    (if_none (suc n) BadState (bad_rule d2q9 n (flume_state_in r)) Done))
 
 unfoldable pub flume_read_answer : List ℕ → Lent → Answer
 flume_read_answer r a = flume_shape r (length a.parts) (length a.masses) (length a.fills) (length a.carry) (flume_content r)

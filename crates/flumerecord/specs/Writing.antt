@@ -1,7 +1,7 @@
 -- What the flume's writer answers, and what the room then holds, for every input. Assumes nothing.
 use Rattle.std.specs.Prelude.{List, ℕ}
 use Rattle.lattice.specs.Lattice.{d2q9}
-use Rattle.grid.specs.declared.Answer.{Answer}
+use Rattle.grid.specs.Answer.{Answer}
 use Rattle.grid.specs.State.{Lent, state_of}
 use Rattle.grid.specs.Outcome.{or_refuse, good_answer}
 use Rattle.flume.specs.declared.FlumeSides.{FlumeSides}
@@ -11,13 +11,14 @@ use Rattle.record.specs.declared.Written.{Written}
 use Rattle.record.specs.Writing.{room_test, written_on, room_on}
 use Rattle.flumerecord.specs.declared.FlumeSite.{FlumeSite}
 use Rattle.flumerecord.specs.Layout.{flume_site_good, flume_record_of, flume_record_length}
+use Rattle.grid.specs.declared.refusals.Refusal.TheVariants.{BadLength, BadSetting, BadSides}
 
 -- tests 1 to 6, and then `rest`
 abbrev pub flume_fits : FlumeSides → FlumeSettings → FlumeSite → Lent → Answer → Answer
 flume_fits s g t a rest =
-    or_refuse (flume_sides_good s) 1 0
-    (or_refuse (flume_lengths (flume_cells s) a) 2 0
-    (or_refuse (flume_site_good g t) 3 0
+    or_refuse (flume_sides_good s) BadSides
+    (or_refuse (flume_lengths (flume_cells s) a) BadLength
+    (or_refuse (flume_site_good g t) (BadSetting 0)
     (good_answer d2q9 (flume_grid s) (state_of 8 a) rest)))
 
 -- and 12 last, its place the bytes needed

@@ -1,6 +1,6 @@
 // What sections 1 to 3 give: sides, settings and site of a flume's record; and tests 1, 2 and 3.
 ghost use Rattle.std.specs.Prelude.{◌≡◌, ◌≤◌, length};
-ghost use Rattle.grid.specs.declared.Answer.TheVariants.{Done};
+ghost use Rattle.grid.specs.Answer.{Done};
 ghost use Rattle.flume.specs.Flume.{flume_sides_good};
 ghost use Rattle.record.specs.Reading.{opens_on};
 ghost use Rattle.flumerecord.specs.Layout.{flume_counts, flume_site_good};
@@ -9,12 +9,12 @@ ghost use Rattle.flumerecord.specs.Reading.{flume_sides_in, flume_settings_in, f
 use crate::FlumeSite;
 use flume::extent::{cells, good_sides};
 use flume::{FlumeSettings, FlumeSides};
-use grid::Answer;
+use grid::refusals::{Answer, Refusal};
 use lattice::Settings;
 use record::Site;
 use record::given::{setting_at, side_at, slices_fit};
 use record::number::i64_at;
-use record::section::{passed, section};
+use record::section::section;
 
 pub fn sides_in(rec: &[u8]) -> FlumeSides
     requires { 12 ≤ length rec.now }
@@ -78,16 +78,13 @@ pub fn good_site(g: FlumeSettings, t: FlumeSite) -> bool
 pub fn opening(rec: &[u8], parts: usize, masses: usize, fills: usize, carry: usize) -> Answer
     ensures { result ≡ opens_on rec.now flume_counts (flume_sides_good (flume_sides_in rec.now)) (flume_slices_fit (flume_cells_in rec.now) parts masses fills carry) Done }
 {
-    let sides = section(rec, 1, 0, 2, 4);
-    if !passed(sides) {
-        return sides;
-    }
+    section(rec, 1, 0, 2, 4)?;
     let s = sides_in(rec);
     if !good_sides(s) {
-        return Answer::Refused(1, 0);
+        return Err(Refusal::BadSides);
     }
     if !slices_fit(9, 1, cells(s), parts, masses, fills, carry) {
-        return Answer::Refused(2, 0);
+        return Err(Refusal::BadLength);
     }
-    Answer::Done
+    Ok(())
 }

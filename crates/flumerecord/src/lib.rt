@@ -5,7 +5,7 @@ pub mod flags;
 pub mod given;
 
 use flume::{FlumeSettings, FlumeSides};
-use grid::Answer;
+use grid::refusals::Answer;
 
 // Where a flume stands: the edge of a cell and the origin, in millimetres.
 #[derive(Clone, Copy)]

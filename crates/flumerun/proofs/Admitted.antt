@@ -2,8 +2,8 @@
 use mathlib.Core.Path.{◌≡◌}
 use mathlib.Core.List.{List}
 use Prim.Native.Nat.{ℕ, ◌≤◌, ◌<◌}
-use Rattle.grid.specs.declared.Answer.{Answer}
-use Rattle.grid.specs.declared.Answer.TheVariants.{Done, Refused}
+use Rattle.grid.specs.Answer.{Answer}
+use Rattle.grid.specs.Answer.{Done}
 use Rattle.grid.specs.State.{Lent}
 use Rattle.run.proofs.Admitted.{RanOn, refuses-on, entered_on, admits, not-admitted-on, ended-on}
 use Rattle.flume.specs.declared.FlumeSides.{FlumeSides}
@@ -14,6 +14,9 @@ use Rattle.flume.specs.Promise.{FlumeRanTo}
 use Rattle.flumegrid.specs.inner.Ready.{FlumeEntered}
 use Rattle.flumegrid.proofs.Entrance.{enters}
 use Rattle.flumeturns.specs.inner.Turns.{FlumeWent}
+use Rattle.grid.specs.declared.refusals.Refusal.TheVariants.{BadSteps}
+use Rattle.std.specs.Prelude.{Err}
+use Rattle.grid.specs.declared.refusals.Refusal.{Refusal}
 
 module _ (steps : ℕ) (s : FlumeSides) (g : FlumeSettings) (a b : Lent) (marks : List ℕ) where
   -- the flume is one ground
@@ -22,7 +25,7 @@ module _ (steps : ℕ) (s : FlumeSides) (g : FlumeSettings) (a b : Lent) (marks 
   unfolding open-outcome
   on-ground w = record { count-is = w.count-is; answer-is = w.answer-is; first-is = w.first-is; second_is = w.second_is; marks-are = w.marks-are }
 
-  pub refuses-steps : 1000 < steps → Refused 9 0 ≡ flume_run_entry steps s g a b marks
+  pub refuses-steps : 1000 < steps → Err BadSteps ≡ flume_run_entry steps s g a b marks
   unfolding open-outcome
   refuses-steps h = refuses-on (flume_ground s) steps (level_settings g) a b marks h
 
@@ -34,9 +37,9 @@ module _ (steps : ℕ) (s : FlumeSides) (g : FlumeSettings) (a b : Lent) (marks 
   unfolding open-outcome
   run-stepping e = enters s g a b marks (admits (flume_ground s) steps (level_settings g) a b marks e)
 
-  pub not-admitted : (n p : ℕ) → Refused n p ≡ flume_run_entry steps s g a b marks → FlumeRanTo steps s g a b marks 0 (Refused n p) a b marks
+  pub not-admitted : (refusal : Refusal) → Err refusal ≡ flume_run_entry steps s g a b marks → FlumeRanTo steps s g a b marks 0 (Err refusal) a b marks
   unfolding open-outcome
-  not-admitted n p e = on-ground (not-admitted-on (flume_ground s) steps (level_settings g) a b marks e)
+  not-admitted refusal e = on-ground (not-admitted-on (flume_ground s) steps (level_settings g) a b marks e)
 
   pub admitted-went : (count : ℕ) (answer : Answer) (first second : Lent) (after : List ℕ) → Done ≡ flume_run_entry steps s g a b marks
       → FlumeWent steps s g a marks count answer first second after → FlumeRanTo steps s g a b marks count answer first second after

@@ -7,7 +7,7 @@ ghost use Rattle.flume.specs.Promise.{FlumeRanTo};
 use flume::{FlumeSettings, FlumeSides};
 use flumegrid::entry;
 use flumeturns::turns;
-use grid::Answer;
+use grid::refusals::{Answer, Refusal};
 use run::running::Ran;
 
 // The number of steps, and then tests 1 to 6: what refuses a run before its first step.
@@ -30,7 +30,7 @@ fn admitted(
     ensures { result ≡ flume_run_entry steps s g (lent flags.now parts.now masses.now fills.now carry.now) (lent flags2.now parts2.now masses2.now fills2.now carry2.now) marks.now }
 {
     if steps > 1000 {
-        return Answer::Refused(9, 0);
+        return Err(Refusal::BadSteps);
     }
     entry::entered(
         flags, parts, masses, fills, carry, flags2, parts2, masses2, fills2, carry2, marks, s, g,
@@ -60,10 +60,10 @@ pub fn run(
         steps, flags, parts, masses, fills, carry, flags2, parts2, masses2, fills2, carry2, marks,
         s, g,
     );
-    if let Answer::Refused(no, at) = a {
+    if let Err(refusal) = a {
         return Ran {
             count: 0,
-            answer: Answer::Refused(no, at),
+            answer: Err(refusal),
         };
     }
     turns::going(

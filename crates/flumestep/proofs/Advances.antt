@@ -1,22 +1,22 @@
 -- From what pass 0, pass 1 and the end of a flume's step leave to what tests 7 and 8 answer and the step leaves; and of a set of which nothing is known, what
 -- its first step asks. Assumes nothing.
 use mathlib.Core.Path.{◌≡◌, sym, ap, ◌∙◌, subst}
-use mathlib.Core.Bool.{Bool, true, false, cond, false≢true}
+use mathlib.Core.Bool.{cond, false≢true}
 use mathlib.Core.List.{List}
 use Prim.Native.Nat.{ℕ, ◌<◌}
 use lib.IntN.{ℤ}
 use lib.ListN.{length, get_or, replicate, get_or-replicate, length-replicate}
 use Rattle.whole.specs.Fold.{tab, first}
 use Rattle.lattice.specs.declared.Settings.{Settings}
-use Rattle.grid.specs.declared.Answer.{Answer}
-use Rattle.grid.specs.declared.Answer.TheVariants.{Done, Refused}
+use Rattle.grid.specs.Answer.{Answer}
+use Rattle.grid.specs.Answer.{Done}
 use Rattle.grid.specs.State.{Lent, lent, Scene, liquid}
 use Rattle.grid.specs.Step.{unsteady}
 use Rattle.grid.specs.Outcome.{accepted}
 use Rattle.grid.specs.inner.Halfway.{Alike}
 use Rattle.grid.specs.inner.Passes.{opened_by}
-use Rattle.passes.specs.declared.passing.Passed.{Passed}
-use Rattle.passes.specs.declared.passing.Passed.TheVariants.{Stopped, Through}
+use Rattle.passes.specs.declared.passing.Found.{Found}
+use Rattle.std.specs.Prelude.{Result, Ok, Err}
 use Rattle.passes.specs.inner.Flowed.{MovedTo}
 use Rattle.step.proofs.Finishes.{cleared}
 use Rattle.flume.specs.declared.FlumeSides.{FlumeSides}
@@ -30,6 +30,8 @@ use Rattle.flumepasses.specs.inner.Flowed.{FlumeFlowable, FlumeWent, stopped, th
 use Rattle.flumefinish.specs.inner.Finished.{FlumeFinishing, FlumeFinished}
 use Rattle.flumefinish.proofs.Finishes.{moved-carried, stopped-answer, flowable, next-lengths}
 use Rattle.flumestep.specs.inner.Advanced.{FlumeTried, FlumeAdvanced}
+use Rattle.grid.specs.declared.refusals.Refusal.TheVariants.{BadFlow}
+use Rattle.grid.specs.declared.refusals.Refusal.{Refusal}
 
 -- ---- two sets of the right lengths are alike
 pub alike-sized : {n : ℕ} {a b : Lent} → FlumeSized n a → FlumeSized n b → Alike a b
@@ -42,31 +44,12 @@ alike-sized x y = record {
 }
 
 -- what pass 1 answered
-abbrev is-stopped : Passed → Bool
-is-stopped (Stopped c) = true
-is-stopped (Through u v) = false
+went-stopped : {T : Scene} {n c : ℕ} {parts masses : List ℤ} {marks : List ℕ} → FlumeWent T n (Err c) parts masses marks → (c < n) × (first n (unsteady T) ≡ c)
+went-stopped (stopped h f) = (h, f)
 
-abbrev stopped-at : Passed → ℕ
-stopped-at (Stopped c) = c
-stopped-at (Through u v) = 0
-
-abbrev was-fair : Passed → Bool
-was-fair (Stopped c) = false
-was-fair (Through u v) = u
-
-abbrev was-calm : Passed → Bool
-was-calm (Stopped c) = false
-was-calm (Through u v) = v
-
-went-stopped : {T : Scene} {n : ℕ} {o : Passed} {parts masses : List ℤ} {marks : List ℕ} (c : ℕ) → o ≡ Stopped c → FlumeWent T n o parts masses marks → (c < n) × (first n (unsteady T) ≡ c)
-went-stopped {T} {n} c e (stopped {c = d} h f) = let k : d ≡ c = ap stopped-at e in (subst (λ (m : ℕ). m < n) k h, f ∙ k)
-went-stopped c e (through m) = absurd (false≢true (ap is-stopped e))
-
-went-through : {T : Scene} {n : ℕ} {o : Passed} {parts masses : List ℤ} {marks : List ℕ} (u v : Bool) → o ≡ Through u v → FlumeWent T n o parts masses marks
-    → MovedTo T n (part_of9 parts) masses marks u v
-went-through u v e (stopped h f) = absurd (false≢true (sym (ap is-stopped e)))
-went-through {T} {n} {o} {parts} {masses} {marks} u v e (through {fair = x} {calm = y} m) =
-    subst (λ (z : Bool). MovedTo T n (part_of9 parts) masses marks z v) (ap was-fair e) (subst (λ (z : Bool). MovedTo T n (part_of9 parts) masses marks x z) (ap was-calm e) m)
+went-through : {T : Scene} {n : ℕ} {found : Found} {parts masses : List ℤ} {marks : List ℕ} → FlumeWent T n (Ok found) parts masses marks
+    → MovedTo T n (part_of9 parts) masses marks found.fair found.calm
+went-through (through m) = m
 
 module _ {s : FlumeSides} {g : FlumeSettings} {a : Lent} where
   -- of a set whose flags are all 1 nothing is asked
@@ -89,29 +72,27 @@ module _ {s : FlumeSides} {g : FlumeSettings} {a : Lent} where
         subst (λ (k : Settings). FlumeFlowable s k a.flags a.parts a.masses a.fills b.flags b.parts b.masses opened) (sym eh)
         (flowable s g a f.ready marks f.second.flags d f.second.parts f.second.masses e)
 
-    module _ {o : Passed} {parts2 masses2 : List ℤ} {marks2 : List ℕ} (v : FlumeFlowed s h a.flags a.parts a.masses a.fills o parts2 masses2 marks2) where
-      w : FlumeFlowed s (level_settings g) a.flags a.parts a.masses a.fills o parts2 masses2 marks2
-      w = subst (λ (k : Settings). FlumeFlowed s k a.flags a.parts a.masses a.fills o parts2 masses2 marks2) eh v
+    module _ {parts2 masses2 : List ℤ} {marks2 : List ℕ} where
+      levelled : {o : Result Found ℕ} → FlumeFlowed s h a.flags a.parts a.masses a.fills o parts2 masses2 marks2 → FlumeFlowed s (level_settings g) a.flags a.parts a.masses a.fills o parts2 masses2 marks2
+      levelled {o} v = subst (λ (k : Settings). FlumeFlowed s k a.flags a.parts a.masses a.fills o parts2 masses2 marks2) eh v
 
-      abbrev flowed : Lent
-      flowed = lent b.flags parts2 masses2 b.fills b.carry
+      flowed-sized : {o : Result Found ℕ} → FlumeFlowed s (level_settings g) a.flags a.parts a.masses a.fills o parts2 masses2 marks2 → FlumeSized (flume_cells s) (lent b.flags parts2 masses2 b.fills b.carry)
+      flowed-sized w = record { flags = f.second.flags; parts = w.parts-kept; masses = w.masses-kept; fills = f.second.fills; carry = f.second.carry }
 
-      flowed-sized : FlumeSized (flume_cells s) flowed
-      flowed-sized = record { flags = f.second.flags; parts = w.parts-kept; masses = w.masses-kept; fills = f.second.fills; carry = f.second.carry }
-
-      pub stopped-tried : (c : ℕ) → o ≡ Stopped c → FlumeTried s g a (Refused 7 c) flowed marks2
-      stopped-tried c e =
-          let h = went-stopped c e w.went in
+      pub stopped-tried : {c : ℕ} → FlumeFlowed s h a.flags a.parts a.masses a.fills (Err c) parts2 masses2 marks2 → FlumeTried s g a (Err (BadFlow c)) (lent b.flags parts2 masses2 b.fills b.carry) marks2
+      stopped-tried v =
+          let w = levelled v in
+          let k = went-stopped w.went in
           record {
-            answer-is = stopped-answer s g a f.ready h.0 h.1;
-            sized = flowed-sized;
+            answer-is = stopped-answer s g a f.ready k.0 k.1;
+            sized = flowed-sized w;
             marks-kept = w.marks-kept;
             second_is = λ k. absurd (false≢true (ap accepted k));
             marks-are = λ k. absurd (false≢true (ap accepted k));
           }
 
-      pub finishing : (fair calm : Bool) → o ≡ Through fair calm → FlumeFinishing s g a flowed marks2 fair calm
-      finishing fair calm e = record { ready = f.ready; moved = moved-carried s g a (went-through fair calm e w.went); second = flowed-sized }
+      pub finishing : {found : Found} → FlumeFlowed s h a.flags a.parts a.masses a.fills (Ok found) parts2 masses2 marks2 → FlumeFinishing s g a (lent b.flags parts2 masses2 b.fills b.carry) marks2 found.fair found.calm
+      finishing v = let w = levelled v in record { ready = f.ready; moved = moved-carried s g a (went-through w.went); second = flowed-sized w }
 
   pub tried-finished : {answer : Answer} {second : Lent} {after : List ℕ} → FlumeFinished s g a answer second after → FlumeTried s g a answer second after
   tried-finished f = record {
@@ -123,8 +104,8 @@ module _ {s : FlumeSides} {g : FlumeSettings} {a : Lent} where
   }
 
   -- stepped
-  pub refused-advanced : {n p : ℕ} {answer : Answer} {between second : Lent} {after marks : List ℕ} → answer ≡ Refused n p → FlumeTried s g a answer between after → second ≡ a
-      → marks ≡ replicate (length after) 0 → FlumeAdvanced s g a (Refused n p) second marks
+  pub refused-advanced : {refusal : Refusal} {answer : Answer} {between second : Lent} {after marks : List ℕ} → answer ≡ Err refusal → FlumeTried s g a answer between after → second ≡ a
+      → marks ≡ replicate (length after) 0 → FlumeAdvanced s g a (Err refusal) second marks
   refused-advanced e t k m = record {
     answer-is = sym e ∙ t.answer-is;
     second_is = k ∙ ap (λ (x : Answer). cond (accepted x) (flume_next s g a) a) (sym e ∙ t.answer-is);

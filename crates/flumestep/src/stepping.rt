@@ -9,8 +9,7 @@ use flume::{FlumeSettings, FlumeSides};
 use flumefinish::{finishing, settings};
 use flumegrid::entry;
 use flumepasses::passing;
-use grid::Answer;
-use passes::passing::Passed;
+use grid::refusals::{Answer, Refusal};
 use step::sets;
 use walks::copying;
 
@@ -39,10 +38,10 @@ fn tried(
         flags, parts, masses, fills, flags2, parts2, masses2, marks, s, h,
     );
     match a {
-        Passed::Stopped(c) => Answer::Refused(7, c),
-        Passed::Through(fair, calm) => finishing::finished(
+        Err(c) => Err(Refusal::BadFlow(c)),
+        Ok(found) => finishing::finished(
             flags, parts, masses, fills, carry, flags2, parts2, masses2, fills2, carry2, marks,
-            fair, calm, s, g,
+            found.fair, found.calm, s, g,
         ),
     }
 }
@@ -69,14 +68,14 @@ pub fn resumed(
     let a = tried(
         flags, parts, masses, fills, carry, flags2, parts2, masses2, fills2, carry2, marks, s, g,
     );
-    if let Answer::Refused(no, at) = a {
+    if let Err(refusal) = a {
         sets::copied(
             flags, parts, masses, fills, carry, flags2, parts2, masses2, fills2, carry2,
         );
         copying::clear(marks);
-        return Answer::Refused(no, at);
+        return Err(refusal);
     }
-    Answer::Done
+    Ok(())
 }
 
 // The step of a set that is ready. Nothing is known of the second set, so every cell of it may hold water.
@@ -122,12 +121,9 @@ pub fn step(
 ) -> Answer
     ensures { FlumeStepped s g (lent flags.now parts.now masses.now fills.now carry.now) (lent flags2.old parts2.old masses2.old fills2.old carry2.old) marks.old result (lent flags2.new parts2.new masses2.new fills2.new carry2.new) marks.new }
 {
-    let a = entry::entered(
+    entry::entered(
         flags, parts, masses, fills, carry, flags2, parts2, masses2, fills2, carry2, marks, s, g,
-    );
-    if let Answer::Refused(no, at) = a {
-        return Answer::Refused(no, at);
-    }
+    )?;
     advanced(
         flags, parts, masses, fills, carry, flags2, parts2, masses2, fills2, carry2, marks, s, g,
     )

@@ -4,12 +4,13 @@ use mathlib.Core.Path.{◌≡◌, refl, sym, ◌∙◌, subst}
 use mathlib.Core.Bool.{Bool, true, false, ◌&&◌, not}
 use mathlib.Core.List.{List}
 use Prim.Native.Nat.{ℕ, ◌+◌, ◌≤◌, ◌<◌}
+use native.Mathlib.Omega.{arith}
 use lib.ListN.{length, replicate}
 use borrow.Author.Tests.{eq-eqb}
 use Rattle.lattice.specs.Lattice.{d2q9}
 use Rattle.lattice.proofs.Paired.{paired9}
-use Rattle.grid.specs.declared.Answer.{Answer}
-use Rattle.grid.specs.declared.Answer.TheVariants.{Done, Refused}
+use Rattle.grid.specs.Answer.{Answer}
+use Rattle.grid.specs.Answer.{Done}
 use Rattle.grid.specs.Grid.{flume}
 use Rattle.grid.specs.State.{Lent, state_of}
 use Rattle.grid.specs.Step.{next}
@@ -33,6 +34,8 @@ use Rattle.flumestep.specs.inner.Advanced.{FlumeAdvanced}
 use Rattle.flumefinish.proofs.Finishes.{next-sized}
 use Rattle.flumestep.proofs.Advances.{alike-sized}
 use Rattle.flumeturns.specs.inner.Turns.{FlumeCrossed, FlumeWent}
+use Rattle.std.specs.Prelude.{Err}
+use Rattle.grid.specs.declared.refusals.Refusal.{Refusal}
 
 -- ---- an accepted step of a set that is ready
 module _ (s : FlumeSides) (g : FlumeSettings) (a : Lent) where
@@ -146,10 +149,12 @@ module _ (steps : ℕ) (s : FlumeSides) (g : FlumeSettings) (start : Lent) (mark
         → FlumeCrossed s g back a b answer first second after → Going steps s g start marks₀ (k + 1) (not back) first second after
     going_on back a b first second marks after answer e i t = Courses.going_on (course s g marks₀) h back e i (crossed s g marks₀ back t)
 
-    pub going-stops : (back : Bool) (a b first second : Lent) (marks after : List ℕ) (answer : Answer) (n p : ℕ) → answer ≡ Refused n p → Going steps s g start marks₀ k back a b marks
-        → FlumeCrossed s g back a b answer first second after → FlumeWent steps s g start marks₀ k (Refused n p) first second after
-    going-stops back a b first second marks after answer n p q i t = went (Courses.going-stops (course s g marks₀) h back q i (crossed s g marks₀ back t))
+    pub going-stops : (back : Bool) (a b first second : Lent) (marks after : List ℕ) (answer : Answer) (refusal : Refusal) → answer ≡ Err refusal → Going steps s g start marks₀ k back a b marks
+        → FlumeCrossed s g back a b answer first second after → FlumeWent steps s g start marks₀ k (Err refusal) first second after
+    going-stops back a b first second marks after answer refusal q i t = went (Courses.going-stops (course s g marks₀) h back q i (crossed s g marks₀ back t))
 
   pub going-ends : (back : Bool) (a b first second : Lent) (marks after : List ℕ) → steps ≤ k → Going steps s g start marks₀ k back a b marks
-      → Evened back a b first second → after ≡ replicate (length marks) 0 → FlumeWent steps s g start marks₀ k Done first second after
-  going-ends back a b first second marks after h i t e = went (Courses.going-ends (course s g marks₀) back h i t e)
+      → Evened back a b first second → after ≡ replicate (length marks) 0 → FlumeWent steps s g start marks₀ steps Done first second after
+  going-ends back a b first second marks after h i t e =
+      let made : k ≡ steps = omega (arith, h, i.most) in
+      subst (λ (n : ℕ). FlumeWent steps s g start marks₀ n Done first second after) made (went (Courses.going-ends (course s g marks₀) back h i t e))

@@ -6,7 +6,7 @@ ghost use Rattle.flumeturns.specs.inner.Turns.{FlumeCrossed, FlumeWent};
 
 use flume::{FlumeSettings, FlumeSides};
 use flumestep::stepping;
-use grid::Answer;
+use grid::refusals::Answer;
 use run::running;
 use run::running::Ran;
 use walks::copying;
@@ -65,27 +65,25 @@ pub fn going(
     // Of the second set nothing is known yet: any cell of it may hold water.
     copying::put_all(flags2, 1);
     let mut back = false;
-    let mut k = 0;
-    while k < steps {
+    for k in 0..steps {
         let a = turn(
             flags, parts, masses, fills, carry, flags2, parts2, masses2, fills2, carry2, marks,
             back, s, g,
         );
-        if let Answer::Refused(no, at) = a {
+        if let Err(refusal) = a {
             return Ran {
                 count: k,
-                answer: Answer::Refused(no, at),
+                answer: Err(refusal),
             };
         }
         back = !back;
-        k += 1;
     }
     running::evened(
         flags, parts, masses, fills, carry, flags2, parts2, masses2, fills2, carry2, back,
     );
     copying::clear(marks);
     Ran {
-        count: k,
-        answer: Answer::Done,
+        count: steps,
+        answer: Ok(()),
     }
 }

@@ -2,7 +2,7 @@
 ghost use Rattle.std.specs.Prelude.{◌≡◌, true, ◌++◌, ◌+◌, ◌*◌, ◌≤◌, pos, length, get_or};
 ghost use Rattle.std.proofs.lemmas.List.Edits.{sets};
 ghost use Rattle.grid.specs.State.{flag_of, lent};
-ghost use Rattle.grid.specs.declared.Answer.TheVariants.{Done};
+ghost use Rattle.grid.specs.Answer.{Done};
 ghost use Rattle.flume.specs.Flume.{flume_sides_good, flume_cells, level_settings};
 ghost use Rattle.record.specs.Places.{end_from};
 ghost use Rattle.record.specs.inner.Small.{Small};
@@ -18,9 +18,8 @@ use flumegrid::checking::checked9;
 use flumegrid::lengths::good_lengths9;
 use flumerecord::FlumeSite;
 use flumerecord::given::good_site;
-use grid::Answer;
+use grid::refusals::{Answer, Refusal};
 use record::Written;
-use record::section::passed;
 use writing::cells::{put_cells, record_length};
 
 // The record of a flume that passed its tests, into room that suffices.
@@ -60,7 +59,7 @@ fn fit(
     ensures { result ≡ flume_fits s g t (lent flags.now parts.now masses.now fills.now carry.now) Done }
 {
     if !good_sides(s) {
-        return Answer::Refused(1, 0);
+        return Err(Refusal::BadSides);
     }
     let n = cells(s);
     if !good_lengths9(
@@ -71,10 +70,10 @@ fn fit(
         carry.len(),
         n,
     ) {
-        return Answer::Refused(2, 0);
+        return Err(Refusal::BadLength);
     }
     if !good_site(g, t) {
-        return Answer::Refused(3, 0);
+        return Err(Refusal::BadSetting(0));
     }
     checked9(flags, parts, masses, fills, carry, s)
 }
@@ -93,24 +92,23 @@ pub fn write(
 ) -> Written
     ensures { FlumeWrote s g t (lent flags.now parts.now masses.now fills.now carry.now) room.old result room.new }
 {
-    let tested = fit(s, g, t, flags, parts, masses, fills, carry);
-    if !passed(tested) {
+    if let Err(refusal) = fit(s, g, t, flags, parts, masses, fills, carry) {
         return Written {
-            answer: tested,
+            answer: Err(refusal),
             bytes: 0,
         };
     }
     let long = record_length(flags, 64, 9);
     if room.len() < long {
         return Written {
-            answer: Answer::Refused(12, long),
+            answer: Err(Refusal::BadRoom(long)),
             bytes: 0,
         };
     }
     let kept = carry[0];
     put_record(s, g, t, flags, parts, masses, kept, room);
     Written {
-        answer: Answer::Done,
+        answer: Ok(()),
         bytes: long,
     }
 }

@@ -12,8 +12,9 @@ use Rattle.whole.specs.Fold.{all, any_dir}
 use Rattle.whole.specs.laws.Search.{any-dir, any_where, first-none, first-all}
 use Rattle.lattice.specs.Lattice.{Lattice, density}
 use Rattle.lattice.specs.Cell.{carry_good}
-use Rattle.grid.specs.declared.Answer.{Answer}
-use Rattle.grid.specs.declared.Answer.TheVariants.{Done, Refused}
+use Rattle.grid.specs.Answer.{Answer, Done}
+use Rattle.grid.specs.declared.refusals.Refusal.{Refusal}
+use Rattle.std.specs.Prelude.{Ok, Err}
 use Rattle.grid.specs.Grid.{Grid}
 use Rattle.grid.specs.State.{State, by_flag}
 use Rattle.grid.specs.Good.{flag_good, bad_flag, open_fluid, bad_fluid, dry_good, interface_good, fluid_good, fill_good, cell_good, bad_rule}
@@ -22,26 +23,27 @@ use Rattle.lattice.proofs.Equal.{eq_z-true}
 use Rattle.grid.specs.Outcome.{accepted, or_refuse, if_none, good_answer}
 use Rattle.grid.specs.Demands.{Walled, Closed}
 use Rattle.grid.proofs.Total.{Massed}
+use Rattle.grid.specs.declared.refusals.Refusal.TheVariants.{BadFlag, BadLayer, BadState}
 
 -- ---- a chain of tests that ends in Done
 pub done-accepted : (a : Answer) → a ≡ Done → accepted a ≡ true
 done-accepted a e = ap accepted e
 
 pub accepted-done : (a : Answer) → accepted a ≡ true → a ≡ Done
-accepted-done Done e = refl
-accepted-done (Refused n p) e = absurd (false≢true e)
+accepted-done (Ok _) e = refl
+accepted-done (Err _) e = absurd (false≢true e)
 
-pub passed : (b : Bool) (number place : ℕ) (rest : Answer) → or_refuse b number place rest ≡ Done → (b ≡ true) × (rest ≡ Done)
-passed true number place rest e = (refl, e)
-passed false number place rest e = absurd (false≢true (ap accepted e))
+pub passed : (b : Bool) (refusal : Refusal) (rest : Answer) → or_refuse b refusal rest ≡ Done → (b ≡ true) × (rest ≡ Done)
+passed true refusal rest e = (refl, e)
+passed false refusal rest e = absurd (false≢true (ap accepted e))
 
-pub none_found : (limit number place : ℕ) (rest : Answer) → if_none limit number place rest ≡ Done → (limit ≤ place) × (rest ≡ Done)
-none_found limit number place rest e =
-    let p = passed (leb limit place) number place rest e in
+pub none_found : (limit : ℕ) (refusal : ℕ → Refusal) (place : ℕ) (rest : Answer) → if_none limit refusal place rest ≡ Done → (limit ≤ place) × (rest ≡ Done)
+none_found limit refusal place rest e =
+    let p = passed (leb limit place) (refusal place) rest e in
     (leb-true limit place p.0, p.1)
 
-pub skip : (limit number place : ℕ) (rest : Answer) → limit ≤ place → if_none limit number place rest ≡ rest
-skip limit number place rest h = ap (λ (b : Bool). or_refuse b number place rest) (le-leb limit place h)
+pub skip : (limit : ℕ) (refusal : ℕ → Refusal) (place : ℕ) (rest : Answer) → limit ≤ place → if_none limit refusal place rest ≡ rest
+skip limit refusal place rest h = ap (λ (b : Bool). or_refuse b (refusal place) rest) (le-leb limit place h)
 
 module _ (L : Lattice) (G : Grid) (s : State) where
   -- what tests 4 to 6 leave
@@ -88,9 +90,9 @@ module _ (L : Lattice) (G : Grid) (s : State) where
   pub sound : (rest : Answer) → good_answer L G s rest ≡ Done → Sound × (rest ≡ Done)
   unfolding good_answer
   sound rest e =
-      let a = none_found G.cells 4 _ _ e in
-      let b = none_found G.cells 5 _ _ a.1 in
-      let d = none_found (suc G.cells) 6 _ _ b.1 in (
+      let a = none_found G.cells BadFlag _ _ e in
+      let b = none_found G.cells BadLayer _ _ a.1 in
+      let d = none_found (suc G.cells) BadState _ _ b.1 in (
         record {
           flagged = λ c k. ltb-true (s.flag c) 4 (and_left (ltb (s.flag c) 4) (not (G.outer c) || eqb (s.flag c) 3) (flag-good a.0 c k));
           walled = λ c k o. eqb-true (s.flag c) 3 (where-then (G.outer c) (eqb (s.flag c) 3) (and_right (ltb (s.flag c) 4) (not (G.outer c) || eqb (s.flag c) 3) (flag-good a.0 c k)) o);
@@ -114,9 +116,9 @@ module _ (L : Lattice) (G : Grid) (s : State) where
       → suc G.cells ≤ bad_rule L G.cells s → good_answer L G s rest ≡ rest
   unfolding good_answer bad_flag bad_fluid open_fluid
   pass-good rest f w cl r =
-      skip G.cells 4 _ _ (le_of_eq (sym (first-all G.cells (λ c. not (flag_good G s.flag c)) (λ c k. ap not (flag_true c k (f c k) w (G.outer c) refl)))))
-      ∙ skip G.cells 5 _ _ (le_of_eq (sym (first-all G.cells (open_fluid L.q G s.flag) (λ c k. never (open_fluid L.q G s.flag c) (λ t. shut c k t)))))
-      ∙ skip (suc G.cells) 6 _ rest r
+      skip G.cells BadFlag _ _ (le_of_eq (sym (first-all G.cells (λ c. not (flag_good G s.flag c)) (λ c k. ap not (flag_true c k (f c k) w (G.outer c) refl)))))
+      ∙ skip G.cells BadLayer _ _ (le_of_eq (sym (first-all G.cells (open_fluid L.q G s.flag) (λ c k. never (open_fluid L.q G s.flag c) (λ t. shut c k t)))))
+      ∙ skip (suc G.cells) BadState _ rest r
     where
       shut : (c : ℕ) → c < G.cells → (eqb (s.flag c) 2 && any_dir L.q (λ i. eqb (s.flag (G.near c i)) 0)) ≡ true → ⊥
       shut c k t =

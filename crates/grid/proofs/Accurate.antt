@@ -18,7 +18,7 @@ use Rattle.lattice.specs.Cell.{dense, slow, over, under}
 use Rattle.lattice.specs.declared.Settings.{Settings}
 use Rattle.lattice.proofs.Balanced.{Balanced, balanced19}
 use Rattle.grid.specs.declared.Sides.{Sides}
-use Rattle.grid.specs.declared.Answer.TheVariants.{Done}
+use Rattle.grid.specs.Answer.{Done}
 use Rattle.grid.specs.Grid.{Grid, cells_of, sides_good, grid_of, box}
 use Rattle.grid.specs.State.{Lent, State, Scene, by_flag, liquid, state_of}
 use Rattle.grid.specs.Step.{streamed_density, streamed_momentum, traded_mass, unsteady, collided, filled, emptied, beside_filled, beside_emptied, new_flag, flag_after, new_part, born, next}
@@ -29,6 +29,7 @@ use Rattle.grid.proofs.Accepted.{none_found, sound}
 use Rattle.grid.proofs.Bgk.{exact, error, error-is, bgk-holds}
 use Rattle.grid.proofs.Conserved.{step-tells, second-next}
 use Rattle.grid.proofs.Listed.{same-listed}
+use Rattle.grid.specs.declared.refusals.Refusal.TheVariants.{BadFlow}
 
 -- 73,728·ρ', by which all is multiplied
 abbrev pub scale : Scene → ℕ → ℕ
@@ -106,7 +107,7 @@ fair false b p e = absurd (false≢true p)
 pub tested : (S : Scene) → move_answer S ≡ Done → (c : ℕ) → c < S.grid.cells → liquid (S.old.flag c) ≡ true → dense (streamed_density S c) ≡ true
 unfolding move_answer unsteady
 tested S e c h l =
-    let a = none_found S.grid.cells 7 (first S.grid.cells (unsteady S)) _ e in
+    let a = none_found S.grid.cells BadFlow (first S.grid.cells (unsteady S)) _ e in
     let t = first-none S.grid.cells (unsteady S) a.0 c h in
     and_left (dense (streamed_density S c)) (slow (streamed_density S c) (dot (streamed_momentum S c) (streamed_momentum S c)))
     (fair (liquid (S.old.flag c)) (dense (streamed_density S c) && slow (streamed_density S c) (dot (streamed_momentum S c) (streamed_momentum S c))) l t)

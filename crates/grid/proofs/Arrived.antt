@@ -10,7 +10,7 @@ use Rattle.lattice.specs.Lattice.{Lattice, d3q19}
 use Rattle.lattice.specs.declared.Settings.{Settings}
 use Rattle.lattice.proofs.Paired.{Paired, paired19}
 use Rattle.grid.specs.declared.Sides.{Sides}
-use Rattle.grid.specs.declared.Answer.TheVariants.{Done}
+use Rattle.grid.specs.Answer.{Done}
 use Rattle.grid.specs.Grid.{Grid, cells_of, sides_good, box, grid_of}
 use Rattle.grid.specs.State.{Lent}
 use Rattle.grid.specs.Outcome.{accepted, lengths_good, ran_by, entry_answer, run_entry}
@@ -21,6 +21,7 @@ use Rattle.grid.proofs.Accepted.{passed, done-accepted, accepted-done}
 use Rattle.grid.proofs.Box.{grid-laid}
 use Rattle.grid.proofs.Laid.{Laid}
 use Rattle.grid.proofs.Conserved.{Holds, conserved-on, second-next, entry-checked}
+use Rattle.grid.specs.declared.refusals.Refusal.TheVariants.{BadSteps}
 
 -- what is claimed of the sets that a run leaves
 pub record Arrived (steps : ℕ) (G : Ground) (g : Settings) (a b : Lent) (marks : List ℕ) : Type 0 where
@@ -64,7 +65,7 @@ arrived-on L M fits p l steps g a b marks e =
     let t = done-accepted (run_entry_on G steps g a b marks) e in
     let first = subst (λ (x : Lent). Reached G a x) (sym (cond_yes (ran_on G g marks steps a).reached a t)) r in
     let second = subst (λ (x : Lent). Reached G a x) (sym (cond_yes (ran_on G g marks steps a).reached b t)) r in
-    let begins = entry-checked G g a b marks (passed (leb steps 1000) 9 0 _ e).1 in
+    let begins = entry-checked G g a b marks (passed (leb steps 1000) BadSteps _ e).1 in
     record {
       first = first;
       second = second;

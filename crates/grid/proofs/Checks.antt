@@ -11,8 +11,9 @@ use lib.ListN.{length, get_or}
 use borrow.Author.Tests.{lt-leb}
 use Rattle.lattice.specs.Lattice.{d3q19}
 use Rattle.grid.specs.declared.Sides.{Sides}
-use Rattle.grid.specs.declared.Answer.{Answer}
-use Rattle.grid.specs.declared.Answer.TheVariants.{Done, Refused}
+use Rattle.grid.specs.Answer.{Answer}
+use Rattle.grid.specs.declared.refusals.Refusal.{Refusal}
+use Rattle.grid.specs.Answer.{Done}
 use Rattle.grid.specs.Grid.{cells_of, grid_of, box, sides_good}
 use Rattle.grid.specs.State.{Lent, lent, state_of, flag_of}
 use Rattle.grid.specs.Good.{bad_flag, bad_fluid, bad_rule, cell_good, dry_good, interface_good, fluid_good, fill_good}
@@ -20,10 +21,12 @@ use Rattle.grid.specs.Outcome.{or_refuse, if_none, good_answer, lengths_good, ch
 use Rattle.grid.specs.inner.Between.{Sized}
 use Rattle.grid.proofs.Accepted.{skip}
 use Rattle.grid.proofs.Prepared.{sized}
+use Rattle.grid.specs.declared.refusals.Refusal.TheVariants.{BadFlag, BadLayer, BadLength, BadSides, BadState}
+use Rattle.std.specs.Prelude.{Err}
 
 -- a search that finds a place answers with it
-pub stop : (limit number place : ℕ) (rest : Answer) → place < limit → if_none limit number place rest ≡ Refused number place
-stop limit number place rest h = ap (λ (b : Bool). or_refuse b number place rest) (lt-leb limit place h)
+pub stop : (limit : ℕ) (refusal : ℕ → Refusal) (place : ℕ) (rest : Answer) → place < limit → if_none limit refusal place rest ≡ Err (refusal place)
+stop limit refusal place rest h = ap (λ (b : Bool). or_refuse b (refusal place) rest) (lt-leb limit place h)
 
 module _ (s : Sides) (a : Lent) where
   abbrev answer : Answer
@@ -42,30 +45,30 @@ module _ (s : Sides) (a : Lent) where
   abbrev broken : ℕ
   broken = bad_rule d3q19 n (state_of 18 a)
 
-  chain : answer ≡ if_none n 4 flagged (if_none n 5 opened (if_none (suc n) 6 broken Done))
+  chain : answer ≡ if_none n BadFlag flagged (if_none n BadLayer opened (if_none (suc n) BadState broken Done))
   unfolding good_answer grid_of box cells_of state_of d3q19
   chain = refl
 
   module _ (f : ℕ) (ef : f ≡ flagged) where
-    pub stops-at-flag : f < n → Refused 4 f ≡ answer
-    stops-at-flag h = sym (chain ∙ stop n 4 flagged (if_none n 5 opened (if_none (suc n) 6 broken Done)) (omega arith) ∙ ap (Refused 4) (sym ef))
+    pub stops-at-flag : f < n → Err (BadFlag f) ≡ answer
+    stops-at-flag h = sym (chain ∙ stop n BadFlag flagged (if_none n BadLayer opened (if_none (suc n) BadState broken Done)) (omega arith) ∙ ap (λ (p : ℕ). Err (BadFlag p)) (sym ef))
 
     module _ (passed : n ≤ f) (o : ℕ) (eo : o ≡ opened) where
-      second : answer ≡ if_none n 5 opened (if_none (suc n) 6 broken Done)
-      second = chain ∙ skip n 4 flagged (if_none n 5 opened (if_none (suc n) 6 broken Done)) (omega arith)
+      second : answer ≡ if_none n BadLayer opened (if_none (suc n) BadState broken Done)
+      second = chain ∙ skip n BadFlag flagged (if_none n BadLayer opened (if_none (suc n) BadState broken Done)) (omega arith)
 
-      pub stops-at-fluid : o < n → Refused 5 o ≡ answer
-      stops-at-fluid h = sym (second ∙ stop n 5 opened (if_none (suc n) 6 broken Done) (omega arith) ∙ ap (Refused 5) (sym eo))
+      pub stops-at-fluid : o < n → Err (BadLayer o) ≡ answer
+      stops-at-fluid h = sym (second ∙ stop n BadLayer opened (if_none (suc n) BadState broken Done) (omega arith) ∙ ap (λ (p : ℕ). Err (BadLayer p)) (sym eo))
 
       module _ (closed : n ≤ o) (b : ℕ) (eb : b ≡ broken) where
-        third : answer ≡ if_none (suc n) 6 broken Done
-        third = second ∙ skip n 5 opened (if_none (suc n) 6 broken Done) (omega arith)
+        third : answer ≡ if_none (suc n) BadState broken Done
+        third = second ∙ skip n BadLayer opened (if_none (suc n) BadState broken Done) (omega arith)
 
-        pub stops-at-rule : b ≤ n → Refused 6 b ≡ answer
-        stops-at-rule h = sym (third ∙ stop (suc n) 6 broken Done (omega arith) ∙ ap (Refused 6) (sym eb))
+        pub stops-at-rule : b ≤ n → Err (BadState b) ≡ answer
+        stops-at-rule h = sym (third ∙ stop (suc n) BadState broken Done (omega arith) ∙ ap (λ (p : ℕ). Err (BadState p)) (sym eb))
 
         pub goes_through : n < b → Done ≡ answer
-        goes_through h = sym (third ∙ skip (suc n) 6 broken Done (omega arith))
+        goes_through h = sym (third ∙ skip (suc n) BadState broken Done (omega arith))
 
 same : (n : ℕ) (a : Lent)
     → bad_rule d3q19 n (state_of 18 (lent a.flags a.parts a.masses a.fills (get_or a.carry 0 (pos 0) ∷ []))) ≡ bad_rule d3q19 n (state_of 18 a)
@@ -81,7 +84,7 @@ one-carry n a z e =
 -- ---- tests 1 and 2 before them
 
 module _ (s : Sides) (a : Lent) where
-  pub refuses-sides : sides_good s ≡ false → Refused 1 0 ≡ check_answer s a
+  pub refuses-sides : sides_good s ≡ false → Err BadSides ≡ check_answer s a
   unfolding check_answer
   refuses-sides e = rw e refl
 
@@ -93,7 +96,7 @@ module _ (s : Sides) (a : Lent) where
     lengths-are b e = ap (λ (m : ℕ). lengths_good m a) (sym cells) ∙ e
 
     pub refuses-lengths : (eqb (length a.flags) n && eqb (length a.parts) (19 * n) && eqb (length a.masses) n && eqb (length a.fills) n && eqb (length a.carry) 1) ≡ false
-        → Refused 2 0 ≡ check_answer s a
+        → Err BadLength ≡ check_answer s a
     unfolding check_answer
     refuses-lengths e = rw (g, lengths-are false e) refl
 

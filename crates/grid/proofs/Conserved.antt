@@ -16,8 +16,8 @@ use Rattle.lattice.specs.Lattice.{Lattice, d3q19}
 use Rattle.lattice.specs.declared.Settings.{Settings}
 use Rattle.lattice.proofs.Paired.{Paired, paired19}
 use Rattle.grid.specs.declared.Sides.{Sides}
-use Rattle.grid.specs.declared.Answer.{Answer}
-use Rattle.grid.specs.declared.Answer.TheVariants.{Done}
+use Rattle.grid.specs.Answer.{Answer, Done, refusal_number}
+use Rattle.grid.specs.declared.refusals.Refusal.{Refusal}
 use Rattle.grid.specs.Grid.{Grid, cells_of, sides_good, box, grid_of}
 use Rattle.grid.specs.State.{Lent, State, Scene, state_of}
 use Rattle.grid.specs.Step.{unsteady, next}
@@ -31,6 +31,7 @@ use Rattle.grid.proofs.Laid.{Laid}
 use Rattle.grid.proofs.Listed.{same-listed, lengths-fit}
 use Rattle.grid.proofs.Accepted.{passed, none_found, skip}
 use Rattle.grid.proofs.Reached.{reached-holds}
+use Rattle.grid.specs.declared.refusals.Refusal.TheVariants.{BadFlag, BadFlow, BadLayer, BadLength, BadNext, BadSetting, BadSides, BadState}
 
 -- what is claimed of a set b reached from a by r
 pub record Holds (G : Ground) (a b : Lent) (r : Reached G a b) : Type 0 where
@@ -61,22 +62,22 @@ record Checked (G : Ground) (a : Lent) : Type 0 where
 
 checked-tells : (G : Ground) (a : Lent) → check_on G a ≡ Done → Checked G a
 checked-tells G a e =
-    let x = passed G.fits 1 0 _ e in
-    let y = passed (lengths_on G a) 2 0 _ x.1 in
+    let x = passed G.fits BadSides _ e in
+    let y = passed (lengths_on G a) BadLength _ x.1 in
     record { sides = x.0; lengths = y.0; good = y.1 }
 
 tells-checked : (G : Ground) (a : Lent) → Checked G a → check_on G a ≡ Done
 tells-checked G a h =
-    ap (λ (b : Bool). or_refuse b 1 0 (or_refuse (lengths_on G a) 2 0 (good_answer G.lat G.grid (state_on G a) Done))) h.sides
-    ∙ ap (λ (b : Bool). or_refuse b 2 0 (good_answer G.lat G.grid (state_on G a) Done)) h.lengths ∙ h.good
+    ap (λ (b : Bool). or_refuse b BadSides (or_refuse (lengths_on G a) BadLength (good_answer G.lat G.grid (state_on G a) Done))) h.sides
+    ∙ ap (λ (b : Bool). or_refuse b BadLength (good_answer G.lat G.grid (state_on G a) Done)) h.lengths ∙ h.good
 
 pub step-tells : (G : Ground) (g : Settings) (a second : Lent) (marks : List ℕ) → step_on G g a second marks ≡ Done
     → grid_answer G.lat G.grid (state_on G a) (scene_on G g a).g (scene_on G g a).relax ≡ Done
 unfolding grid_answer
 step-tells G g a second marks e =
-    let x = passed G.fits 1 0 _ e in
-    let y = passed (lengths_on G a && lengths_on G second && eqb (length marks) G.cells) 2 0 _ x.1 in
-    (passed (settings_good g) 3 0 _ y.1).1
+    let x = passed G.fits BadSides _ e in
+    let y = passed (lengths_on G a && lengths_on G second && eqb (length marks) G.cells) BadLength _ x.1 in
+    (passed (settings_good g) (BadSetting 0) _ y.1).1
 
 pub second-next : (G : Ground) (g : Settings) (a second : Lent) (marks : List ℕ) → step_on G g a second marks ≡ Done
     → second_on G g a second marks ≡ next_on G g a
@@ -108,22 +109,23 @@ module _ (L : Lattice) (M : Grid) (fits : Bool) (a : Lent) where
 pub good-any-on : (L : Lattice) (G : Grid) (s : State) (rest : Answer) → good_answer L G s Done ≡ Done → good_answer L G s rest ≡ rest
 unfolding good_answer
 good-any-on L G s rest e =
-    let x = none_found G.cells 4 _ _ e in
-    let y = none_found G.cells 5 _ _ x.1 in
-    let z = none_found (suc G.cells) 6 _ _ y.1 in
-    skip G.cells 4 _ _ x.0 ∙ skip G.cells 5 _ _ y.0 ∙ skip (suc G.cells) 6 _ rest z.0
+    let x = none_found G.cells BadFlag _ _ e in
+    let y = none_found G.cells BadLayer _ _ x.1 in
+    let z = none_found (suc G.cells) BadState _ _ y.1 in
+    skip G.cells BadFlag _ _ x.0 ∙ skip G.cells BadLayer _ _ y.0 ∙ skip (suc G.cells) BadState _ rest z.0
 
 pub good-any : (s : Sides) (b : Lent) (rest : Answer) → good_answer d3q19 (grid_of s) (state_of 18 b) Done ≡ Done → good_answer d3q19 (grid_of s) (state_of 18 b) rest ≡ rest
 good-any s b rest e = good-any-on d3q19 (grid_of s) (state_of 18 b) rest e
 
 -- the number of a chain is one of its tests' or that of its rest
-refuse-cases : (b : Bool) (n p : ℕ) (rest : Answer) → (number_of (or_refuse b n p rest) ≡ n) ⊎ (number_of (or_refuse b n p rest) ≡ number_of rest)
-refuse-cases true n p rest = inr refl
-refuse-cases false n p rest = inl refl
+refuse-cases : (b : Bool) (refusal : Refusal) (rest : Answer)
+    → (number_of (or_refuse b refusal rest) ≡ refusal_number refusal) ⊎ (number_of (or_refuse b refusal rest) ≡ number_of rest)
+refuse-cases true refusal rest = inr refl
+refuse-cases false refusal rest = inl refl
 
 move-number : (S : Scene) (n : ℕ) → 4 ≤ n → n ≤ 6 → number_of (move_answer S) ≡ n → ⊥
 unfolding move_answer
-move-number S n low high e = seven (refuse-cases (leb S.grid.cells a) 7 a rest)
+move-number S n low high e = seven (refuse-cases (leb S.grid.cells a) (BadFlow a) rest)
   where
     a : ℕ
     a = first S.grid.cells (unsteady S)
@@ -132,28 +134,28 @@ move-number S n low high e = seven (refuse-cases (leb S.grid.cells a) 7 a rest)
     b = bad_rule S.lat S.grid.cells (next S)
 
     rest : Answer
-    rest = if_none (suc S.grid.cells) 8 b Done
+    rest = if_none (suc S.grid.cells) BadNext b Done
 
-    eight : number_of (if_none S.grid.cells 7 a rest) ≡ number_of rest → (number_of rest ≡ 8) ⊎ (number_of rest ≡ 0) → ⊥
+    eight : number_of (if_none S.grid.cells BadFlow a rest) ≡ number_of rest → (number_of rest ≡ 8) ⊎ (number_of rest ≡ 0) → ⊥
     eight k (inl h) = omega arith
     eight k (inr h) = omega arith
 
-    seven : (number_of (if_none S.grid.cells 7 a rest) ≡ 7) ⊎ (number_of (if_none S.grid.cells 7 a rest) ≡ number_of rest) → ⊥
+    seven : (number_of (if_none S.grid.cells BadFlow a rest) ≡ 7) ⊎ (number_of (if_none S.grid.cells BadFlow a rest) ≡ number_of rest) → ⊥
     seven (inl h) = omega arith
-    seven (inr h) = eight h (refuse-cases (leb (suc S.grid.cells) b) 8 b Done)
+    seven (inr h) = eight h (refuse-cases (leb (suc S.grid.cells) b) (BadNext b) Done)
 
 step-number : (G : Ground) (g : Settings) (b second : Lent) (marks : List ℕ) → good_answer G.lat G.grid (state_on G b) Done ≡ Done → (n : ℕ) → 4 ≤ n → n ≤ 6
     → number_of (step_on G g b second marks) ≡ n → ⊥
-step-number G g b second marks good n low high e = one (refuse-cases G.fits 1 0 after_one)
+step-number G g b second marks good n low high e = one (refuse-cases G.fits BadSides after_one)
   where
     after-three : Answer
     after-three = good_answer G.lat G.grid (state_on G b) (move_answer (scene_on G g b))
 
     after_two : Answer
-    after_two = or_refuse (settings_good g) 3 0 after-three
+    after_two = or_refuse (settings_good g) (BadSetting 0) after-three
 
     after_one : Answer
-    after_one = or_refuse (lengths_on G b && lengths_on G second && eqb (length marks) G.cells) 2 0 after_two
+    after_one = or_refuse (lengths_on G b && lengths_on G second && eqb (length marks) G.cells) BadLength after_two
 
     four : number_of after-three ≡ n → ⊥
     four h = move-number (scene_on G g b) n low high (sym (ap number_of (good-any-on G.lat G.grid (state_on G b) (move_answer (scene_on G g b)) good)) ∙ h)
@@ -164,11 +166,11 @@ step-number G g b second marks good n low high e = one (refuse-cases G.fits 1 0 
 
     two : number_of after_one ≡ n → (number_of after_one ≡ 2) ⊎ (number_of after_one ≡ number_of after_two) → ⊥
     two k (inl h) = omega arith
-    two k (inr h) = three (sym h ∙ k) (refuse-cases (settings_good g) 3 0 after-three)
+    two k (inr h) = three (sym h ∙ k) (refuse-cases (settings_good g) (BadSetting 0) after-three)
 
-    one : (number_of (or_refuse G.fits 1 0 after_one) ≡ 1) ⊎ (number_of (or_refuse G.fits 1 0 after_one) ≡ number_of after_one) → ⊥
+    one : (number_of (or_refuse G.fits BadSides after_one) ≡ 1) ⊎ (number_of (or_refuse G.fits BadSides after_one) ≡ number_of after_one) → ⊥
     one (inl h) = omega arith
-    one (inr h) = two (sym h ∙ e) (refuse-cases (lengths_on G b && lengths_on G second && eqb (length marks) G.cells) 2 0 after_two)
+    one (inr h) = two (sym h ∙ e) (refuse-cases (lengths_on G b && lengths_on G second && eqb (length marks) G.cells) BadLength after_two)
 
 pub conserved-on : Claim
 conserved-on L M fits p l a b r e =
@@ -189,8 +191,8 @@ conserved-holds s a b r e = conserved-on d3q19 (grid_of s) (sides_good s) paired
 -- a run or a step that passes tests 1 to 6 begins from a set that the check accepts
 pub entry-checked : (G : Ground) (g : Settings) (a b : Lent) (marks : List ℕ) → entry_on G g a b marks Done ≡ Done → check_on G a ≡ Done
 entry-checked G g a b marks e =
-    let x = passed G.fits 1 0 _ e in
-    let y = passed (lengths_on G a && lengths_on G b && eqb (length marks) G.cells) 2 0 _ x.1 in
-    let z = passed (settings_good g) 3 0 _ y.1 in
+    let x = passed G.fits BadSides _ e in
+    let y = passed (lengths_on G a && lengths_on G b && eqb (length marks) G.cells) BadLength _ x.1 in
+    let z = passed (settings_good g) (BadSetting 0) _ y.1 in
     let lengths = and_left (lengths_on G a) (lengths_on G b) (and_left (lengths_on G a && lengths_on G b) (eqb (length marks) G.cells) y.0) in
     tells-checked G a (record { sides = x.0; lengths = lengths; good = z.1 })

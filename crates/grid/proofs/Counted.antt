@@ -9,8 +9,8 @@ use native.Mathlib.Omega.{arith}
 use Rattle.whole.specs.laws.Bools.{cond_yes}
 use Rattle.lattice.specs.declared.Settings.{Settings}
 use Rattle.grid.specs.declared.Sides.{Sides}
-use Rattle.grid.specs.declared.Answer.{Answer}
-use Rattle.grid.specs.declared.Answer.TheVariants.{Done}
+use Rattle.grid.specs.Answer.{Answer}
+use Rattle.grid.specs.Answer.{Done}
 use Rattle.grid.specs.State.{Lent}
 use Rattle.grid.specs.Outcome.{accepted, lengths_good, scene_of, entry_answer, step_answer, next_of, ran_by, ran, run_entry, run_count, run_answer, run_first}
 use Rattle.grid.specs.Ground.{Ground, box_ground, step_on, next_on, ran_on, run_entry_on, run_count_on, run_answer_on, run_first_on}

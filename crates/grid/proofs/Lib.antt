@@ -19,9 +19,9 @@ pub mod Counted
 pub mod Arrived
 pub mod Offsets
 pub mod Coordinates
-pub mod Copies
 pub mod Lists
 pub mod Walls
+pub mod Handed
 pub mod Inside
 pub mod Open
 pub mod Rows

@@ -17,7 +17,7 @@ use Rattle.lattice.specs.Cell.{part_good, mass_good, carry_good, dense, slow}
 use Rattle.lattice.specs.declared.Settings.{Settings}
 use Rattle.lattice.proofs.Equal.{eq_z-true}
 use Rattle.grid.specs.declared.Sides.{Sides}
-use Rattle.grid.specs.declared.Answer.TheVariants.{Done}
+use Rattle.grid.specs.Answer.{Done}
 use Rattle.grid.specs.Grid.{cells_of, grid_of, box}
 use Rattle.grid.specs.State.{Lent, State, by_flag, liquid, state_of}
 use Rattle.grid.specs.Step.{fill_for}
@@ -28,6 +28,7 @@ use Rattle.grid.specs.inner.Between.{Sized, Ready}
 use Rattle.grid.specs.inner.Halfway.{Dried}
 use Rattle.grid.specs.inner.Sight.{Body}
 use Rattle.grid.proofs.Accepted.{Sound, sound, none_found, cell-good}
+use Rattle.grid.specs.declared.refusals.Refusal.TheVariants.{BadFlag, BadLayer, BadState}
 
 pub sized : (n : ℕ) (a : Lent) → lengths_good n a ≡ true → Sized n a
 unfolding lengths_good
@@ -112,9 +113,9 @@ module _ (s : Sides) (g : Settings) (a : Lent) (r : Ready s g a) where
   rules : suc (cells_of s) ≤ bad_rule d3q19 (cells_of s) (state_of 18 a)
   unfolding good_answer grid_of box cells_of
   rules =
-      let x = none_found (grid_of s).cells 4 _ _ r.good in
-      let y = none_found (grid_of s).cells 5 _ _ x.1 in
-      (none_found (suc (grid_of s).cells) 6 _ _ y.1).0
+      let x = none_found (grid_of s).cells BadFlag _ _ r.good in
+      let y = none_found (grid_of s).cells BadLayer _ _ x.1 in
+      (none_found (suc (grid_of s).cells) BadState _ _ y.1).0
 
   -- every cell keeps test 6's rules
   pub ready-cell : (c : ℕ) → c < cells_of s → cell_good d3q19 (state_of 18 a) c ≡ true

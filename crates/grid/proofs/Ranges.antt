@@ -43,20 +43,12 @@ over-gap P a b h keep p = subst P (omega arith) (go (b - a) (omega arith))
 pub more-places : (P : ℕ → Type 0) (a c n : ℕ) → ((j : ℕ) → a ≤ j → j < c → P j) → ((k : ℕ) → k < n → P (c + k)) → (j : ℕ) → a ≤ j → j < c + n → P j
 more-places P a c n p q j h l = ⊎_elim (λ m. subst P (omega arith) (q (j - c) (omega arith))) (λ m. p j h m) (≤-or c j)
 
--- no place yet, some more, and k more by a test of them all together
-pub past_first : (P : ℕ → Type 0) (n a : ℕ) → a ≤ n → Past P n a a
-past_first P n a h = record { least = omega arith; most = h; before = λ j u v. absurd (omega arith) }
-
+-- some places more, and k more by a test of them all together
 pub past_more : {P : ℕ → Type 0} {n a c : ℕ} (k : ℕ) → Past P n a c → c + k ≤ n → ((i : ℕ) → i < k → P (c + i)) → Past P n a (c + k)
 past_more {P} {n} {a} {c} k u h z = record { least = omega (arith, u.least); most = h; before = more-places P a c k u.before z }
 
 pub past-together : {P : ℕ → Type 0} {n a c : ℕ} (k : ℕ) (f : ℕ → Bool) → ((j : ℕ) → f j ≡ true → P j) → Past P n a c → c + k ≤ n → all k (λ i. f (c + i)) ≡ true → Past P n a (c + k)
 past-together {P} {n} {a} {c} k f tells u h e = past_more k u h (λ i l. tells (c + i) (all-at k (λ i. f (c + i)) e i l))
-
--- and on from where a first search ended
-pub past-on : {P : ℕ → Type 0} {n a b c : ℕ} → Past P n a b → Past P n b c → Past P n a c
-past-on {P} {n} {a} {b} {c} u v =
-    record { least = omega (arith, u.least, v.least); most = v.most; before = λ j h k. ⊎_elim (λ m. v.before j m k) (λ m. u.before j h m) (≤-or b j) }
 
 module _ {ℓ} {A : Type ℓ} (d : A) (f : ℕ → A) (old : List A) (a b : ℕ) where
   abbrev pub ranged : ℕ → A

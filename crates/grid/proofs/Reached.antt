@@ -11,7 +11,7 @@ use Rattle.whole.specs.Fold.{sum, first}
 use Rattle.whole.specs.laws.Sums.{sum-add, sum-cong}
 use Rattle.lattice.specs.Lattice.{V3, Lattice, density}
 use Rattle.lattice.proofs.Paired.{Paired}
-use Rattle.grid.specs.declared.Answer.TheVariants.{Done}
+use Rattle.grid.specs.Answer.{Done}
 use Rattle.grid.specs.Grid.{Grid}
 use Rattle.grid.specs.State.{State, by_flag}
 use Rattle.grid.specs.Step.{new_flag, new_mass, unsteady, next}
@@ -23,6 +23,7 @@ use Rattle.grid.proofs.Closed.{closed-holds, flags-hold, outer-stays}
 use Rattle.grid.proofs.Total.{Massed, total-holds, carry-holds}
 use Rattle.grid.proofs.Same.{bad-rule-same}
 use Rattle.grid.proofs.Accepted.{Sound, sound, none_found, pass-good}
+use Rattle.grid.specs.declared.refusals.Refusal.TheVariants.{BadFlow, BadNext}
 
 module _ (L : Lattice) (G : Grid) where
   -- tests 4 to 6 pass
@@ -65,8 +66,8 @@ module _ (L : Lattice) (G : Grid) (p : Paired L) (l : Laid L G) (s t : State) (g
   rules : suc G.cells ≤ bad_rule L G.cells t
   unfolding move_answer
   rules =
-      let a = none_found G.cells 7 (first G.cells (unsteady (scene L G s g q))) _ before.1 in
-      let b = none_found (suc G.cells) 8 (bad_rule L G.cells (next (scene L G s g q))) Done a.1 in
+      let a = none_found G.cells BadFlow (first G.cells (unsteady (scene L G s g q))) _ before.1 in
+      let b = none_found (suc G.cells) BadNext (bad_rule L G.cells (next (scene L G s g q))) Done a.1 in
       subst (λ (k : ℕ). suc G.cells ≤ k) (bad-rule-same L G.cells (next (scene L G s g q)) t same) b.0
 
   new-flag : (c : ℕ) → c < G.cells → new_flag (scene L G s g q) c ≡ t.flag c

@@ -5,8 +5,8 @@ use Rattle.whole.specs.Fold.{sum, any_dir}
 use Rattle.lattice.specs.Lattice.{V3, Lattice}
 use Rattle.lattice.specs.declared.Settings.{Settings}
 use Rattle.grid.specs.declared.Sides.{Sides}
-use Rattle.grid.specs.declared.Answer.{Answer}
-use Rattle.grid.specs.declared.Answer.TheVariants.{Done}
+use Rattle.grid.specs.Answer.{Answer}
+use Rattle.grid.specs.Answer.{Done}
 use Rattle.grid.specs.Grid.{Grid, cells_of}
 use Rattle.grid.specs.State.{Lent, State, Scene, by_flag, state_of}
 use Rattle.grid.specs.Step.{converted, excess, new_flag, next}

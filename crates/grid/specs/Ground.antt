@@ -4,13 +4,14 @@ use Rattle.std.specs.Prelude.{ℕ, suc, Bool, ◌&&◌, cond, List, leb, eqb, le
 use Rattle.lattice.specs.Lattice.{Lattice, d3q19}
 use Rattle.lattice.specs.declared.Settings.{Settings}
 use Rattle.grid.specs.declared.Sides.{Sides}
-use Rattle.grid.specs.declared.Answer.{Answer}
-use Rattle.grid.specs.declared.Answer.TheVariants.{Done}
+use Rattle.grid.specs.Answer.{Answer}
+use Rattle.grid.specs.Answer.{Done}
 use Rattle.grid.specs.Grid.{Grid, cells_of, sides_good, grid_of}
 use Rattle.grid.specs.State.{Lent, State, Scene, state_of, lent_of}
 use Rattle.grid.specs.Step.{next}
 use Rattle.grid.specs.Mode.{scene_by}
 use Rattle.grid.specs.Outcome.{accepted, or_refuse, checking, entering, good_answer, move_answer, lengths_fit, settings_good, by_answer, Ran, ran_by}
+use Rattle.grid.specs.declared.refusals.Refusal.TheVariants.{BadSteps}
 
 -- lattice, grid and whether the sides pass test 1; how many directions and cells they have stands beside them, as the outcomes name them
 pub record Ground : Type 0 where
@@ -63,7 +64,7 @@ module _ (G : Ground) where
   ran_on g marks k a = ran_by (λ b. step_on g b b marks) (next_on g) k a
 
   abbrev pub run_entry_on : ℕ → Settings → Lent → Lent → List ℕ → Answer
-  run_entry_on steps g a b marks = or_refuse (leb steps 1000) 9 0 (entry_on g a b marks Done)
+  run_entry_on steps g a b marks = or_refuse (leb steps 1000) BadSteps (entry_on g a b marks Done)
 
   abbrev pub run_count_on : ℕ → Settings → Lent → Lent → List ℕ → ℕ
   run_count_on steps g a b marks = cond (accepted (run_entry_on steps g a b marks)) (ran_on g marks steps a).count 0

@@ -3,6 +3,7 @@ pub mod State
 pub mod Step
 pub mod Mode
 pub mod Good
+pub mod Answer
 pub mod Outcome
 pub mod Ground
 pub mod Demands

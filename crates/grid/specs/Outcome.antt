@@ -1,63 +1,64 @@
 -- What check, step and run answer, and what each lent slice then holds, for every input. Assumes nothing.
-use Rattle.std.specs.Prelude.{ℕ, zero, suc, ◌+◌, ◌*◌, Bool, true, false, ◌&&◌, cond, List, [], ◌∷◌, leb, eqb, length, replicate}
+use Rattle.std.specs.Prelude.{ℕ, zero, suc, ◌+◌, ◌*◌, Bool, true, false, ◌&&◌, cond, List, [], ◌∷◌, leb, eqb, length, replicate, Ok, Err}
 use Rattle.whole.specs.Fold.{first}
 use Rattle.lattice.specs.Lattice.{Lattice, d3q19}
 use Rattle.lattice.specs.Cell.{relaxation_good, gravity_good}
 use Rattle.lattice.specs.declared.Settings.{Settings}
 use Rattle.grid.specs.declared.Sides.{Sides}
-use Rattle.grid.specs.declared.Answer.{Answer}
-use Rattle.grid.specs.declared.Answer.TheVariants.{Done, Refused}
+use Rattle.grid.specs.Answer.{Answer, Done, refusal_number, refusal_place, late}
+use Rattle.grid.specs.declared.refusals.Refusal.{Refusal}
 use Rattle.grid.specs.Grid.{Grid, cells_of, sides_good, grid_of}
 use Rattle.grid.specs.State.{Lent, State, Scene, state_of, lent_of}
 use Rattle.grid.specs.Step.{unsteady, next}
 use Rattle.grid.specs.Mode.{scene_by}
 use Rattle.grid.specs.Good.{bad_flag, bad_fluid, bad_rule}
+use Rattle.grid.specs.declared.refusals.Refusal.TheVariants.{BadFlag, BadFlow, BadLayer, BadLength, BadNext, BadSetting, BadSides, BadState, BadSteps}
 
 -- ---- answers: the paper's number and place for each case, 0 0 if accepted
 
 abbrev pub number_of : Answer → ℕ
-number_of Done = 0
-number_of (Refused n p) = n
+number_of (Ok _) = 0
+number_of (Err refusal) = refusal_number refusal
 
 abbrev pub place_of : Answer → ℕ
-place_of Done = 0
-place_of (Refused n p) = p
+place_of (Ok _) = 0
+place_of (Err refusal) = refusal_place refusal
 
 abbrev pub accepted : Answer → Bool
-accepted Done = true
-accepted (Refused n p) = false
+accepted (Ok _) = true
+accepted (Err _) = false
 
 -- a test that holds lets the next one answer; one that fails answers
-abbrev pub or_refuse : Bool → ℕ → ℕ → Answer → Answer
-or_refuse true number place rest = rest
-or_refuse false number place rest = Refused number place
+abbrev pub or_refuse : Bool → Refusal → Answer → Answer
+or_refuse true refusal rest = rest
+or_refuse false refusal rest = Err refusal
 
 -- a search below its limit that finds a place answers with it
-abbrev pub if_none : ℕ → ℕ → ℕ → Answer → Answer
-if_none limit number place rest = or_refuse (leb limit place) number place rest
+abbrev pub if_none : ℕ → (ℕ → Refusal) → ℕ → Answer → Answer
+if_none limit refusal place rest = or_refuse (leb limit place) (refusal place) rest
 
 -- ---- the chains of tests that check, step and run go through, on the box as on the flume
 
 -- tests 1, 2 and then 4 to 6
 abbrev pub checking : Bool → Bool → Answer → Answer
-checking sides lengths good = or_refuse sides 1 0 (or_refuse lengths 2 0 good)
+checking sides lengths good = or_refuse sides BadSides (or_refuse lengths BadLength good)
 
 -- tests 1 to 3 and then 4 to 6
 abbrev pub entering : Bool → Bool → Bool → Answer → Answer
-entering sides lengths settings good = or_refuse sides 1 0 (or_refuse lengths 2 0 (or_refuse settings 3 0 good))
+entering sides lengths settings good = or_refuse sides BadSides (or_refuse lengths BadLength (or_refuse settings (BadSetting 0) good))
 
 -- ---- tests 4 to 8, over any lattice and grid
 
 unfoldable pub good_answer : Lattice → Grid → State → Answer → Answer
 good_answer L G s rest =
-    if_none G.cells 4 (bad_flag G s.flag)
-    (if_none G.cells 5 (bad_fluid L.q G s.flag)
-    (if_none (suc G.cells) 6 (bad_rule L G.cells s) rest))
+    if_none G.cells BadFlag (bad_flag G s.flag)
+    (if_none G.cells BadLayer (bad_fluid L.q G s.flag)
+    (if_none (suc G.cells) BadState (bad_rule L G.cells s) rest))
 
 unfoldable pub move_answer : Scene → Answer
 move_answer S =
-    if_none S.grid.cells 7 (first S.grid.cells (unsteady S))
-    (if_none (suc S.grid.cells) 8 (bad_rule S.lat S.grid.cells (next S)) Done)
+    if_none S.grid.cells BadFlow (first S.grid.cells (unsteady S))
+    (if_none (suc S.grid.cells) BadNext (bad_rule S.lat S.grid.cells (next S)) Done)
 
 -- ---- tests 1 to 3
 
@@ -100,8 +101,8 @@ next_of s g a = lent_of 18 (cells_of s) (next (scene_of s g a))
 -- by an answer: accepted; refused with 7 or 8; refused with another number, which writes nothing
 module _ {ℓ} {A : Type ℓ} where
   abbrev pub by_answer : Answer → A → A → A → A
-  by_answer Done moved copied untouched = moved
-  by_answer (Refused n p) moved copied untouched = cond (eqb n 7) copied (cond (eqb n 8) copied untouched)
+  by_answer (Ok _) moved copied untouched = moved
+  by_answer (Err refusal) moved copied untouched = cond (late refusal) copied untouched
 
 -- the second set: the next state, a copy of the first, or untouched
 unfoldable pub step_second : Sides → Settings → Lent → Lent → List ℕ → Lent
@@ -134,7 +135,7 @@ ran s g marks k a = ran_by (λ b. step_answer s g b b marks) (next_of s g) k a
 
 -- 9 first, then 1 to 6, also of a run of no steps
 unfoldable pub run_entry : ℕ → Sides → Settings → Lent → Lent → List ℕ → Answer
-run_entry steps s g a b marks = or_refuse (leb steps 1000) 9 0 (entry_answer s g a b marks Done)
+run_entry steps s g a b marks = or_refuse (leb steps 1000) BadSteps (entry_answer s g a b marks Done)
 
 unfoldable pub run_count : ℕ → Sides → Settings → Lent → Lent → List ℕ → ℕ
 run_count steps s g a b marks = cond (accepted (run_entry steps s g a b marks)) (ran s g marks steps a).count 0

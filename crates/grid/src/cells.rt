@@ -9,11 +9,7 @@ pub fn own(parts: &[i32], c: usize) -> [i32; 19]
     ensures { result ≡ tab 19 (λ (k : ℕ). get_or parts.now (19 * c + k) (pos 0)) }
 {
     let mut v = [0i32; 19];
-    let mut k = 0;
-    while k < 19 {
-        v[k] = parts[19 * c + k];
-        k += 1;
-    }
+    v.copy_from_slice(&parts[19 * c..19 * c + 19]);
     v
 }
 
@@ -22,9 +18,5 @@ pub fn paste(out: &mut [i32], at: usize, v: [i32; 19])
     requires { at + 19 ≤ length out.old }
     ensures { out.new ≡ pasted out.old at v }
 {
-    let mut k = 0;
-    while k < 19 {
-        out[at + k] = v[k];
-        k += 1;
-    }
+    out[at..at + 19].copy_from_slice(&v);
 }

@@ -8,6 +8,7 @@ pub mod kinds;
 pub mod lengths;
 pub mod neighbours;
 pub mod normal;
+pub mod refusals;
 
 // The sides of a grid, in cells.
 #[derive(Clone, Copy)]
@@ -23,11 +24,4 @@ pub struct Place {
     pub x: usize,
     pub y: usize,
     pub z: usize,
-}
-
-// What a call answers: done, or the refusal's number and place as document 01 has them.
-#[derive(Clone, Copy)]
-pub enum Answer {
-    Done,
-    Refused(u8, usize),
 }

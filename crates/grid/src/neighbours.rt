@@ -50,16 +50,14 @@ pub fn offsets(s: Sides) -> [usize; 19]
     ]
 }
 
-// Whether a neighbour's byte is m; k is c - low. By pairs and with no way out, so that the passes above run many cells at a time.
+// Whether a neighbour's byte is m; k is c - low. With no way out, so that the passes above run many cells at a time.
 pub fn beside(bytes: &[u8], off: &[usize; 19], k: usize, m: u8) -> bool
     requires { Reach bytes.now off.now k }
     ensures { result ≡ beside_at bytes.now off.now k m }
 {
     let mut found = false;
-    let mut i = 1;
-    while i < 19 {
-        found = found | (bytes[k + off[i]] == m) | (bytes[k + off[i + 1]] == m);
-        i += 2;
+    for i in 1..19 {
+        found = found | (bytes[k + off[i]] == m);
     }
     found
 }

@@ -18,6 +18,7 @@ fn tell_all(
     count: usize,
 ) -> io::Result<()> {
     let mut at = 1;
+    // Each request says how many numbers stand before the next: no range says that.
     while at < count {
         let r = asked(rt, at, count);
         tell(rt, s, t, flags, fills, r)?;

@@ -8,7 +8,7 @@ use std::io;
 use tunnel::cell::cell_point;
 use tunnel::exact::{halves, shares};
 use tunnel::placing::place;
-use tunnel::{Depth, Placed, Point};
+use tunnel::{Depth, Point};
 
 fn tell_place(rt: &impl Print, s: Sides, t: Site, p: Point) -> io::Result<()> {
     let origin = Point {
@@ -17,29 +17,30 @@ fn tell_place(rt: &impl Print, s: Sides, t: Site, p: Point) -> io::Result<()> {
         z: t.z,
     };
     match place(s, t.edge, origin, p) {
-        Placed::Refused(number, place) => line::answer(rt, b"place", number, place),
-        Placed::Cell(c) => {
+        Ok(c) => {
             line::word(rt, b"place cell")?;
             line::count(rt, c)?;
             line::word(rt, b"\n")
         }
+        Err(refusal) => line::answer(rt, b"place", refusal.number(), refusal.place()),
     }
 }
 
 fn tell_point(rt: &impl Print, s: Sides, fills: &[u32], c: usize) -> io::Result<()> {
-    let p = cell_point(s, fills, c);
-    if p.number != 0 {
-        return line::answer(rt, b"point", p.number, p.place);
+    match cell_point(s, fills, c) {
+        Ok(p) => {
+            line::word(rt, b"point")?;
+            line::count(rt, halves(p.x))?;
+            line::word(rt, b"/2")?;
+            line::count(rt, halves(p.y))?;
+            line::word(rt, b"/2")?;
+            line::count(rt, halves(p.z))?;
+            line::word(rt, b"/2")?;
+            line::count(rt, shares(p.fill))?;
+            line::word(rt, b"/65536\n")
+        }
+        Err(refusal) => line::answer(rt, b"point", refusal.number(), refusal.place()),
     }
-    line::word(rt, b"point")?;
-    line::count(rt, halves(p.x))?;
-    line::word(rt, b"/2")?;
-    line::count(rt, halves(p.y))?;
-    line::word(rt, b"/2")?;
-    line::count(rt, halves(p.z))?;
-    line::word(rt, b"/2")?;
-    line::count(rt, shares(p.fill))?;
-    line::word(rt, b"/65536\n")
 }
 
 fn tell_depth(
@@ -51,14 +52,14 @@ fn tell_depth(
     y: usize,
 ) -> io::Result<()> {
     match column_depth(s, flags, fills, x, y) {
-        Depth::Refused(number, place) => line::answer(rt, b"depth", number, place),
-        Depth::Solid => line::word(rt, b"depth solid\n"),
-        Depth::Dry => line::word(rt, b"depth dry\n"),
-        Depth::Deep(d) => {
+        Ok(Depth::Solid) => line::word(rt, b"depth solid\n"),
+        Ok(Depth::Dry) => line::word(rt, b"depth dry\n"),
+        Ok(Depth::Deep(d)) => {
             line::word(rt, b"depth")?;
             line::count(rt, shares(d))?;
             line::word(rt, b"/65536\n")
         }
+        Err(refusal) => line::answer(rt, b"depth", refusal.number(), refusal.place()),
     }
 }
 
@@ -69,12 +70,12 @@ pub fn tell(
     t: Site,
     flags: &[u8],
     fills: &[u32],
-    r: Request,
+    r: Option<Request>,
 ) -> io::Result<()> {
     match r {
-        Request::Place(p) => tell_place(rt, s, t, p),
-        Request::CellPoint(c) => tell_point(rt, s, fills, c),
-        Request::Depth(x, y) => tell_depth(rt, s, flags, fills, x, y),
-        Request::Unreadable => Ok(()),
+        Some(Request::Place(p)) => tell_place(rt, s, t, p),
+        Some(Request::CellPoint(c)) => tell_point(rt, s, fills, c),
+        Some(Request::Depth(x, y)) => tell_depth(rt, s, flags, fills, x, y),
+        None => Ok(()),
     }
 }

@@ -4,7 +4,6 @@
 mod asking;
 mod playing;
 
-use console::decimal::Spelled;
 use console::input::read_full;
 use console::line;
 use console::room::room;
@@ -45,7 +44,7 @@ fn play(rt: &impl Print, rec: &[u8], steps: usize) -> io::Result<()> {
 }
 
 fn main(rt: HostRuntime) -> io::Result<()> {
-    let Spelled::Number(steps) = asking::steps_asked(&rt) else {
+    let Some(steps) = asking::steps_asked(&rt) else {
         return line::word(
             &rt.stderr(),
             b"gridrun: how many steps? usage: gridrun K, K a whole number below 4294967296\n",

@@ -1,7 +1,8 @@
 // One record read, run and written again, in slices that are lent for it.
 use console::answers::{answered, refused};
 use console::line;
-use grid::{Answer, Sides};
+use grid::Sides;
+use grid::refusals::{Answer, Refusal};
 use lattice::Settings;
 use reading::reader;
 use record::{Site, flags};
@@ -11,21 +12,15 @@ use writing::writer;
 
 // As many bytes as both have.
 fn copy(from: &[u8], to: &mut [u8]) {
-    let mut i = 0;
-    while i < to.len() {
-        if i >= from.len() {
-            return;
-        }
-        to[i] = from[i];
-        i += 1;
-    }
+    let n = from.len().min(to.len());
+    to[..n].copy_from_slice(&from[..n]);
 }
 
 // Whether there is a state to hand back: refusals 7 and 8 stop a run and leave what was reached.
 fn reached(a: Answer) -> bool {
     match a {
-        Answer::Done => true,
-        Answer::Refused(number, _) => (number == 7) | (number == 8),
+        Ok(()) => true,
+        Err(refusal) => matches!(refusal, Refusal::BadFlow(_) | Refusal::BadNext(_)),
     }
 }
 

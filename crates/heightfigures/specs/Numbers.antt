@@ -1,15 +1,13 @@
 -- The table of spellings: which words are numbers, and what they are in thousandths. Assumes nothing.
-use Rattle.std.specs.Prelude.{List, [], ◌∷◌, ℤ, pos, negsuc}
+use Rattle.std.specs.Prelude.{List, [], ◌∷◌, ℤ, pos, negsuc, Option, Some, None}
 use Prim.Native.String.{String}
-use Rattle.numerals.specs.declared.number.Number.{Number}
-use Rattle.numerals.specs.declared.number.Number.TheVariants.{Thousandths, Unreadable}
 use Rattle.numerals.specs.Number.{number_of}
 use Rattle.heightfigures.specs.Texts.{bytes, Figure}
 
 -- a number in thousandths, nothing if the word is none
-abbrev told : Number → List ℤ
-told (Thousandths z) = z ∷ []
-told Unreadable = []
+abbrev told : Option ℤ → List ℤ
+told (Some z) = z ∷ []
+told None = []
 
 abbrev taken : String → ℤ → Figure
 taken w z = record { worked = told (number_of (bytes w)); said = z ∷ [] }

@@ -2,14 +2,14 @@
 ghost use Rattle.std.specs.Prelude.{◌≡◌};
 ghost use Rattle.grid.specs.Outcome.{number_of, place_of};
 
-use grid::Answer;
+use grid::refusals::Answer;
 
 pub fn number_of(a: Answer) -> u8
     ensures { result ≡ number_of a }
 {
     match a {
-        Answer::Done => 0,
-        Answer::Refused(number, _) => number,
+        Ok(()) => 0,
+        Err(refusal) => refusal.number(),
     }
 }
 
@@ -17,7 +17,7 @@ pub fn place_of(a: Answer) -> usize
     ensures { result ≡ place_of a }
 {
     match a {
-        Answer::Done => 0,
-        Answer::Refused(_, place) => place,
+        Ok(()) => 0,
+        Err(refusal) => refusal.place(),
     }
 }

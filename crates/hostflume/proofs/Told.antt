@@ -7,7 +7,7 @@ use lib.IntN.{ℤ}
 use mir.Syntax.{w64}
 use mir.Val.{to_z, of_z, SFits}
 use mir.ValLaws.{to_z-of_z}
-use Rattle.grid.specs.declared.Answer.{Answer}
+use Rattle.grid.specs.Answer.{Answer}
 use Rattle.grid.specs.State.{Lent}
 use Rattle.grid.specs.Outcome.{number_of, place_of}
 use Rattle.flume.specs.declared.FlumeSides.{FlumeSides}

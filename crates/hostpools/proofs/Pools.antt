@@ -3,8 +3,7 @@ use mathlib.Core.Path.{◌≡◌, sym, ap, ◌∙◌}
 use Prim.Native.Nat.{ℕ}
 use Rattle.grid.specs.declared.Sides.{Sides}
 use Rattle.grid.specs.State.{Lent}
-use Rattle.pools.specs.declared.Told.{Told}
-use Rattle.pools.specs.Outcome.{Room, told_number, told_place, told_pools, Asked}
+use Rattle.pools.specs.Outcome.{Told, Room, told_number, told_place, told_pools, Asked}
 use Rattle.hostpools.specs.Pools.{PoolsTold}
 
 pub pools-told : {s : Sides} {a : Lent} {r : Room} {told : Told} {number place pools : ℕ} {after : Room} → Asked s a r told after

@@ -5,7 +5,7 @@ use Prim.Native.Nat.{ℕ}
 use lib.IntN.{ℤ}
 use Rattle.grid.specs.declared.Sides.{Sides}
 use Rattle.grid.specs.State.{Lent}
-use Rattle.pumps.specs.declared.Acted.{Acted}
+use Rattle.pumps.specs.Acts.{Acted}
 use Rattle.pumps.specs.Acts.{acted_number, acted_place, acted_moved, ActTold}
 use Rattle.hostset.specs.Promise.{ActDone}
 

@@ -5,23 +5,21 @@ use Prim.Native.Nat.{ℕ}
 use lib.IntN.{ℤ}
 use lib.Ieee.{Float}
 use Rattle.grid.specs.declared.Sides.{Sides}
-use Rattle.tunnel.specs.declared.Placed.{Placed}
 use Rattle.tunnel.specs.declared.Point.{Point}
 use Rattle.tunnel.specs.Place as placing
-use Rattle.tunnel.specs.Place.{refusal_number, refusal_place, cell_number}
+use Rattle.tunnel.specs.Place.{Placed, placed_number, placed_place, cell_number}
 use Rattle.profile.specs.declared.Frame.{Frame}
-use Rattle.profile.specs.declared.Profiled.{Profiled}
 use Rattle.profile.specs.Profile.{survey}
-use Rattle.profile.specs.Outcome.{profiled_number, profiled_place, wet_of, deepest_of, Told}
+use Rattle.profile.specs.Outcome.{Profiled, profiled_number, profiled_place, wet_of, deepest_of, Told}
 use Rattle.hosttunnel.specs.Promise.{PlaceTold, ProfileTold}
 
 -- and so are the edge, the origin and the point
 pub place-told : {s : Sides} {edge e : ℤ} {origin o point q : Point} {r : Placed} {number place cell : ℕ}
-    → e ≡ edge → o ≡ origin → q ≡ point → r ≡ placing.placing_of s e o q → number ≡ refusal_number r → place ≡ refusal_place r → cell ≡ cell_number r
+    → e ≡ edge → o ≡ origin → q ≡ point → r ≡ placing.placing_of s e o q → number ≡ placed_number r → place ≡ placed_place r → cell ≡ cell_number r
     → PlaceTold s edge origin point number place cell
 place-told {s} ee eo eq h n p c =
     let k = h ∙ (λ i. placing.placing_of s (ee i) (eo i) (eq i)) in
-    record { number_is = n ∙ ap refusal_number k; place_is = p ∙ ap refusal_place k; cell-is = c ∙ ap cell_number k }
+    record { number_is = n ∙ ap placed_number k; place_is = p ∙ ap placed_place k; cell-is = c ∙ ap cell_number k }
 
 -- and so is the frame
 pub profile-told : {f g : Frame} {flags fills : List ℕ} {points chainages : List ℤ} {kinds : List ℕ} {depths : List Float} {r : Profiled} {number place wet deepest : ℕ} {kinds_after : List ℕ} {depths_after : List Float}

@@ -8,7 +8,9 @@ use lib.Ieee.{Float}
 use lib.ListN.{length}
 use Rattle.grid.specs.declared.Sides.{Sides}
 use Rattle.tunnel.specs.declared.Point.{Point}
-use Rattle.tunnel.specs.Point.{WholePoint}
+use Rattle.std.specs.Prelude.{Result}
+use Rattle.grid.specs.declared.refusals.Refusal.{Refusal}
+use Rattle.tunnel.specs.Point.{WholePoint, point_values}
 use Rattle.tunnel.specs.Depth.{Reading, Told}
 use Rattle.tunnel.proofs.Floats.{exactly-one}
 use Rattle.tunnel.proofs.Unique.{told-one}
@@ -22,10 +24,10 @@ pub place-unique : (s : Sides) (edge : ℤ) (origin point : Point) {n m p q i j 
 place-unique s edge origin point x y = (x.number_is ∙ sym y.number_is, x.place_is ∙ sym y.place_is, x.cell-is ∙ sym y.cell-is)
 
 -- four `f32` whose values are given exactly
-pub point-unique : {w : WholePoint} {n m p q : ℕ} {a a' b b' c c' f f' : Float} → PointTold w n p a b c f → PointTold w m q a' b' c' f'
+pub point-unique : {w : Result WholePoint Refusal} {n m p q : ℕ} {a a' b b' c c' f f' : Float} → PointTold w n p a b c f → PointTold w m q a' b' c' f'
     → (n ≡ m) × (p ≡ q) × (a ≡ a') × (b ≡ b') × (c ≡ c') × (f ≡ f')
 point-unique {w = w} x y =
-    (x.number_is ∙ sym y.number_is, x.place_is ∙ sym y.place_is, exactly-one _ _ w.x 2 (lit< tt) x.x-is y.x-is, exactly-one _ _ w.y 2 (lit< tt) x.y-is y.y-is, exactly-one _ _ w.z 2 (lit< tt) x.z-is y.z-is, exactly-one _ _ w.fill 65536 (lit< tt) x.fill_is y.fill_is)
+    (x.number_is ∙ sym y.number_is, x.place_is ∙ sym y.place_is, exactly-one _ _ (point_values w).x 2 (lit< tt) x.x-is y.x-is, exactly-one _ _ (point_values w).y 2 (lit< tt) x.y-is y.y-is, exactly-one _ _ (point_values w).z 2 (lit< tt) x.z-is y.z-is, exactly-one _ _ (point_values w).fill 65536 (lit< tt) x.fill_is y.fill_is)
 
 pub depth-unique : {w : Reading} {n m p q i j : ℕ} {d e : Float} → DepthTold w n p i d → DepthTold w m q j e → (n ≡ m) × (p ≡ q) × (i ≡ j) × (d ≡ e)
 depth-unique x y =

@@ -1,11 +1,12 @@
 -- What the readings' calls promise, for every input: number and place of the layer's outcome, and the values. Assumes nothing.
-use Rattle.std.specs.Prelude.{◌≡◌, List, ℕ, ℤ, Float, length}
+use Rattle.std.specs.Prelude.{◌≡◌, List, ℕ, ℤ, Float, length, Result}
 use Rattle.grid.specs.declared.Sides.{Sides}
+use Rattle.grid.specs.declared.refusals.Refusal.{Refusal}
 use Rattle.tunnel.specs.declared.Point.{Point}
 use Rattle.tunnel.specs.Place as placing
-use Rattle.tunnel.specs.Place.{refusal_number, refusal_place, cell_number}
+use Rattle.tunnel.specs.Place.{placed_number, placed_place, cell_number}
 use Rattle.tunnel.specs.Exact.{Exactly}
-use Rattle.tunnel.specs.Point.{WholePoint}
+use Rattle.tunnel.specs.Point.{WholePoint, point_number, point_place, point_values}
 use Rattle.tunnel.specs.Depth.{Reading, Tells}
 use Rattle.profile.specs.declared.Frame.{Frame}
 use Rattle.profile.specs.Profile.{Survey}
@@ -20,18 +21,18 @@ frame_of nx ny nz edge x y z = record { sides = sides_of nx ny nz; edge = edge; 
 
 -- placing: number, place and the cell, 0 beside a refusal
 pub record PlaceTold (s : Sides) (edge : ℤ) (origin point : Point) (number place cell : ℕ) : Type 0 where
-  pub number_is : number ≡ refusal_number (placing.placing_of s edge origin point)
-  pub place_is : place ≡ refusal_place (placing.placing_of s edge origin point)
+  pub number_is : number ≡ placed_number (placing.placing_of s edge origin point)
+  pub place_is : place ≡ placed_place (placing.placing_of s edge origin point)
   pub cell-is : cell ≡ cell_number (placing.placing_of s edge origin point)
 
--- cell point: number, place, and four `f32`, each exact
-pub record PointTold (w : WholePoint) (number place : ℕ) (x y z fill : Float) : Type 0 where
-  pub number_is : number ≡ w.number
-  pub place_is : place ≡ w.place
-  pub x-is : Exactly x w.x 2
-  pub y-is : Exactly y w.y 2
-  pub z-is : Exactly z w.z 2
-  pub fill_is : Exactly fill w.fill 65536
+-- cell point: number, place, and four `f32`, each exact, 0 beside a refusal
+pub record PointTold (w : Result WholePoint Refusal) (number place : ℕ) (x y z fill : Float) : Type 0 where
+  pub number_is : number ≡ point_number w
+  pub place_is : place ≡ point_place w
+  pub x-is : Exactly x (point_values w).x 2
+  pub y-is : Exactly y (point_values w).y 2
+  pub z-is : Exactly z (point_values w).z 2
+  pub fill_is : Exactly fill (point_values w).fill 65536
 
 -- depth: number, place, kind, and an `f32`, exact, 0 unless deep; as the layer's own promise has them
 abbrev pub DepthTold : Reading → ℕ → ℕ → ℕ → Float → Type 0

@@ -23,11 +23,22 @@ pub extern "C" fn skw_point(
     ensures { PointTold (point_of (sides_of nx ny nz) fills.now cell) result place.new x.new y.new z.new fill.new }
 {
     let s = Sides { nx, ny, nz };
-    let c = cell_point(s, fills, cell);
-    *x = c.x;
-    *y = c.y;
-    *z = c.z;
-    *fill = c.fill;
-    *place = c.place;
-    c.number
+    match cell_point(s, fills, cell) {
+        Ok(c) => {
+            *x = c.x;
+            *y = c.y;
+            *z = c.z;
+            *fill = c.fill;
+            *place = 0;
+            0
+        }
+        Err(refusal) => {
+            *x = 0.0;
+            *y = 0.0;
+            *z = 0.0;
+            *fill = 0.0;
+            *place = refusal.place();
+            refusal.number()
+        }
+    }
 }

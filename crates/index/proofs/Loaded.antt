@@ -8,7 +8,7 @@ use Rattle.whole.specs.laws.Bools.{and_right}
 use Rattle.whole.specs.laws.Search.{first_cong}
 use Rattle.lattice.specs.Lattice.{d3q19}
 use Rattle.grid.specs.declared.Sides.{Sides}
-use Rattle.grid.specs.declared.Answer.TheVariants.{Done}
+use Rattle.grid.specs.Answer.{Done}
 use Rattle.grid.specs.Grid.{cells_of, sides_good, grid_of}
 use Rattle.grid.specs.State.{Lent, state_of}
 use Rattle.grid.specs.Outcome.{or_refuse}
@@ -21,6 +21,7 @@ use Rattle.index.specs.Walked.{AsWalked}
 use Rattle.index.proofs.Flagged.{room_of, true-words, true-index, as-flags, same_number}
 use Rattle.index.proofs.Answers.{next-asked, count-told}
 use Rattle.grid.proofs.Inside.{few as few-cells}
+use Rattle.grid.specs.declared.refusals.Refusal.TheVariants.{BadIndex, BadLength, BadSides, BadState}
 
 module _ (s : Sides) (a : Lent) (x : Index) (loaded : load_answer s a x ≡ Done) where
   abbrev n : ℕ
@@ -35,11 +36,11 @@ module _ (s : Sides) (a : Lent) (x : Index) (loaded : load_answer s a x ≡ Done
   pass : Passed
   unfolding load_answer true_answer
   pass =
-      let one = passed (sides_good s) 1 0 _ loaded in
-      let two = passed (three_lengths n a && index_sized n x) 2 0 _ one.1 in
-      let six = sound d3q19 (grid_of s) (state_of 18 a) (or_refuse (totals_good (number_in a 1) (number_in a 2)) 6 n (true_answer n a.flags x Done)) two.1 in
-      let last = passed (totals_good (number_in a 1) (number_in a 2)) 6 n (true_answer n a.flags x Done) six.1 in
-      record { sides = one.0; lengths = two.0; true-now = (passed (index_true n a.flags x) 14 0 Done last.1).0 }
+      let one = passed (sides_good s) BadSides _ loaded in
+      let two = passed (three_lengths n a && index_sized n x) BadLength _ one.1 in
+      let six = sound d3q19 (grid_of s) (state_of 18 a) (or_refuse (totals_good (number_in a 1) (number_in a 2)) (BadState n) (true_answer n a.flags x Done)) two.1 in
+      let last = passed (totals_good (number_in a 1) (number_in a 2)) (BadState n) (true_answer n a.flags x Done) six.1 in
+      record { sides = one.0; lengths = two.0; true-now = (passed (index_true n a.flags x) BadIndex Done last.1).0 }
 
   room : Room n x
   room = room_of n x (few-cells s pass.sides) (and_right (three_lengths n a) (index_sized n x) pass.lengths)

@@ -1,7 +1,7 @@
 -- A lent set with its index, as the calls have it, and what it is for one to load. Assumes nothing.
 use Rattle.std.specs.Prelude.{◌≡◌}
 use Rattle.grid.specs.declared.Sides.{Sides}
-use Rattle.grid.specs.declared.Answer.TheVariants.{Done}
+use Rattle.grid.specs.Answer.{Done}
 use Rattle.grid.specs.Grid.{cells_of}
 use Rattle.grid.specs.State.{Lent}
 use Rattle.index.specs.Index.{Index, index_of}

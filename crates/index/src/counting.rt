@@ -11,10 +11,8 @@ pub fn how_many(words: &[u64], n: usize) -> usize
 {
     let full = n / 64;
     let mut sum = 0;
-    let mut k = 0;
-    while k < full {
-        sum += bits::ones(words[k]);
-        k += 1;
+    for w in &words[..full] {
+        sum += bits::ones(*w);
     }
     if n % 64 == 0 {
         return sum;

@@ -7,17 +7,9 @@ pub mod keeping;
 pub mod loading;
 pub mod words;
 
-// What the question "how many" answers: the interface cells, or the refusal's number and place as document 01 has them.
+// What the question "which is next" answers: the cell found, None if there is none, and the words read.
 #[derive(Clone, Copy)]
-pub enum Counted {
-    Cells(usize),
-    Refused(u8, usize),
-}
-
-// What the question "which is next" answers: a cell, or that there is none, each with the words read; or the refusal's number and place.
-#[derive(Clone, Copy)]
-pub enum Next {
-    Found(usize, usize),
-    Nothing(usize),
-    Refused(u8, usize),
+pub struct Next {
+    pub cell: Option<usize>,
+    pub words: usize,
 }

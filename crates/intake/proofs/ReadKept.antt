@@ -8,7 +8,7 @@ use native.Mathlib.Nat.{le_refl}
 use lib.Dec.{leb}
 use lib.ListN.{length}
 use Rattle.grid.specs.declared.Sides.{Sides}
-use Rattle.grid.specs.declared.Answer.TheVariants.{Done}
+use Rattle.grid.specs.Answer.{Done}
 use Rattle.grid.specs.Grid.{cells_of, sides_good}
 use Rattle.grid.specs.State.{Lent}
 use Rattle.grid.specs.Outcome.{accepted, or_refuse}
@@ -32,16 +32,17 @@ use Rattle.index.proofs.Indexed.{good-loads}
 use Rattle.intake.specs.Reading.{open_answer, read_answer, read_head, read_flags, read_held}
 use Rattle.intake.specs.Demands.{read_grid, ReadKeeps}
 use Rattle.intake.proofs.Readings.{chain-open}
+use Rattle.grid.specs.declared.refusals.Refusal.TheVariants.{BadLength, BadRoom, BadSetting, BadSides}
 
 -- what the writer's tests say of a grid
 loads : (r : List ℕ) (b : Lent) (room : List ℕ) → write_answer (sides_in r) (settings_in r) (site_in r) b room ≡ Done → Loads (sides_in r) (indexed (sides_in r) b)
 unfolding write_answer
 loads r b room w =
     let s = sides_in r in
-    let one = passed (sides_good s) 1 0 _ w in
-    let two = passed (three_lengths (cells_of s) b) 2 0 _ one.1 in
-    let three = passed (site_good (settings_in r) (site_in r)) 3 0 _ two.1 in
-    let last = or_refuse (leb (record_length s b) (length room)) 12 (record_length s b) Done in
+    let one = passed (sides_good s) BadSides _ w in
+    let two = passed (three_lengths (cells_of s) b) BadLength _ one.1 in
+    let three = passed (site_good (settings_in r) (site_in r)) (BadSetting 0) _ two.1 in
+    let last = or_refuse (leb (record_length s b) (length room)) (BadRoom (record_length s b)) Done in
     good-loads s b (sym (then-checked s b one.0 two.0) ∙ three-through s b Done last Done (λ e. refl) three.1)
 
 -- of every record that is bytes

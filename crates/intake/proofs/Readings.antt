@@ -1,18 +1,17 @@
 -- The reader with its index: tests 1 and 2 are the record's, then the index's lengths; refused there, refused later, and accepted with the index made of the
 -- flags read, it leaves what the outcome's definition says. Assumes nothing.
 use mathlib.Core.Path.{◌≡◌, refl, sym, ap, ap₂, ◌∙◌, subst}
-use mathlib.Core.Bool.{Bool, true, false, ◌&&◌, cond, not}
-use mathlib.Core.List.{List, []}
-use Prim.Native.Nat.{ℕ, ◌+◌, ◌-◌, ◌≤◌}
+use mathlib.Core.Bool.{Bool, true, false, ◌&&◌, cond}
+use mathlib.Core.List.{List}
+use Prim.Native.Nat.{ℕ, ◌-◌, ◌≤◌}
 use native.Mathlib.Omega.{arith}
 use lib.Dec.{eqb}
 use lib.IntN.{ℤ}
 use lib.ListN.{length, take, drop}
-use borrow.Author.Tests.{not-true, not-false}
 use Rattle.whole.specs.laws.Bools.{cond_yes, cond_no}
 use Rattle.grid.specs.declared.Sides.{Sides}
-use Rattle.grid.specs.declared.Answer.{Answer}
-use Rattle.grid.specs.declared.Answer.TheVariants.{Done, Refused}
+use Rattle.grid.specs.Answer.{Answer}
+use Rattle.grid.specs.Answer.{Done}
 use Rattle.grid.specs.Grid.{cells_of, sides_good}
 use Rattle.grid.specs.Outcome.{accepted, or_refuse}
 use Rattle.grid.specs.State.{Lent}
@@ -20,7 +19,7 @@ use Rattle.record.specs.declared.Head.{Head}
 use Rattle.record.specs.Reading.{sides_in, flags_at, cells_in, flags_in, slices_fit, whole, refused_head}
 use Rattle.record.specs.Reading as base
 use Rattle.record.specs.Promise as promise
-use Rattle.record.proofs.Answers.{Chain, chain-or, chain-then, chain-both, or-true}
+use Rattle.record.proofs.Answers.{Chain, chain-or, chain-then, chain-both, chain-stops, or-true}
 use Rattle.record.proofs.FlagPart.{length-flags}
 use Rattle.record.proofs.Shaped.{opens, chain-opens, opened, sound, shape-accepted}
 use Rattle.record.proofs.Spanned.{span-read}
@@ -31,23 +30,27 @@ use Rattle.index.specs.Held.{Held, held}
 use Rattle.intake.specs.Reading.{open_answer, read_answer, read_head, read_held}
 use Rattle.intake.specs.Promise.{Read}
 use Rattle.grid.proofs.Inside.{few as few-cells}
+use Rattle.grid.specs.declared.refusals.Refusal.{Refusal}
+use Rattle.grid.specs.declared.refusals.Refusal.TheVariants.{BadLength, BadSides}
+use Rattle.std.specs.Prelude.{Err}
+use Rattle.std.specs.Prelude.{Ok}
 
 -- ---- section 1, tests 1 and 2
-or-and : (t u : Bool) (number place : ℕ) (rest : Answer) → or_refuse (t && u) number place rest ≡ or_refuse t number place (or_refuse u number place rest)
-or-and true u number place rest = refl
-or-and false u number place rest = refl
+or-and : (t u : Bool) (refusal : Refusal) (rest : Answer) → or_refuse (t && u) refusal rest ≡ or_refuse t refusal (or_refuse u refusal rest)
+or-and true u refusal rest = refl
+or-and false u refusal rest = refl
 
 module _ (r : List ℕ) (p m f k : ℕ) (x : Index) where
   abbrev index-fits : Bool
   index-fits = index_sized (cells_in r) x
 
   -- the record's own tests, then the index's lengths
-  pub open_is : (rest : Answer) → open_answer r p m f k x rest ≡ opens r p m f k (or_refuse index-fits 2 0 rest)
+  pub open_is : (rest : Answer) → open_answer r p m f k x rest ≡ opens r p m f k (or_refuse index-fits BadLength rest)
   unfolding open_answer
-  open_is rest = ap (λ (y : Answer). whole r 1 0 3 4 (or_refuse (sides_good (sides_in r)) 1 0 y)) (or-and (slices_fit (cells_in r) p m f k) index-fits 2 0 rest)
+  open_is rest = ap (λ (y : Answer). whole r 1 0 3 4 (or_refuse (sides_good (sides_in r)) BadSides y)) (or-and (slices_fit (cells_in r) p m f k) index-fits BadLength rest)
 
-  chain-ours : Chain (λ rest. opens r p m f k (or_refuse index-fits 2 0 rest))
-  chain-ours = chain-then (opens r p m f k) (or_refuse index-fits 2 0) (chain-opens r p m f k) (chain-or index-fits 2 0)
+  chain-ours : Chain (λ rest. opens r p m f k (or_refuse index-fits BadLength rest))
+  chain-ours = chain-then (opens r p m f k) (or_refuse index-fits BadLength) (chain-opens r p m f k) (chain-or index-fits BadLength)
 
   pub chain-open : Chain (open_answer r p m f k x)
   chain-open = record {
@@ -55,9 +58,8 @@ module _ (r : List ℕ) (p m f k : ℕ) (x : Index) where
     passes = λ e rest. open_is rest ∙ chain-ours.passes (sym (ap accepted (open_is Done)) ∙ e) rest;
   }
 
-  pub stops : {a : Answer} {t : Bool} → a ≡ opens r p m f k Done → t ≡ accepted a → not t ≡ true → a ≡ open_answer r p m f k x Done
-  stops {a} {t} e q h =
-      e ∙ sym ((chain-opens r p m f k).refuses (sym (ap accepted e) ∙ sym q ∙ not-true t h) (or_refuse index-fits 2 0 Done)) ∙ sym (open_is Done)
+  pub stops : {refusal : Refusal} → Err refusal ≡ opens r p m f k Done → Err refusal ≡ open_answer r p m f k x Done
+  stops e = chain-stops (opens r p m f k) (chain-opens r p m f k) (or_refuse index-fits BadLength Done) e ∙ sym (open_is Done)
 
   -- the record's tests passed
   module _ (e : accepted (opens r p m f k Done) ≡ true) where
@@ -67,10 +69,10 @@ module _ (r : List ℕ) (p m f k : ℕ) (x : Index) where
     pub sides-pass : sides_good (sides_in r) ≡ true
     sides-pass = (opened r p m f k e).1
 
-    told-by : (t : Bool) → index-fits ≡ t → or_refuse t 2 0 Done ≡ open_answer r p m f k x Done
-    told-by t h = ap (λ (u : Bool). or_refuse u 2 0 Done) (sym h) ∙ sym (open_is Done ∙ (chain-opens r p m f k).passes e (or_refuse index-fits 2 0 Done))
+    told-by : (t : Bool) → index-fits ≡ t → or_refuse t BadLength Done ≡ open_answer r p m f k x Done
+    told-by t h = ap (λ (u : Bool). or_refuse u BadLength Done) (sym h) ∙ sym (open_is Done ∙ (chain-opens r p m f k).passes e (or_refuse index-fits BadLength Done))
 
-    pub wrong-index : index-fits ≡ false → Refused 2 0 ≡ open_answer r p m f k x Done
+    pub wrong-index : index-fits ≡ false → Err BadLength ≡ open_answer r p m f k x Done
     wrong-index h = told-by false h
 
     pub opens-all : index-fits ≡ true → Done ≡ open_answer r p m f k x Done
@@ -82,12 +84,12 @@ module _ (r : List ℕ) (p m f k : ℕ) (x : Index) where
   fits_told a b c = c ∙ ap (λ (n : ℕ). index_sized n x) (b ∙ ap cells_of a)
 
   -- and all of it
-  both : accepted (open_answer r p m f k x Done) ≡ true → (accepted (opens r p m f k Done) ≡ true) × (accepted (or_refuse index-fits 2 0 Done) ≡ true)
-  both e = chain-both (opens r p m f k) (or_refuse index-fits 2 0) (chain-opens r p m f k) (sym (ap accepted (open_is Done)) ∙ e)
+  both : accepted (open_answer r p m f k x Done) ≡ true → (accepted (opens r p m f k Done) ≡ true) × (accepted (or_refuse index-fits BadLength Done) ≡ true)
+  both e = chain-both (opens r p m f k) (or_refuse index-fits BadLength) (chain-opens r p m f k) (sym (ap accepted (open_is Done)) ∙ e)
 
   pub index-room : accepted (open_answer r p m f k x Done) ≡ true → Room (cells_in r) x
   unfolding cells_in
-  index-room e = room_of (cells_in r) x (few-cells (sides_in r) (sides-pass (both e).0)) (or-true index-fits 2 0 (both e).1)
+  index-room e = room_of (cells_in r) x (few-cells (sides_in r) (sides-pass (both e).0)) (or-true index-fits BadLength (both e).1)
 
 -- ---- the record's reader as it is met here
 head-accepts : (r : List ℕ) (a : Lent) → accepted (base.read_head r a).answer ≡ accepted (base.read_answer r a)
@@ -95,8 +97,8 @@ unfolding base.read_head
 head-accepts r a = go (base.read_answer r a)
   where
     go : (y : Answer) → accepted (cond {A = Head} (accepted y) (record { answer = Done; sides = sides_in r; settings = base.settings_in r; site = base.site_in r }) (refused_head y)).answer ≡ accepted y
-    go Done = refl
-    go (Refused n q) = refl
+    go (Ok _) = refl
+    go (Err refusal) = refl
 
 head-refused : (r : List ℕ) (a : Lent) → accepted (base.read_answer r a) ≡ false → base.read_head r a ≡ refused_head (base.read_answer r a)
 unfolding base.read_head
@@ -116,10 +118,10 @@ module _ (r : List ℕ) (a : Held) where
   opening = open_answer r (length a.set.parts) (length a.set.masses) (length a.set.fills) (length a.set.carry) a.index
 
   -- refused by the record's first section, the sides or a length
-  pub refused-early : {first : Answer} {t : Bool} {h : Head} → first ≡ opening Done → t ≡ accepted first → not t ≡ true → h ≡ refused_head first
+  pub refused-early : {refusal : Refusal} {h : Head} → Err refusal ≡ opening Done → h ≡ refused_head (Err refusal)
       → Read r a h a.set.parts a.set.masses a.set.fills a.set.carry a.index
   unfolding read_answer read_head read_held
-  refused-early {first} {t} {h} e q l i = record {
+  refused-early {refusal} {h} e i = record {
     head-is = i ∙ ap refused_head is ∙ sym (cond_no _ _ no_more);
     parts_are = ap (λ (b : Held). b.set.parts) (sym held-is);
     masses-are = ap (λ (b : Held). b.set.masses) (sym held-is);
@@ -128,32 +130,29 @@ module _ (r : List ℕ) (a : Held) where
     index_is = ap (λ (b : Held). b.index) (sym held-is);
   }
     where
-      stopped : accepted first ≡ false
-      stopped = sym q ∙ not-true t l
-
-      is : first ≡ read_answer r a
-      is = e ∙ sym ((chain-open r _ _ _ _ a.index).refuses (sym (ap accepted e) ∙ stopped) (base.read_answer r a.set))
+      is : Err refusal ≡ read_answer r a
+      is = chain-stops opening (chain-open r _ _ _ _ a.index) (base.read_answer r a.set) e
 
       no_more : accepted (read_answer r a) ≡ false
-      no_more = sym (ap accepted is) ∙ stopped
+      no_more = ap accepted (sym is)
 
       held-is : read_held r a ≡ a
       held-is = cond_no _ _ no_more
 
-  module _ {first : Answer} {t : Bool} (e : first ≡ opening Done) (q : t ≡ accepted first) (l : not t ≡ false) where
+  module _ (e : Done ≡ opening Done) where
     went : accepted (opening Done) ≡ true
-    went = sym (ap accepted e) ∙ sym q ∙ not-false t l
+    went = ap accepted (sym e)
 
     answer-is : read_answer r a ≡ base.read_answer r a.set
     unfolding read_answer
     answer-is = (chain-open r _ _ _ _ a.index).passes went (base.read_answer r a.set)
 
-    module _ {h : Head} {parts masses : List ℤ} {fills : List ℕ} {carry : List ℤ} (d : promise.Read r a.set h parts masses fills carry) {u : Bool} (v : u ≡ accepted h.answer) where
-      told : accepted (base.read_answer r a.set) ≡ u
-      told = sym (head-accepts r a.set) ∙ sym (ap (λ (g : Head). accepted g.answer) d.head-is) ∙ sym v
+    module _ {h : Head} {parts masses : List ℤ} {fills : List ℕ} {carry : List ℤ} (d : promise.Read r a.set h parts masses fills carry) where
+      told : accepted (base.read_answer r a.set) ≡ accepted h.answer
+      told = sym (head-accepts r a.set) ∙ sym (ap (λ (g : Head). accepted g.answer) d.head-is)
 
       -- refused later
-      pub refused-late : not u ≡ true → Read r a h parts masses fills carry a.index
+      pub refused-late : accepted h.answer ≡ false → Read r a h parts masses fills carry a.index
       unfolding read_head read_held
       refused-late w = record {
         head-is = d.head-is ∙ head-refused r a.set no_more ∙ ap refused_head (sym answer-is) ∙ sym (cond_no _ _ (ap accepted answer-is ∙ no_more));
@@ -165,15 +164,15 @@ module _ (r : List ℕ) (a : Held) where
       }
         where
           no_more : accepted (base.read_answer r a.set) ≡ false
-          no_more = told ∙ not-true u w
+          no_more = told ∙ w
 
           held-is : read_held r a ≡ a
           held-is = cond_no _ _ (ap accepted answer-is ∙ no_more)
 
       -- accepted: the flags are the record's own
-      module _ (w : not u ≡ false) where
+      module _ (w : accepted h.answer ≡ true) where
         yes : accepted (base.read_answer r a.set) ≡ true
-        yes = told ∙ not-false u w
+        yes = told ∙ w
 
         abbrev part : List ℕ
         part = let z = promise.span_of r h in take (z.to - z.from) (drop z.from r)

@@ -1,6 +1,6 @@
 -- What is promised of the reader over its outcome: what it hands back loads. Assumes nothing.
 use Rattle.std.specs.Prelude.{◌≡◌, List, ℕ}
-use Rattle.grid.specs.declared.Answer.TheVariants.{Done}
+use Rattle.grid.specs.Answer.{Done}
 use Rattle.grid.specs.State.{lent}
 use Rattle.index.specs.Held.{Held, held, Loads}
 use Rattle.intake.specs.Reading.{read_answer, read_head, read_flags, read_held}

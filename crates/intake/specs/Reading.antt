@@ -1,7 +1,7 @@
 -- What the reader answers, and what the lent slices and the index then hold, for every input: as the record's reader has it, with the index's lengths in
 -- test 2. Assumes nothing.
 use Rattle.std.specs.Prelude.{◌&&◌, cond, List, [], ℕ, length}
-use Rattle.grid.specs.declared.Answer.{Answer}
+use Rattle.grid.specs.Answer.{Answer}
 use Rattle.grid.specs.Grid.{sides_good}
 use Rattle.grid.specs.Outcome.{accepted, or_refuse}
 use Rattle.record.specs.declared.Head.{Head}
@@ -9,13 +9,14 @@ use Rattle.record.specs.Reading.{sides_in, cells_in, whole, slices_fit, refused_
 use Rattle.record.specs.Reading as base
 use Rattle.index.specs.Index.{Index, index_of, index_sized}
 use Rattle.index.specs.Held.{Held, held}
+use Rattle.grid.specs.declared.refusals.Refusal.TheVariants.{BadLength, BadSides}
 
 -- section 1, then test 1, and test 2 of the four slices and the index
 unfoldable pub open_answer : List ℕ → ℕ → ℕ → ℕ → ℕ → Index → Answer → Answer
 open_answer r parts masses fills carry x rest =
     whole r 1 0 3 4
-    (or_refuse (sides_good (sides_in r)) 1 0
-    (or_refuse (slices_fit (cells_in r) parts masses fills carry && index_sized (cells_in r) x) 2 0 rest))
+    (or_refuse (sides_good (sides_in r)) BadSides
+    (or_refuse (slices_fit (cells_in r) parts masses fills carry && index_sized (cells_in r) x) BadLength rest))
 
 -- then all else, in the order of the record's reader; what it tests again has passed
 unfoldable pub read_answer : List ℕ → Held → Answer

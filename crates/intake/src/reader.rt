@@ -1,14 +1,14 @@
 // The reader into a set with its index.
 ghost use Rattle.std.specs.Prelude.{◌≡◌, []};
-ghost use Rattle.grid.specs.declared.Answer.TheVariants.{Done};
+ghost use Rattle.grid.specs.Answer.{Done};
 ghost use Rattle.grid.specs.State.{lent};
 ghost use Rattle.index.specs.Index.{index};
 ghost use Rattle.index.specs.Held.{held};
 ghost use Rattle.intake.specs.Reading.{open_answer};
 ghost use Rattle.intake.specs.Promise.{Read};
 
-use grid::Answer;
 use grid::extent::cells;
+use grid::refusals::{Answer, Refusal};
 use index::{keeping, words};
 use reading::reader;
 use record::Head;
@@ -28,14 +28,11 @@ fn opened(
 ) -> Answer
     ensures { result ≡ open_answer rec.now parts masses fills carry (index words.now count.now) Done }
 {
-    let first = opening(rec, parts, masses, fills, carry);
-    if !passed(first) {
-        return first;
-    }
+    opening(rec, parts, masses, fills, carry)?;
     if !words::good_lengths(words.len(), count.len(), cells(sides_in(rec))) {
-        return Answer::Refused(2, 0);
+        return Err(Refusal::BadLength);
     }
-    Answer::Done
+    Ok(())
 }
 
 // Reads a record into the lent slices and makes the index of its flags; nothing is written unless all of it is accepted.
@@ -50,7 +47,7 @@ pub fn read(
 ) -> Head
     ensures { Read rec.now (held (lent [] parts.old masses.old fills.old carry.old) (index words.old count.old)) result parts.new masses.new fills.new carry.new (index words.new count.new) }
 {
-    let first = opened(
+    if let Err(refusal) = opened(
         rec,
         parts.len(),
         masses.len(),
@@ -58,9 +55,8 @@ pub fn read(
         carry.len(),
         words,
         count,
-    );
-    if !passed(first) {
-        return reader::refused(first);
+    ) {
+        return reader::refused(Err(refusal));
     }
     let h = reader::read(rec, parts, masses, fills, carry);
     let a = h.answer;

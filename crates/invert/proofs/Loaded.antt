@@ -1,8 +1,8 @@
 -- What the reader accepts, loading accepts: every flag is 0 or 3, outer cells are 3, and all else is 0. Assumes nothing.
 use mathlib.Core.Path.{◌≡◌, refl, sym, ap, ◌∙◌, subst}
 use mathlib.Core.Logic.{◌⊎◌, inl, inr, ⊎_elim}
-use mathlib.Core.Bool.{Bool, true, false, ◌&&◌, ◌||◌, not, cond, true≢false, false≢true}
-use mathlib.Core.List.{List, [], ◌∷◌}
+use mathlib.Core.Bool.{Bool, true, false, ◌&&◌, ◌||◌, not, cond}
+use mathlib.Core.List.{List}
 use Prim.Native.Nat.{ℕ, zero, suc, ◌+◌, ◌*◌, ◌/◌, ◌%◌, ◌^◌, ◌≤◌, ◌<◌}
 use native.Mathlib.Nat.{le_of_eq}
 use native.Mathlib.Omega.{arith}
@@ -19,8 +19,8 @@ use Rattle.lattice.specs.Lattice.{Lattice, density, d3q19}
 use Rattle.lattice.specs.Cell.{carry_good}
 use Rattle.lattice.specs.Body.{eq_z}
 use Rattle.grid.specs.declared.Sides.{Sides}
-use Rattle.grid.specs.declared.Answer.{Answer}
-use Rattle.grid.specs.declared.Answer.TheVariants.{Done}
+use Rattle.grid.specs.Answer.{Answer}
+use Rattle.grid.specs.Answer.{Done}
 use Rattle.grid.specs.Grid.{cells_of, sides_good, grid_of, box}
 use Rattle.grid.specs.State.{State, Lent, state_of, liquid, by_flag}
 use Rattle.grid.specs.Step.{fill_for}
@@ -36,6 +36,7 @@ use Rattle.invert.specs.Outcome.{count_of, read_head, lengths_of, dry, dry_index
 use Rattle.invert.specs.Demands.{Loads, Loadable}
 use Rattle.invert.proofs.Tested.{head-taken}
 use Rattle.invert.proofs.Filled.{set-made, index-made}
+use Rattle.grid.specs.declared.refusals.Refusal.TheVariants.{BadIndex, BadState}
 
 -- ---- zeros
 abbrev noughts : ℕ → List ℕ
@@ -160,14 +161,14 @@ module _ (s : Sides) (g : sides_good s ≡ true) (edge : ℕ) (t : List ℕ) whe
 
   three : (rest : Answer) → three_good s A rest ≡ rest
   unfolding dry
-  three rest = good (or_refuse (totals_good (number_in A 1) (number_in A 2)) 6 (cells_of s) rest)
+  three rest = good (or_refuse (totals_good (number_in A 1) (number_in A 2)) (BadState (cells_of s)) rest)
 
   pub dry-loads : Loads s A (dry_index (cells_of s))
   unfolding three_answer load_answer true_answer dry
   dry-loads =
       record {
         checks = simp (g, lengths) (three Done);
-        loads = simp (g, and-true (three_lengths (cells_of s) A) (index_sized (cells_of s) (dry_index (cells_of s))) lengths sized) (three (or_refuse (index_true (cells_of s) (invert_flags s edge t) (dry_index (cells_of s))) 14 0 Done) ∙ simp true-index);
+        loads = simp (g, and-true (three_lengths (cells_of s) A) (index_sized (cells_of s) (dry_index (cells_of s))) lengths sized) (three (or_refuse (index_true (cells_of s) (invert_flags s edge t) (dry_index (cells_of s))) BadIndex Done) ∙ simp true-index);
         without-water = λ c. by-still (λ f. liquid f ≡ false) (still s edge t c) refl refl;
       }
 

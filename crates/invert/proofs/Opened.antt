@@ -1,9 +1,10 @@
 -- A header that can be read has its six lines: each has its keyword, so that more than seven bytes stand before the rows, and a line's number never passes
 -- its place in the text. Assumes nothing.
+use Rattle.std.proofs.Common.{Option, Some, None, Result, Ok, Err}
 use mathlib.Core.Path.{◌≡◌, refl, sym, ap, ◌∙◌}
-use mathlib.Core.Bool.{Bool, true, false, ◌&&◌, ◌||◌, not, cond, true≢false, false≢true}
+use mathlib.Core.Bool.{Bool, true, false, not, cond, false≢true}
 use mathlib.Core.List.{List, [], ◌∷◌}
-use Prim.Native.Nat.{ℕ, suc, ◌+◌, ◌≤◌, ◌<◌}
+use Prim.Native.Nat.{ℕ, suc, ◌+◌, ◌≤◌}
 use native.Mathlib.Nat.{zero-add}
 use native.Mathlib.Omega.{arith}
 use borrow.Author.Tests.{eqb-true}
@@ -13,13 +14,9 @@ use lib.ListN.{length, drop, length-drop}
 use lib.Seq.{length-take-le}
 use Rattle.whole.specs.laws.Bools.{and_right}
 use Rattle.numerals.specs.declared.text.Kind.TheVariants.{Blank, Word, Line}
-use Rattle.numerals.specs.declared.number.Number.{Number}
-use Rattle.numerals.specs.declared.number.Number.TheVariants.{Thousandths, Unreadable}
 use Rattle.heights.specs.declared.header.Key.{Key}
 use Rattle.heights.specs.declared.header.Key.TheVariants.{Columns, Rows, West, South, Edge, Missing}
 use Rattle.heights.specs.declared.header.Frame.{Frame}
-use Rattle.heights.specs.declared.header.Header.{Header}
-use Rattle.heights.specs.declared.header.Header.TheVariants.{Read, Bad}
 use Rattle.numerals.specs.Text.{of_kind, blank, lower, run, ahead, behind, word, after_word, next_line, from_line, alike}
 use Rattle.heights.specs.Header.{key_of, line_of, last_of, line_value, entry_of, or_bad, header_of}
 use Rattle.numerals.proofs.Runs.{run-le, run-yes, run-no}
@@ -71,33 +68,33 @@ alike-long (a ∷ w) (b ∷ k) e = go (eqb (lower a) (lower b)) e (λ p. alike-l
     go true p r = ap suc (r p)
     go false p r = absurd (false≢true p)
 
-readable : Number → Bool
-readable (Thousandths z) = true
-readable Unreadable = false
+readable : Option ℤ → Bool
+readable (Some z) = true
+readable None = false
 
-keyword : (k : Key) (t : List ℕ) (z : ℤ) → line_value k t ≡ Thousandths z → length (word t) ≡ length (key_of k)
+keyword : (k : Key) (t : List ℕ) (z : ℤ) → line_value k t ≡ Some z → length (word t) ≡ length (key_of k)
 unfolding line_value readable
 keyword k t z e = go (alike (word t) (key_of k)) refl e
   where
-    go : (v : Bool) → alike (word t) (key_of k) ≡ v → cond v (last_of k (after_word t)) Unreadable ≡ Thousandths z → length (word t) ≡ length (key_of k)
+    go : (v : Bool) → alike (word t) (key_of k) ≡ v → cond v (last_of k (after_word t)) None ≡ Some z → length (word t) ≡ length (key_of k)
     go true p q = alike-long (word t) (key_of k) p
     go false p q = absurd (false≢true (ap readable q))
 
-shorter : (k : Key) (t : List ℕ) (z : ℤ) → entry_of k t ≡ Thousandths z → length (next_line (from_line (line_of k) t)) + length (key_of k) ≤ length (from_line (line_of k) t)
+shorter : (k : Key) (t : List ℕ) (z : ℤ) → entry_of k t ≡ Some z → length (next_line (from_line (line_of k) t)) + length (key_of k) ≤ length (from_line (line_of k) t)
 unfolding entry_of
 shorter k t z e = omega (arith, next-short (from_line (line_of k) t), keyword k (from_line (line_of k) t) z e)
 
 -- ---- all six
-is_read : Header → Bool
-is_read (Read f) = true
-is_read (Bad i) = false
+is_read : Result Frame ℕ → Bool
+is_read (Ok f) = true
+is_read (Err i) = false
 
-pub read-on : {P : Type 0} (i : ℕ) (n : Number) (rest : ℤ → Header) (f : Frame) → or_bad i n rest ≡ Read f → ((z : ℤ) → n ≡ Thousandths z → rest z ≡ Read f → P) → P
+pub read-on : {P : Type 0} (i : ℕ) (n : Option ℤ) (rest : ℤ → Result Frame ℕ) (f : Frame) → or_bad i n rest ≡ Ok f → ((z : ℤ) → n ≡ Some z → rest z ≡ Ok f → P) → P
 unfolding is_read
-read-on i (Thousandths z) rest f e k = k z refl e
-read-on i Unreadable rest f e k = absurd (false≢true (ap is_read e))
+read-on i (Some z) rest f e k = k z refl e
+read-on i None rest f e k = absurd (false≢true (ap is_read e))
 
-pub header-long : (t : List ℕ) (f : Frame) → Read f ≡ header_of t → 7 + length (from_line 6 t) ≤ length t
+pub header-long : (t : List ℕ) (f : Frame) → Ok f ≡ header_of t → 7 + length (from_line 6 t) ≤ length t
 unfolding header_of from_line
 header-long t f e =
     read-on 1 (entry_of Columns t) _ f (sym e) (λ a p q.

@@ -1,8 +1,9 @@
 -- The tests in a row: what each that passed has shown, and what the reader's head then is. Assumes nothing.
+use Rattle.std.proofs.Common.{Result, Ok, Err}
 use mathlib.Core.Path.{◌≡◌, refl, sym, ap, ◌∙◌, subst}
 use mathlib.Core.Bool.{Bool, true, false, ◌&&◌, cond, true≢false, false≢true}
 use mathlib.Core.List.{List}
-use Prim.Native.Nat.{ℕ, ◌+◌, ◌*◌, ◌≤◌, ◌<◌}
+use Prim.Native.Nat.{ℕ, ◌*◌, ◌≤◌}
 use native.Mathlib.Omega.{arith}
 use borrow.Author.Tests.{eqb-true, leb-true, le-ltb}
 use lib.Dec.{eqb}
@@ -12,8 +13,8 @@ use Rattle.whole.specs.laws.Bools.{and_left, and_right}
 use Rattle.lattice.specs.Cell.{edge_good, coordinate_good}
 use Rattle.lattice.specs.declared.Settings.{Settings}
 use Rattle.grid.specs.declared.Sides.{Sides}
-use Rattle.grid.specs.declared.Answer.{Answer}
-use Rattle.grid.specs.declared.Answer.TheVariants.{Done, Refused}
+use Rattle.grid.specs.Answer.{Answer}
+use Rattle.grid.specs.Answer.{Done}
 use Rattle.grid.specs.Grid.{cells_of, sides_good}
 use Rattle.grid.specs.Outcome.{accepted, or_refuse, settings_good}
 use Rattle.grid.proofs.Accepted.{passed}
@@ -23,15 +24,12 @@ use Rattle.record.specs.Layout.{site_good}
 use Rattle.record.specs.Reading.{refused_head}
 use Rattle.index.specs.Index.{words_of}
 use Rattle.heights.specs.declared.header.Frame.{Frame}
-use Rattle.heights.specs.declared.header.Header.{Header}
-use Rattle.heights.specs.declared.header.Header.TheVariants.{Read, Bad}
-use Rattle.heights.specs.declared.rows.Rows.{Rows}
-use Rattle.heights.specs.declared.rows.Rows.TheVariants.{Fine, Unfit}
 use Rattle.numerals.specs.Text.{from_line}
 use Rattle.heights.specs.Header.{header_of}
 use Rattle.heights.specs.Rows.{rows_of}
 use Rattle.invert.specs.declared.testing.Lengths.{Lengths}
 use Rattle.invert.specs.Outcome.{count_of, sides_of, site_of, set_fits, given_answer, rows_answer, grid_answer, told_head, head_by, read_head}
+use Rattle.grid.specs.declared.refusals.Refusal.TheVariants.{BadHeader, BadLength, BadSetting, BadSides}
 
 -- ---- counts
 pub count-below : (z : ℤ) → lt_z z (pos 0) ≡ true → 0 ≡ count_of z
@@ -46,20 +44,20 @@ pub sides-by : (f : Frame) {nz a b : ℕ} → a ≡ count_of f.nx → b ≡ coun
 sides-by f {nz} p q = λ i. record { nx = p i; ny = q i; nz = nz }
 
 -- ---- tests 1 to 3
-three-stop : (a b c : Bool) (rest : Answer) → accepted (or_refuse a 1 0 (or_refuse b 2 0 (or_refuse c 3 0 Done))) ≡ false
-    → or_refuse a 1 0 (or_refuse b 2 0 (or_refuse c 3 0 rest)) ≡ or_refuse a 1 0 (or_refuse b 2 0 (or_refuse c 3 0 Done))
+three-stop : (a b c : Bool) (rest : Answer) → accepted (or_refuse a BadSides (or_refuse b BadLength (or_refuse c (BadSetting 0) Done))) ≡ false
+    → or_refuse a BadSides (or_refuse b BadLength (or_refuse c (BadSetting 0) rest)) ≡ or_refuse a BadSides (or_refuse b BadLength (or_refuse c (BadSetting 0) Done))
 three-stop false b c rest e = refl
 three-stop true false c rest e = refl
 three-stop true true false rest e = refl
 three-stop true true true rest e = absurd (true≢false e)
 
-three-on : (a b c : Bool) (rest : Answer) → accepted (or_refuse a 1 0 (or_refuse b 2 0 (or_refuse c 3 0 Done))) ≡ true → or_refuse a 1 0 (or_refuse b 2 0 (or_refuse c 3 0 rest)) ≡ rest
+three-on : (a b c : Bool) (rest : Answer) → accepted (or_refuse a BadSides (or_refuse b BadLength (or_refuse c (BadSetting 0) Done))) ≡ true → or_refuse a BadSides (or_refuse b BadLength (or_refuse c (BadSetting 0) rest)) ≡ rest
 three-on false b c rest e = absurd (false≢true e)
 three-on true false c rest e = absurd (false≢true e)
 three-on true true false rest e = absurd (false≢true e)
 three-on true true true rest e = refl
 
-three-first : (a b c : Bool) → accepted (or_refuse a 1 0 (or_refuse b 2 0 (or_refuse c 3 0 Done))) ≡ true → a ≡ true
+three-first : (a b c : Bool) → accepted (or_refuse a BadSides (or_refuse b BadLength (or_refuse c (BadSetting 0) Done))) ≡ true → a ≡ true
 three-first false b c e = absurd (false≢true e)
 three-first true b c e = refl
 
@@ -76,15 +74,15 @@ module _ (s : Sides) (g : Settings) (t : Site) (l : Lengths) where
   unfolding given_answer
   given-sides e = three-first (sides_good s) (set_fits (cells_of s) l) (site_good g t) e
 
-  pub sides-bad : sides_good s ≡ false → Refused 1 0 ≡ given_answer s g t l Done
+  pub sides-bad : sides_good s ≡ false → Err BadSides ≡ given_answer s g t l Done
   unfolding given_answer
   sides-bad e = simp e
 
-  pub fits-bad : sides_good s ≡ true → set_fits (cells_of s) l ≡ false → Refused 2 0 ≡ given_answer s g t l Done
+  pub fits-bad : sides_good s ≡ true → set_fits (cells_of s) l ≡ false → Err BadLength ≡ given_answer s g t l Done
   unfolding given_answer
   fits-bad p e = simp (p, e)
 
-  pub site-bad : sides_good s ≡ true → set_fits (cells_of s) l ≡ true → site_good g t ≡ false → Refused 3 0 ≡ given_answer s g t l Done
+  pub site-bad : sides_good s ≡ true → set_fits (cells_of s) l ≡ true → site_good g t ≡ false → Err (BadSetting 0) ≡ given_answer s g t l Done
   unfolding given_answer
   site-bad p q e = simp (p, q, e)
 
@@ -103,47 +101,47 @@ pub told-yes : (a : Answer) (s : Sides) (g : Settings) (t : Site) → accepted a
 told-yes a s g t e = ap (λ (b : Bool). cond b (record { answer = Done; sides = s; settings = g; site = t }) (refused_head a)) (sym e)
 
 module _ (text : List ℕ) (nz : ℕ) (oz : ℤ) (g : Settings) (l : Lengths) where
-  pub head-bad : {i : ℕ} → Bad i ≡ header_of text → refused_head (Refused 19 i) ≡ read_head text nz oz g l
+  pub head-bad : {i : ℕ} → Err i ≡ header_of text → refused_head (Err (BadHeader i)) ≡ read_head text nz oz g l
   unfolding read_head
-  head-bad e = ap (λ (d : Header). head_by d text nz oz g l) e
+  head-bad e = ap (λ (d : Result Frame ℕ). head_by d text nz oz g l) e
 
-  pub head-so : {f : Frame} {s : Sides} {t : Site} {a : Answer} → Read f ≡ header_of text → s ≡ sides_of f nz → t ≡ site_of f oz → a ≡ grid_answer text s g t l
+  pub head-so : {f : Frame} {s : Sides} {t : Site} {a : Answer} → Ok f ≡ header_of text → s ≡ sides_of f nz → t ≡ site_of f oz → a ≡ grid_answer text s g t l
       → told_head a s g t ≡ read_head text nz oz g l
   unfolding read_head
   head-so {s = s} {t = t} e p q r =
       ap (λ (a : Answer). told_head a s g t) r
       ∙ (λ i. told_head (grid_answer text (p i) g (q i) l) (p i) g (q i))
-      ∙ ap (λ (d : Header). head_by d text nz oz g l) e
+      ∙ ap (λ (d : Result Frame ℕ). head_by d text nz oz g l) e
 
 -- ---- what an accepted head tells of the grid
 pub record Taken (text : List ℕ) (l : Lengths) (s : Sides) (g : Settings) (t : Site) : Type 0 where
   pub sides : sides_good s ≡ true
   pub fits : set_fits (cells_of s) l ≡ true
   pub site : site_good g t ≡ true
-  pub rows : rows_of s.ny s.nx (from_line 6 text) 7 ≡ Fine
+  pub rows : rows_of s.ny s.nx (from_line 6 text) 7 ≡ Ok tt
 
-rows-fine : (r : Rows) → rows_answer r ≡ Done → r ≡ Fine
-rows-fine Fine e = refl
-rows-fine (Unfit i) e = absurd (false≢true (ap accepted e))
+rows-fine : (r : Result (Unit {0}) ℕ) → rows_answer r ≡ Done → r ≡ Ok tt
+rows-fine (Ok u) e = refl
+rows-fine (Err i) e = absurd (false≢true (ap accepted e))
 
 pub grid-taken : (text : List ℕ) (s : Sides) (g : Settings) (t : Site) (l : Lengths) → grid_answer text s g t l ≡ Done → Taken text l s g t
 unfolding grid_answer given_answer
 grid-taken text s g t l e =
     let r = rows_of s.ny s.nx (from_line 6 text) 7 in
-    let a = passed (sides_good s) 1 0 (or_refuse (set_fits (cells_of s) l) 2 0 (or_refuse (site_good g t) 3 0 (rows_answer r))) e in
-    let b = passed (set_fits (cells_of s) l) 2 0 (or_refuse (site_good g t) 3 0 (rows_answer r)) a.1 in
-    let c = passed (site_good g t) 3 0 (rows_answer r) b.1 in
+    let a = passed (sides_good s) BadSides (or_refuse (set_fits (cells_of s) l) BadLength (or_refuse (site_good g t) (BadSetting 0) (rows_answer r))) e in
+    let b = passed (set_fits (cells_of s) l) BadLength (or_refuse (site_good g t) (BadSetting 0) (rows_answer r)) a.1 in
+    let c = passed (site_good g t) (BadSetting 0) (rows_answer r) b.1 in
     record { sides = a.0; fits = b.0; site = c.0; rows = rows-fine r c.1 }
 
 told-taken : (text : List ℕ) (s : Sides) (g : Settings) (t : Site) (l : Lengths) (a : Answer) → grid_answer text s g t l ≡ a → accepted (told_head a s g t).answer ≡ true
     → Taken text l (told_head a s g t).sides (told_head a s g t).settings (told_head a s g t).site
-told-taken text s g t l Done e p = grid-taken text s g t l e
-told-taken text s g t l (Refused n i) e p = absurd (false≢true p)
+told-taken text s g t l (Ok _) e p = grid-taken text s g t l e
+told-taken text s g t l (Err refusal) e p = absurd (false≢true p)
 
-by-taken : (text : List ℕ) (nz : ℕ) (oz : ℤ) (g : Settings) (l : Lengths) (d : Header) → accepted (head_by d text nz oz g l).answer ≡ true
+by-taken : (text : List ℕ) (nz : ℕ) (oz : ℤ) (g : Settings) (l : Lengths) (d : Result Frame ℕ) → accepted (head_by d text nz oz g l).answer ≡ true
     → Taken text l (head_by d text nz oz g l).sides (head_by d text nz oz g l).settings (head_by d text nz oz g l).site
-by-taken text nz oz g l (Bad i) e = absurd (false≢true e)
-by-taken text nz oz g l (Read f) e = told-taken text (sides_of f nz) g (site_of f oz) l (grid_answer text (sides_of f nz) g (site_of f oz) l) refl e
+by-taken text nz oz g l (Err i) e = absurd (false≢true e)
+by-taken text nz oz g l (Ok f) e = told-taken text (sides_of f nz) g (site_of f oz) l (grid_answer text (sides_of f nz) g (site_of f oz) l) refl e
 
 pub head-taken : (text : List ℕ) (nz : ℕ) (oz : ℤ) (g : Settings) (l : Lengths) (h : Head) → h ≡ read_head text nz oz g l → accepted h.answer ≡ true → Taken text l h.sides h.settings h.site
 unfolding read_head

@@ -1,9 +1,9 @@
 -- What the reader of an invert answers, and what each lent slice then holds, for every input. Assumes nothing.
-use Rattle.std.specs.Prelude.{◌≡◌, Bool, ◌&&◌, cond, List, ℕ, ◌*◌, eqb, ℤ, pos, negsuc, length, replicate}
+use Rattle.std.specs.Prelude.{◌≡◌, Bool, ◌&&◌, cond, List, ℕ, ◌*◌, eqb, ℤ, pos, negsuc, length, replicate, Result, Ok, Err}
 use Rattle.lattice.specs.declared.Settings.{Settings}
 use Rattle.grid.specs.declared.Sides.{Sides}
-use Rattle.grid.specs.declared.Answer.{Answer}
-use Rattle.grid.specs.declared.Answer.TheVariants.{Done, Refused}
+use Rattle.grid.specs.Answer.{Answer}
+use Rattle.grid.specs.Answer.{Done}
 use Rattle.grid.specs.Grid.{cells_of, sides_good}
 use Rattle.grid.specs.State.{Lent, lent}
 use Rattle.grid.specs.Outcome.{accepted, or_refuse}
@@ -13,15 +13,12 @@ use Rattle.record.specs.Layout.{site_good}
 use Rattle.record.specs.Reading.{refused_head}
 use Rattle.index.specs.Index.{Index, index, words_of}
 use Rattle.heights.specs.declared.header.Frame.{Frame}
-use Rattle.heights.specs.declared.header.Header.{Header}
-use Rattle.heights.specs.declared.header.Header.TheVariants.{Read, Bad}
-use Rattle.heights.specs.declared.rows.Rows.{Rows}
-use Rattle.heights.specs.declared.rows.Rows.TheVariants.{Fine, Unfit}
 use Rattle.numerals.specs.Text.{from_line}
 use Rattle.heights.specs.Header.{header_of}
 use Rattle.heights.specs.Rows.{rows_of}
 use Rattle.invert.specs.declared.testing.Lengths.{Lengths}
 use Rattle.solids.specs.Invert.{invert_flags}
+use Rattle.grid.specs.declared.refusals.Refusal.TheVariants.{BadHeader, BadLength, BadRow, BadSetting, BadSides}
 
 -- ---- the grid that header and host say
 
@@ -46,12 +43,12 @@ set_fits n l =
 
 -- 1, 2, 3
 unfoldable pub given_answer : Sides → Settings → Site → Lengths → Answer → Answer
-given_answer s g t l rest = or_refuse (sides_good s) 1 0 (or_refuse (set_fits (cells_of s) l) 2 0 (or_refuse (site_good g t) 3 0 rest))
+given_answer s g t l rest = or_refuse (sides_good s) BadSides (or_refuse (set_fits (cells_of s) l) BadLength (or_refuse (site_good g t) (BadSetting 0) rest))
 
 -- 20 at the first line that is not as it should be
-abbrev pub rows_answer : Rows → Answer
-rows_answer Fine = Done
-rows_answer (Unfit i) = Refused 20 i
+abbrev pub rows_answer : Result (Unit {0}) ℕ → Answer
+rows_answer (Ok u) = Done
+rows_answer (Err i) = Err (BadRow i)
 
 -- all behind 19: the rows stand from line 7 on
 unfoldable pub grid_answer : List ℕ → Sides → Settings → Site → Lengths → Answer
@@ -64,9 +61,9 @@ abbrev pub told_head : Answer → Sides → Settings → Site → Head
 told_head a s g t = cond (accepted a) (record { answer = Done; sides = s; settings = g; site = t }) (refused_head a)
 
 -- 19 at the first header line that is not as it should be, else what follows
-abbrev pub head_by : Header → List ℕ → ℕ → ℤ → Settings → Lengths → Head
-head_by (Bad i) text nz oz g l = refused_head (Refused 19 i)
-head_by (Read f) text nz oz g l = told_head (grid_answer text (sides_of f nz) g (site_of f oz) l) (sides_of f nz) g (site_of f oz)
+abbrev pub head_by : Result Frame ℕ → List ℕ → ℕ → ℤ → Settings → Lengths → Head
+head_by (Err i) text nz oz g l = refused_head (Err (BadHeader i))
+head_by (Ok f) text nz oz g l = told_head (grid_answer text (sides_of f nz) g (site_of f oz) l) (sides_of f nz) g (site_of f oz)
 
 unfoldable pub read_head : List ℕ → ℕ → ℤ → Settings → Lengths → Head
 read_head text nz oz g l = head_by (header_of text) text nz oz g l

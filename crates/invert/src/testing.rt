@@ -4,10 +4,11 @@ ghost use Rattle.numerals.specs.Text.{from_line};
 ghost use Rattle.heights.specs.Rows.{rows_of};
 ghost use Rattle.invert.specs.Outcome.{count_of, sides_of, site_of, set_fits, given_answer, rows_answer, grid_answer, told_head, read_head};
 
+use grid::Sides;
 use grid::extent::{cells, good_sides};
-use grid::{Answer, Sides};
-use heights::header::{Frame, Header, read_header};
-use heights::rows::{Rows, test_rows};
+use grid::refusals::{Answer, Refusal};
+use heights::header::{Frame, read_header};
+use heights::rows::test_rows;
 use index::words::good_lengths;
 use lattice::Settings;
 use numerals::text::line_at;
@@ -71,18 +72,18 @@ fn set_fits(n: usize, l: Lengths) -> bool
 
 // Tests 1, 2 and 3.
 fn given(s: Sides, g: Settings, t: Site, l: Lengths) -> Answer
-    ensures { result ≡ given_answer s g t l Answer.Done }
+    ensures { result ≡ given_answer s g t l (Ok tt) }
 {
     if !good_sides(s) {
-        return Answer::Refused(1, 0);
+        return Err(Refusal::BadSides);
     }
     if !set_fits(cells(s), l) {
-        return Answer::Refused(2, 0);
+        return Err(Refusal::BadLength);
     }
     if !good_site(g, t) {
-        return Answer::Refused(3, 0);
+        return Err(Refusal::BadSetting(0));
     }
-    Answer::Done
+    Ok(())
 }
 
 // Test 20, of the rows behind a header of six lines.
@@ -93,8 +94,8 @@ fn rows(text: &[u8], nx: usize, ny: usize) -> Answer
 {
     let at = line_at(text, 6);
     match test_rows(text, at, 7, nx, ny) {
-        Rows::Fine => Answer::Done,
-        Rows::Unfit(line) => Answer::Refused(20, line),
+        Ok(()) => Ok(()),
+        Err(line) => Err(Refusal::BadRow(line)),
     }
 }
 
@@ -103,10 +104,7 @@ fn tested(text: &[u8], s: Sides, g: Settings, t: Site, l: Lengths) -> Answer
     requires { 7 + length (from_line 6 text.now) ≤ length text.now }
     ensures { result ≡ grid_answer text.now s g t l }
 {
-    let a = given(s, g, t, l);
-    if !passed(a) {
-        return a;
-    }
+    given(s, g, t, l)?;
     rows(text, s.nx, s.ny)
 }
 
@@ -117,7 +115,7 @@ fn told(a: Answer, s: Sides, g: Settings, t: Site) -> Head
         return refused(a);
     }
     Head {
-        answer: Answer::Done,
+        answer: Ok(()),
         sides: s,
         settings: g,
         site: t,
@@ -129,8 +127,8 @@ pub fn head(text: &[u8], nz: usize, oz: i64, g: Settings, l: Lengths) -> Head
     ensures { result ≡ read_head text.now nz oz g l }
 {
     match read_header(text) {
-        Header::Bad(line) => refused(Answer::Refused(19, line)),
-        Header::Read(f) => {
+        Err(line) => refused(Err(Refusal::BadHeader(line))),
+        Ok(f) => {
             let s = sides_of(f, nz);
             let t = site_of(f, oz);
             told(tested(text, s, g, t, l), s, g, t)

@@ -6,8 +6,8 @@ use mathlib.Core.List.{List, [], ◌∷◌}
 use Prim.Native.Nat.{ℕ}
 use lib.IntN.{ℤ, ◌+ℤ◌, ◌-ℤ◌}
 use Rattle.grid.specs.declared.Sides.{Sides}
-use Rattle.grid.specs.declared.Answer.{Answer}
-use Rattle.grid.specs.declared.Answer.TheVariants.{Done, Refused}
+use Rattle.grid.specs.Answer.{Answer}
+use Rattle.grid.specs.Answer.{Done}
 use Rattle.grid.specs.State.{Lent}
 use Rattle.grid.specs.Demands.{water_of}
 use Rattle.pumps.specs.Three.{number_in}
@@ -19,6 +19,7 @@ use Rattle.isolation.specs.History.{does, asks, Turn, mine, theirs, World, Sound
 use Rattle.isolation.specs.Claims.{Balanced, Conserved}
 use Rattle.isolation.proofs.Done.{done-balance}
 use Rattle.isolation.proofs.Isolated.{act-kept, sound-kept, map-told}
+use Rattle.std.specs.Prelude.{Ok, Err}
 
 -- the map has no part in the balance but by the water
 from-water : (s : Sides) (map map' : List ℕ) (x : Lent) → water_of s (joined s map' x) ≡ water_of s (joined s map x) → balance s (joined s map' x) ≡ balance s (joined s map x)
@@ -31,11 +32,11 @@ wall-balance s map a b add c = go (wall_answer s map a b add c) refl
   where
     go : (x : Answer) → wall_answer s map a b add c ≡ x
         → (balance s (joined s (wall_map s map a b add c) a) ≡ balance s (joined s map a)) × (balance s (joined s (wall_map s map a b add c) b) ≡ balance s (joined s map b))
-    go Done e =
+    go (Ok _) e =
         let k = kept-holds s map a b add c e in
         (from-water s map (wall_map s map a b add c) a k.0.water-is, from-water s map (wall_map s map a b add c) b k.1.water-is)
-    go (Refused n p) e =
-        let q = map-told s map a b add c (Refused n p) e in
+    go (Err refusal) e =
+        let q = map-told s map a b add c (Err refusal) e in
         (ap (λ (m : List ℕ). balance s (joined s m a)) q, ap (λ (m : List ℕ). balance s (joined s m b)) q)
 
 turn-balance : (s : Sides) (t : Turn) (w : World) → Sound s w → Balanced s (after s t w) w

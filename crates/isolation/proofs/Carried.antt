@@ -11,8 +11,8 @@ use lib.ListN.{length, get_or}
 use Rattle.whole.specs.laws.Tab.{get_or-tab}
 use Rattle.lattice.specs.declared.Settings.{Settings}
 use Rattle.grid.specs.declared.Sides.{Sides}
-use Rattle.grid.specs.declared.Answer.{Answer}
-use Rattle.grid.specs.declared.Answer.TheVariants.{Done, Refused}
+use Rattle.grid.specs.Answer.{Answer}
+use Rattle.grid.specs.Answer.{Done}
 use Rattle.grid.specs.Grid.{cells_of, sides_good, grid_of, box}
 use Rattle.grid.specs.State.{Lent, lent, Scene, state_of, lent_of}
 use Rattle.grid.specs.Step.{new_flag, flag_after, beside_filled, filled, emptied, beside_emptied, next}
@@ -36,6 +36,8 @@ use Rattle.schemes.proofs.Tests.{Scheme, tells, passes, other-own}
 use Rattle.isolation.specs.Deeds.{base_of}
 use Rattle.isolation.specs.Claims.{Walls, Rejoins, Carried, CarriedByRun}
 use Rattle.isolation.proofs.Parted.{grid-checked, grid-walls, three-tells, again, own-two, parted-scheme}
+use Rattle.grid.specs.declared.refusals.Refusal.TheVariants.{BadLength, BadSides}
+use Rattle.std.specs.Prelude.{Ok, Err}
 
 -- ---- steps and acts keep the walls
 
@@ -138,7 +140,7 @@ totalled-head a e = ap (λ (l : List ℤ). lent a.flags a.parts a.masses a.fills
 
 checked-carry : (s : Sides) (y : Lent) → check_answer s y ≡ Done → length y.carry ≡ 1
 unfolding check_answer
-checked-carry s y e = (sized (cells_of s) y (passed (lengths_good (cells_of s) y) 2 0 _ (passed (sides_good s) 1 0 _ e).1).0).carry
+checked-carry s y e = (sized (cells_of s) y (passed (lengths_good (cells_of s) y) BadLength _ (passed (sides_good s) BadSides _ e).1).0).carry
 
 module _ (s : Sides) (a : Lent) (g : three_answer s a ≡ Done) where
   reached-lived : (y : Lent) → Reached (box_ground s) (head_of a) y → Lived s a (totalled y a)
@@ -155,8 +157,8 @@ module _ (s : Sides) (a : Lent) (g : three_answer s a ≡ Done) where
     where
       go : (x : Answer) → run_entry steps s p (head_of a) second marks ≡ x
           → Lived s a (totalled (cond (accepted (run_entry steps s p (head_of a) second marks)) (ran s p marks steps (head_of a)).reached (head_of a)) a)
-      go Done e = reached-lived _ (arrived-holds steps s p (head_of a) second marks e).first
-      go (Refused n k) e =
+      go (Ok _) e = reached-lived _ (arrived-holds steps s p (head_of a) second marks e).first
+      go (Err refusal) e =
           subst (λ (x : Answer). Lived s a (totalled (cond (accepted x) (ran s p marks steps (head_of a)).reached (head_of a)) a)) (sym e) (reached-lived (head_of a) base.Reached.start)
 
 pub run-carried : CarriedByRun

@@ -6,8 +6,8 @@ use Prim.Native.Nat.{ℕ}
 use lib.IntN.{ℤ}
 use Rattle.lattice.specs.declared.Settings.{Settings}
 use Rattle.grid.specs.declared.Sides.{Sides}
-use Rattle.grid.specs.declared.Answer.{Answer}
-use Rattle.grid.specs.declared.Answer.TheVariants.{Done, Refused}
+use Rattle.grid.specs.Answer.{Answer}
+use Rattle.grid.specs.Answer.{Done}
 use Rattle.grid.specs.State.{Lent}
 use Rattle.grid.specs.Outcome.{step_answer, step_second, run_first}
 use Rattle.pumps.specs.Acts.{and_then, act_answer, act_set}
@@ -18,6 +18,7 @@ use Rattle.isolation.specs.Deeds.{Deed, step, run, pump, look, base_of, step_tol
 use Rattle.isolation.specs.Claims.{Rejoins}
 use Rattle.isolation.proofs.Carried.{carried-holds, run-carried}
 use Rattle.pumps.proofs.Kept.{then-both}
+use Rattle.std.specs.Prelude.{Ok, Err}
 
 module _ (s : Sides) (map : List ℕ) (a : Lent) (t : tested s map a true ≡ Done) where
   -- of the scheme after a deed
@@ -33,24 +34,24 @@ module _ (s : Sides) (map : List ℕ) (a : Lent) (t : tested s map a true ≡ Do
     where
       go : (x : Answer) → and_then (tested s map a true) (step_answer s g (base_of s map a) second marks) ≡ x
           → Keeps (if_done x (parted s (totalled (step_second s g (base_of s map a) second marks) (joined s map a))) a)
-      go Done e = back _ (carried-holds s map a _ t (stepped start g second marks (then-both (tested s map a true) _ e).1))
-      go (Refused n p) e = (t, refl)
+      go (Ok _) e = back _ (carried-holds s map a _ t (stepped start g second marks (then-both (tested s map a true) _ e).1))
+      go (Err refusal) e = (t, refl)
 
   run-keeps : (steps : ℕ) (g : Settings) (second : Lent) (marks : List ℕ) → Keeps (done s map a (run steps g second marks))
   unfolding done
   run-keeps steps g second marks = go (tested s map a true)
     where
       go : (x : Answer) → Keeps (if_done x (parted s (totalled (run_first steps s g (base_of s map a) second marks) (joined s map a))) a)
-      go Done = back _ (run-carried s map a steps g second marks t)
-      go (Refused n p) = (t, refl)
+      go (Ok _) = back _ (run-carried s map a steps g second marks t)
+      go (Err refusal) = (t, refl)
 
   pump-keeps : (pour : Bool) (c : ℕ) (amount : ℤ) → Keeps (done s map a (pump pour c amount))
   unfolding done pump_told
   pump-keeps pour c amount = go (and_then (tested s map a true) (act_answer pour s c amount (joined s map a))) refl
     where
       go : (x : Answer) → and_then (tested s map a true) (act_answer pour s c amount (joined s map a)) ≡ x → Keeps (if_done x (parted s (act_set pour c amount (joined s map a))) a)
-      go Done e = back _ (carried-holds s map a _ t (acted start pour c amount (then-both (tested s map a true) _ e).1))
-      go (Refused n p) e = (t, refl)
+      go (Ok _) e = back _ (carried-holds s map a _ t (acted start pour c amount (then-both (tested s map a true) _ e).1))
+      go (Err refusal) e = (t, refl)
 
   look-keeps : (f : Lent → List ℤ) → Keeps (done s map a (look f))
   unfolding done

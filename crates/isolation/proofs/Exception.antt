@@ -6,8 +6,8 @@ use mathlib.Core.List.{List, [], ◌∷◌}
 use Prim.Native.Nat.{ℕ}
 use lib.ListN.{set}
 use Rattle.grid.specs.declared.Sides.{Sides}
-use Rattle.grid.specs.declared.Answer.{Answer}
-use Rattle.grid.specs.declared.Answer.TheVariants.{Done, Refused}
+use Rattle.grid.specs.Answer.{Answer}
+use Rattle.grid.specs.Answer.{Done}
 use Rattle.grid.specs.State.{Lent}
 use Rattle.grid.specs.Outcome.{accepted}
 use Rattle.schemes.specs.Outcome.{if_done}
@@ -17,6 +17,7 @@ use Rattle.isolation.specs.History.{does, asks, Turn, mine, theirs, World, Sound
 use Rattle.isolation.specs.Courses.{Course, doing, asking, undergoing, course, grants, Until18, end, same, first-18, second-18}
 use Rattle.isolation.specs.Claims.{Excepted}
 use Rattle.isolation.proofs.Isolated.{act-kept, map-told, map_is, answer-is, replayed}
+use Rattle.std.specs.Prelude.{Ok, Err}
 
 -- the replay by course and grants
 abbrev answers : Sides → List Course → List Bool → List ℕ → Lent → List Reply
@@ -64,8 +65,8 @@ fair s (theirs (asks add c) ∷ h) w k = unseen s add c h w (fair s h (after s (
 
         go : (x : Answer) → wall_answer s w.map w.other w.own add c ≡ x
             → Fair s (course (if_done x (changed add c ∷ l) l)) (grants (if_done x (changed add c ∷ l) l)) w.map w.own
-        go Done e = subst (λ (m : List ℕ). Fair s (course l) (grants l) m w.own) (map-told s w.map w.other w.own add c Done e) r
-        go (Refused n p) e = subst (λ (m : List ℕ). Fair s (course l) (grants l) m w.own) (map-told s w.map w.other w.own add c (Refused n p) e) r
+        go (Ok _) e = subst (λ (m : List ℕ). Fair s (course l) (grants l) m w.own) (map-told s w.map w.other w.own add c Done e) r
+        go (Err refusal) e = subst (λ (m : List ℕ). Fair s (course l) (grants l) m w.own) (map-told s w.map w.other w.own add c (Err refusal) e) r
 
 -- the same course, whatever was granted
 until : (s : Sides) (d : List Course) (f g : List Bool) (map : List ℕ) (a : Lent) → Fair s d f map a → Fair s d g map a → Until18 (answers s d f map a) (answers s d g map a)
@@ -81,14 +82,14 @@ until s (asking add c ∷ d) (true ∷ f) (false ∷ g) map a u v = withheld (al
     -- alone accepts, so a refusal is an 18
     withheld : (x : Answer) → true ≡ accepted (answer_if true x c)
         → Until18 (answered (answer_if true x c) ∷ answers s d f (map_if true map add c) a) (answered (answer_if false x c) ∷ answers s d g (map_if false map add c) a)
-    withheld Done e = second-18 c (answers s d f (map_if true map add c) a) (answers s d g (map_if false map add c) a)
-    withheld (Refused n p) e = absurd (true≢false e)
+    withheld (Ok _) e = second-18 c (answers s d f (map_if true map add c) a) (answers s d g (map_if false map add c) a)
+    withheld (Err refusal) e = absurd (true≢false e)
 until s (asking add c ∷ d) (false ∷ f) (true ∷ g) map a u v = withheld (alone_answer s map a add c) v.0
   where
     withheld : (x : Answer) → true ≡ accepted (answer_if true x c)
         → Until18 (answered (answer_if false x c) ∷ answers s d f (map_if false map add c) a) (answered (answer_if true x c) ∷ answers s d g (map_if true map add c) a)
-    withheld Done e = first-18 c (answers s d f (map_if false map add c) a) (answers s d g (map_if true map add c) a)
-    withheld (Refused n p) e = absurd (true≢false e)
+    withheld (Ok _) e = first-18 c (answers s d f (map_if false map add c) a) (answers s d g (map_if true map add c) a)
+    withheld (Err refusal) e = absurd (true≢false e)
 
 pub exception-holds : Excepted
 exception-holds s h k v w sv sw m o e =

@@ -8,8 +8,8 @@ use mathlib.Core.List.{List, [], ◌∷◌}
 use Prim.Native.Nat.{ℕ}
 use lib.ListN.{set}
 use Rattle.grid.specs.declared.Sides.{Sides}
-use Rattle.grid.specs.declared.Answer.{Answer}
-use Rattle.grid.specs.declared.Answer.TheVariants.{Done, Refused}
+use Rattle.grid.specs.Answer.{Answer}
+use Rattle.grid.specs.Answer.{Done}
 use Rattle.grid.specs.State.{Lent}
 use Rattle.grid.specs.Outcome.{accepted}
 use Rattle.schemes.specs.Scheme.{tested}
@@ -21,6 +21,7 @@ use Rattle.isolation.specs.Deeds.{Reply, answered, reply}
 use Rattle.isolation.specs.History.{does, asks, Turn, mine, theirs, World, Sound, after, reached, told, Seen, changed, seen, map_if, answer_if, replay_told, replay_own, replay_map}
 use Rattle.isolation.specs.Claims.{Isolated}
 use Rattle.isolation.proofs.Done.{done-kept}
+use Rattle.std.specs.Prelude.{Ok, Err}
 
 -- ---- every act keeps both schemes sound
 
@@ -34,9 +35,9 @@ wall-kept : (s : Sides) (map : List ℕ) (a b : Lent) (add : Bool) (c : ℕ) →
 wall-kept s map a b add c t u = go (wall_answer s map a b add c) refl
   where
     go : (x : Answer) → wall_answer s map a b add c ≡ x → (tested s (wall_map s map a b add c) a true ≡ Done) × (tested s (wall_map s map a b add c) b true ≡ Done)
-    go Done e = let k = kept-holds s map a b add c e in (k.0.checked, k.1.checked)
-    go (Refused n p) e =
-        let q = map-told s map a b add c (Refused n p) e in
+    go (Ok _) e = let k = kept-holds s map a b add c e in (k.0.checked, k.1.checked)
+    go (Err refusal) e =
+        let q = map-told s map a b add c (Err refusal) e in
         (subst (λ (m : List ℕ). tested s m a true ≡ Done) (sym q) t, subst (λ (m : List ℕ). tested s m b true ≡ Done) (sym q) u)
 
 pub act-kept : (s : Sides) (t : Turn) (w : World) → Sound s w → Sound s (after s t w)
@@ -52,9 +53,9 @@ sound-kept s (t ∷ h) w k = sound-kept s h (after s t w) (act-kept s t w k)
 
 -- ---- an answer to a question, from whether it was accepted
 answer-cases : (x : Answer) (way : Bool) (c : ℕ) → unless_way x way c ≡ answer_if (accepted (unless_way x way c)) x c
-answer-cases (Refused n p) way c = refl
-answer-cases Done true c = refl
-answer-cases Done false c = refl
+answer-cases (Err refusal) way c = refl
+answer-cases (Ok _) true c = refl
+answer-cases (Ok _) false c = refl
 
 pub answer-is : (s : Sides) (map : List ℕ) (a b : Lent) (add : Bool) (c : ℕ) → tested s map b true ≡ Done
     → wall_answer s map a b add c ≡ answer_if (accepted (wall_answer s map a b add c)) (alone_answer s map a add c) c
@@ -67,8 +68,8 @@ unfolding wall_map
 map_is s map a b add c = go (wall_answer s map a b add c)
   where
     go : (x : Answer) → if_done x (set map c (wanted add)) map ≡ map_if (accepted x) map add c
-    go Done = refl
-    go (Refused n p) = refl
+    go (Ok _) = refl
+    go (Err refusal) = refl
 
 -- ---- the history is the replay of what is seen
 pub record Replayed (s : Sides) (h : List Turn) (w : World) (e : List Seen) (map : List ℕ) (a : Lent) : Type 0 where
@@ -110,11 +111,11 @@ replayed s (theirs (asks add c) ∷ h) w k =
 
         go : (x : Answer) → wall_answer s w.map w.other w.own add c ≡ x
             → Replayed s (theirs (asks add c) ∷ h) w (if_done x (changed add c ∷ seen s h w') (seen s h w')) w.map w.own
-        go Done e =
+        go (Ok _) e =
             let v = subst (λ (m : List ℕ). Replayed s h w' (seen s h w') m w.own) (map-told s w.map w.other w.own add c Done e) r in
             record { answers = v.answers; own = v.own; map_same = v.map_same }
-        go (Refused n p) e =
-            let v = subst (λ (m : List ℕ). Replayed s h w' (seen s h w') m w.own) (map-told s w.map w.other w.own add c (Refused n p) e) r in
+        go (Err refusal) e =
+            let v = subst (λ (m : List ℕ). Replayed s h w' (seen s h w') m w.own) (map-told s w.map w.other w.own add c (Err refusal) e) r in
             record { answers = v.answers; own = v.own; map_same = v.map_same }
 
 -- ---- the theorem

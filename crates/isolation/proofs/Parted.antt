@@ -14,7 +14,7 @@ use Rattle.whole.specs.Fold.{tab}
 use Rattle.whole.specs.laws.Tab.{length-tab, get_or-tab, tab-cong, tab-self}
 use Rattle.lattice.specs.Lattice.{d3q19}
 use Rattle.grid.specs.declared.Sides.{Sides}
-use Rattle.grid.specs.declared.Answer.TheVariants.{Done}
+use Rattle.grid.specs.Answer.{Done}
 use Rattle.grid.specs.Grid.{cells_of, sides_good, grid_of, box}
 use Rattle.grid.specs.State.{Lent, lent, State, state_of}
 use Rattle.grid.specs.Outcome.{or_refuse, lengths_good, good_answer, check_answer}
@@ -25,6 +25,7 @@ use Rattle.pumps.proofs.Checked.{good-done, head-state, head-sized, has-passed}
 use Rattle.schemes.specs.Scheme.{wall_at, own_at, joined_flag, own_flag, joined_flags, parted_flags, joined, parted, mark_good}
 use Rattle.schemes.proofs.Tests.{Scheme, passes, flag, own-low}
 use Rattle.isolation.specs.Claims.{Walls, walls_of, Begun}
+use Rattle.grid.specs.declared.refusals.Refusal.TheVariants.{BadLength, BadSides, BadState}
 
 -- ---- one flag
 
@@ -75,11 +76,11 @@ three-flags s x flags h e =
 -- what the check with three numbers tells of a set
 pub three-tells : (s : Sides) (x : Lent) → three_answer s x ≡ Done → three_lengths (cells_of s) x ≡ true
 unfolding three_answer
-three-tells s x e = (passed (three_lengths (cells_of s) x) 2 0 _ (passed (sides_good s) 1 0 _ e).1).0
+three-tells s x e = (passed (three_lengths (cells_of s) x) BadLength _ (passed (sides_good s) BadSides _ e).1).0
 
 checked-good : (s : Sides) (x : Lent) → check_answer s x ≡ Done → good_answer d3q19 (grid_of s) (state_of 18 x) Done ≡ Done
 unfolding check_answer
-checked-good s x e = (passed (lengths_good (cells_of s) x) 2 0 _ (passed (sides_good s) 1 0 _ e).1).1
+checked-good s x e = (passed (lengths_good (cells_of s) x) BadLength _ (passed (sides_good s) BadSides _ e).1).1
 
 three-good : (s : Sides) (x : Lent) → three_answer s x ≡ Done → good_answer d3q19 (grid_of s) (state_of 18 x) Done ≡ Done
 three-good s x e = ap (λ (t : State). good_answer d3q19 (grid_of s) t Done) (sym (head-state s x)) ∙ checked-good s (head_of x) (base-accepts s x e)
@@ -92,8 +93,8 @@ module _ (s : Sides) (map : List ℕ) (a : Lent) (h : Scheme s map a) where
   grid-checked =
       let flags = tab (cells_of s) (λ c. joined_flag (wall_at map c) (own_at a.flags c)) in
       rw (h.sides, three-flags s a flags h.sized (length-tab (cells_of s) (λ c. joined_flag (wall_at map c) (own_at a.flags c))))
-      (good-done d3q19 (grid_of s) (state_of 18 (lent flags a.parts a.masses a.fills a.carry)) (or_refuse (totals_good (number_in a 1) (number_in a 2)) 6 (cells_of s) Done) h.grid
-      ∙ ap (λ (b : Bool). or_refuse b 6 (cells_of s) Done) h.totals)
+      (good-done d3q19 (grid_of s) (state_of 18 (lent flags a.parts a.masses a.fills a.carry)) (or_refuse (totals_good (number_in a 1) (number_in a 2)) (BadState (cells_of s)) Done) h.grid
+      ∙ ap (λ (b : Bool). or_refuse b (BadState (cells_of s)) Done) h.totals)
 
   grid-flag : (c : ℕ) → c < cells_of s → get_or (joined s map a).flags c 3 ≡ flag s map a c
   unfolding joined joined_flags

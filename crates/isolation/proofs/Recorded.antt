@@ -11,8 +11,8 @@ use lib.ListN.{length}
 use Rattle.lattice.specs.Lattice.{Lattice, d3q19}
 use Rattle.lattice.specs.declared.Settings.{Settings}
 use Rattle.grid.specs.declared.Sides.{Sides}
-use Rattle.grid.specs.declared.Answer.{Answer}
-use Rattle.grid.specs.declared.Answer.TheVariants.{Done}
+use Rattle.grid.specs.Answer.{Answer}
+use Rattle.grid.specs.Answer.{Done}
 use Rattle.grid.specs.Grid.{Grid, cells_of, sides_good, grid_of}
 use Rattle.grid.specs.State.{Lent, State, state_of}
 use Rattle.grid.specs.Outcome.{or_refuse, good_answer}
@@ -32,6 +32,7 @@ use Rattle.schemes.specs.Scheme.{joined, parted}
 use Rattle.schemes.proofs.Tests.{tells}
 use Rattle.isolation.specs.Claims.{walls_of, Begins, Recorded}
 use Rattle.isolation.proofs.Parted.{parts_again, begun-holds}
+use Rattle.grid.specs.declared.refusals.Refusal.TheVariants.{BadFlag, BadLayer, BadLength, BadRoom, BadSetting, BadSides, BadState}
 
 pub recorded-holds : Recorded
 recorded-holds s g t map a room b e w fits =
@@ -51,24 +52,24 @@ Rewritten =
 good-end : (L : Lattice) (G : Grid) (t : State) (rest : Answer) → good_answer L G t rest ≡ Done → (good_answer L G t Done ≡ Done) × (rest ≡ Done)
 unfolding good_answer
 good-end L G t rest e =
-    let x = none_found G.cells 4 _ _ e in
-    let y = none_found G.cells 5 _ _ x.1 in
-    let z = none_found (suc G.cells) 6 _ rest y.1 in
-    (skip G.cells 4 _ _ x.0 ∙ skip G.cells 5 _ _ y.0 ∙ skip (suc G.cells) 6 _ Done z.0, z.1)
+    let x = none_found G.cells BadFlag _ _ e in
+    let y = none_found G.cells BadLayer _ _ x.1 in
+    let z = none_found (suc G.cells) BadState _ rest y.1 in
+    (skip G.cells BadFlag _ _ x.0 ∙ skip G.cells BadLayer _ _ y.0 ∙ skip (suc G.cells) BadState _ Done z.0, z.1)
 
 -- what the writer accepts, the check accepts
 write_checked : (s : Sides) (g : Settings) (t : Site) (a : Lent) (room : List ℕ) → write_answer s g t a room ≡ Done → three_answer s a ≡ Done
 unfolding write_answer three_answer
 write_checked s g t a room e =
-    let rest = or_refuse (leb (record_length s a) (length room)) 12 (record_length s a) Done in
-    let x = passed (sides_good s) 1 0 _ e in
-    let y = passed (three_lengths (cells_of s) a) 2 0 _ x.1 in
-    let z = passed (site_good g t) 3 0 _ y.1 in
-    let k = good-end d3q19 (grid_of s) (state_of 18 a) (or_refuse (totals_good (number_in a 1) (number_in a 2)) 6 (cells_of s) rest) z.1 in
-    let p = passed (totals_good (number_in a 1) (number_in a 2)) 6 (cells_of s) rest k.1 in
+    let rest = or_refuse (leb (record_length s a) (length room)) (BadRoom (record_length s a)) Done in
+    let x = passed (sides_good s) BadSides _ e in
+    let y = passed (three_lengths (cells_of s) a) BadLength _ x.1 in
+    let z = passed (site_good g t) (BadSetting 0) _ y.1 in
+    let k = good-end d3q19 (grid_of s) (state_of 18 a) (or_refuse (totals_good (number_in a 1) (number_in a 2)) (BadState (cells_of s)) rest) z.1 in
+    let p = passed (totals_good (number_in a 1) (number_in a 2)) (BadState (cells_of s)) rest k.1 in
     rw (x.0, y.0)
-    (good-done d3q19 (grid_of s) (state_of 18 a) (or_refuse (totals_good (number_in a 1) (number_in a 2)) 6 (cells_of s) Done) k.0
-    ∙ ap (λ (b : Bool). or_refuse b 6 (cells_of s) Done) p.0)
+    (good-done d3q19 (grid_of s) (state_of 18 a) (or_refuse (totals_good (number_in a 1) (number_in a 2)) (BadState (cells_of s)) Done) k.0
+    ∙ ap (λ (b : Bool). or_refuse b (BadState (cells_of s)) Done) p.0)
 
 pub rewritten-holds : Rewritten
 rewritten-holds r b bytes done =

@@ -1,9 +1,11 @@
 -- What one designer does and what the map undergoes at the other's asking, without whether the own questions were granted: two histories that agree on
 -- these may differ, but only from a refusal with 18 on that the one is given where the other is accepted. Assumes nothing.
 use Rattle.std.specs.Prelude.{List, [], ◌∷◌, Bool, ℕ}
-use Rattle.grid.specs.declared.Answer.TheVariants.{Done, Refused}
+use Rattle.grid.specs.Answer.{Done}
 use Rattle.isolation.specs.Deeds.{Deed, Reply, answered}
 use Rattle.isolation.specs.History.{Seen, did, asked, changed}
+use Rattle.grid.specs.declared.refusals.Refusal.TheVariants.{InTheWay}
+use Rattle.std.specs.Prelude.{Err}
 
 pub data Course : Type 0 where
   doing : Deed → Course
@@ -28,5 +30,5 @@ grants (changed add c ∷ e) = grants e
 pub data Until18 : List Reply → List Reply → Type 0 where
   end : Until18 [] []
   same : (x : Reply) {l m : List Reply} → Until18 l m → Until18 (x ∷ l) (x ∷ m)
-  first-18 : (c : ℕ) (l m : List Reply) → Until18 (answered (Refused 18 c) ∷ l) (answered Done ∷ m)
-  second-18 : (c : ℕ) (l m : List Reply) → Until18 (answered Done ∷ l) (answered (Refused 18 c) ∷ m)
+  first-18 : (c : ℕ) (l m : List Reply) → Until18 (answered (Err (InTheWay c)) ∷ l) (answered Done ∷ m)
+  second-18 : (c : ℕ) (l m : List Reply) → Until18 (answered Done ∷ l) (answered (Err (InTheWay c)) ∷ m)

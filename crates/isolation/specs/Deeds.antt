@@ -3,10 +3,10 @@
 use Rattle.std.specs.Prelude.{Bool, true, List, [], ℕ, ℤ, pos, get_or}
 use Rattle.lattice.specs.declared.Settings.{Settings}
 use Rattle.grid.specs.declared.Sides.{Sides}
-use Rattle.grid.specs.declared.Answer.{Answer}
+use Rattle.grid.specs.Answer.{Answer}
 use Rattle.grid.specs.State.{Lent}
 use Rattle.grid.specs.Outcome.{step_answer, step_second, run_count, run_answer, run_first}
-use Rattle.pumps.specs.declared.Acted.{Acted}
+use Rattle.pumps.specs.Acts.{Acted}
 use Rattle.pumps.specs.Three.{head_of}
 use Rattle.pumps.specs.Acts.{and_then, moved_of, act_answer, act_set, acted_by}
 use Rattle.pumps.specs.Demands.{totalled}

@@ -2,14 +2,16 @@
 -- the scheme that is looked at, `other` the other one. Assumes nothing.
 use Rattle.std.specs.Prelude.{◌≡◌, Bool, true, ◌&&◌, not, cond, List, [], ◌∷◌, ℕ, set}
 use Rattle.grid.specs.declared.Sides.{Sides}
-use Rattle.grid.specs.declared.Answer.{Answer}
-use Rattle.grid.specs.declared.Answer.TheVariants.{Done, Refused}
+use Rattle.grid.specs.Answer.{Answer}
+use Rattle.grid.specs.Answer.{Done}
 use Rattle.grid.specs.State.{Lent}
 use Rattle.grid.specs.Outcome.{accepted}
 use Rattle.schemes.specs.Scheme.{tested}
 use Rattle.schemes.specs.Outcome.{if_done}
 use Rattle.walls.specs.Outcome.{wanted, wall_answer, wall_map, alone_answer}
 use Rattle.isolation.specs.Deeds.{Deed, Reply, answered, reply, done}
+use Rattle.grid.specs.declared.refusals.Refusal.TheVariants.{InTheWay}
+use Rattle.std.specs.Prelude.{Err}
 
 -- a deed on the own scheme; or the question for a wall in a cell (true), or for the wall there to be taken out
 pub data Act : Type 0 where
@@ -79,7 +81,7 @@ map_if ok map add c = cond ok (set map c (wanted add)) map
 
 -- the answer to a change: the one that is given if nobody else is there, but 18 where that one accepts and the change was not accepted
 abbrev pub answer_if : Bool → Answer → ℕ → Answer
-answer_if ok alone c = cond (accepted alone && not ok) (Refused 18 c) alone
+answer_if ok alone c = cond (accepted alone && not ok) (Err (InTheWay c)) alone
 
 unfoldable pub replay_told : Sides → List Seen → List ℕ → Lent → List Reply
 replay_told s [] map a = []

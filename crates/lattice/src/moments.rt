@@ -19,10 +19,8 @@ pub fn density(f: [i32; 19]) -> i32
     ensures { result ≡ density d3q19 (parts_of f) }
 {
     let mut r = f[0];
-    let mut i = 1;
-    while i < 19 {
-        r += f[i] + f[i + 1];
-        i += 2;
+    for i in 1..19 {
+        r += f[i];
     }
     r
 }

@@ -21,11 +21,9 @@ fn inside(v: i32) -> bool
 pub fn all_inside(f: [i32; 19]) -> bool
     ensures { result ≡ all 19 (λ k. part_good (parts_of f k)) }
 {
-    let mut w = inside(f[0]);
-    let mut i = 1;
-    while i < 19 {
-        w = w & inside(f[i]) & inside(f[i + 1]);
-        i += 2;
+    let mut w = true;
+    for v in f {
+        w = w & inside(v);
     }
     w
 }
@@ -33,11 +31,9 @@ pub fn all_inside(f: [i32; 19]) -> bool
 pub fn all_zero(f: [i32; 19]) -> bool
     ensures { result ≡ all 19 (λ k. eq_z (parts_of f k) (pos 0)) }
 {
-    let mut w = f[0] == 0;
-    let mut i = 1;
-    while i < 19 {
-        w = w & (f[i] == 0) & (f[i + 1] == 0);
-        i += 2;
+    let mut w = true;
+    for v in f {
+        w = w & (v == 0);
     }
     w
 }

@@ -6,7 +6,7 @@ use Prim.Native.Nat.{ℕ, ◌*◌, ◌≤◌}
 use borrow.Author.Tests.{leb-true, le-leb, lt-leb}
 use lib.Dec.{leb}
 use lib.ListN.{length}
-use Rattle.grid.specs.declared.Answer.TheVariants.{Done}
+use Rattle.grid.specs.Answer.{Done}
 use Rattle.grid.specs.Grid.{sides_good, grid_of}
 use Rattle.grid.specs.Good.{bad_flag}
 use Rattle.grid.specs.Outcome.{accepted, next_of}
@@ -20,17 +20,18 @@ use Rattle.counts.specs.Counts.{line_of}
 use Rattle.lines.specs.Told.{record_answer, state_before, step_of, state_after, refusal, told_of}
 use Rattle.lines.specs.Demands.{TooLong, TooMany, AsRead, RoomTaken, Repeated}
 use Rattle.lines.proofs.Rooms.{answer_with, room_whole}
+use Rattle.grid.specs.declared.refusals.Refusal.TheVariants.{BadEnd, BadLength, BadSides}
 
 pub too_long : TooLong
 unfolding record_answer
-too_long r h = or-fail 10 65536 (answer_with r 862) (lt-leb (length r) 65536 h)
+too_long r h = or-fail (BadEnd 65536) (answer_with r 862) (lt-leb (length r) 65536 h)
 
 short : (r : List ℕ) → length r ≤ 65536 → record_answer r ≡ answer_with r 862
 unfolding record_answer
-short r h = or-pass 10 65536 (answer_with r 862) (le-leb (length r) 65536 h)
+short r h = or-pass (BadEnd 65536) (answer_with r 862) (le-leb (length r) 65536 h)
 
 pub too_many : TooMany
-too_many r l h g m = short r l ∙ whole-there r 1 0 3 4 _ h ∙ or-pass 1 0 _ g ∙ or-fail 2 0 _ (lt-leb (cells_in r) 862 m)
+too_many r l h g m = short r l ∙ whole-there r 1 0 3 4 _ h ∙ or-pass BadSides _ g ∙ or-fail BadLength _ (lt-leb (cells_in r) 862 m)
 
 pub as_read : AsRead
 unfolding read_answer shape_answer
@@ -44,7 +45,7 @@ room-taken r e =
     let good = sides_good (sides_in r) in
     let fit = leb (cells_in r) 862 in
     let bad = bad_flag (grid_of (sides_in r)) (flag_in r) in
-    let p = passed (leb (length r) 65536) 10 65536 (answer_with r 862) e in
+    let p = passed (leb (length r) 65536) (BadEnd 65536) (answer_with r 862) e in
     let c =
     (chain-both (shapes_on r counts (totals_in r) (cells_in r) (interfaces_in r) (19 * liquids_in r) good fit bad) (λ rest. content_answer r)
     (chain-shapes r counts (totals_in r) (cells_in r) (interfaces_in r) (19 * liquids_in r) good fit bad) (done-accepted (answer_with r 862) p.1)).0 in

@@ -11,8 +11,8 @@ use mir.Val.{to_z, of_z, SFits}
 use mir.ValLaws.{to_z-of_z}
 use Rattle.lattice.specs.declared.Settings.{Settings}
 use Rattle.grid.specs.declared.Sides.{Sides}
-use Rattle.grid.specs.declared.Answer.{Answer}
-use Rattle.grid.specs.declared.Answer.TheVariants.{Done}
+use Rattle.grid.specs.Answer.{Answer}
+use Rattle.grid.specs.Answer.{Done}
 use Rattle.grid.specs.State.{Lent, lent, lent_of}
 use Rattle.grid.specs.Outcome.{accepted}
 use Rattle.grid.specs.Promise.{Stepped}

@@ -5,8 +5,8 @@ use mathlib.Core.List.{List}
 use Prim.Native.Nat.{ℕ, ◌*◌, ◌≤◌, ◌<◌}
 use borrow.Author.Tests.{leb-true, le-leb, lt-leb, eq-eqb}
 use lib.ListN.{length}
-use Rattle.grid.specs.declared.Answer.{Answer}
-use Rattle.grid.specs.declared.Answer.TheVariants.{Done, Refused}
+use Rattle.grid.specs.Answer.{Answer}
+use Rattle.grid.specs.Answer.{Done}
 use Rattle.grid.specs.State.{Lent}
 use Rattle.grid.specs.Outcome.{accepted, lengths_good}
 use Rattle.record.specs.Reading.{sides_in, settings_in, cells_in, read_answer}
@@ -19,6 +19,8 @@ use Rattle.lines.specs.Told.{record_answer, state_before, step_of, state_after, 
 use Rattle.lines.specs.inner.Playing.{line_by, stepped_by, told_by}
 use Rattle.lines.proofs.Rooms.{room_whole, fits-room, Roomy, read_is}
 use Rattle.lines.proofs.Stepping.{line-is, before-carry, step_is, second_is, after-carry}
+use Rattle.grid.specs.declared.refusals.Refusal.TheVariants.{BadEnd}
+use Rattle.std.specs.Prelude.{Err}
 
 -- the second set and the marks have that room too
 pub record Second (r : List ℕ) (most : ℕ) (b : Lent) (marks : List ℕ) : Type 0 where
@@ -35,14 +37,14 @@ unfolding lengths_good
 sized n b f p m i c = rw (eq-eqb _ _ f, eq-eqb _ _ p, eq-eqb _ _ m, eq-eqb _ _ i, eq-eqb _ _ c) refl
 
 -- too many bytes
-pub told_long : (r : List ℕ) → 65536 < length r → refusal (Refused 10 65536) ≡ told_of r
+pub told_long : (r : List ℕ) → 65536 < length r → refusal (Err (BadEnd 65536)) ≡ told_of r
 unfolding told_of record_answer
 told_long r h = rw (lt-leb (length r) 65536 h) refl
 
 module _ (r : List ℕ) (a b : Lent) (marks : List ℕ) (few : length r ≤ 65536) (roomy : Roomy r 862 a) (second : Second r 862 b marks) where
   answer-is : read_answer r a ≡ record_answer r
   unfolding record_answer
-  answer-is = read_is r 862 a roomy ∙ sym (or-pass 10 65536 _ (le-leb (length r) 65536 few))
+  answer-is = read_is r 862 a roomy ∙ sym (or-pass (BadEnd 65536) _ (le-leb (length r) 65536 few))
 
   accepts : accepted (read_answer r a) ≡ true
       → stepped_by (sides_in r) (settings_in r) (state_before r) b marks ≡ record { read = Done; before = line_of (state_before r); step = step_of r; after = line_of (state_after r) }

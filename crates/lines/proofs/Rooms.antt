@@ -11,8 +11,8 @@ use lib.Dec.{leb}
 use lib.ListN.{length, get_or, take}
 use lib.Seq.{length-take-le}
 use Rattle.whole.specs.laws.Order.{≤-or}
-use Rattle.grid.specs.declared.Answer.{Answer}
-use Rattle.grid.specs.declared.Answer.TheVariants.{Done}
+use Rattle.grid.specs.Answer.{Answer}
+use Rattle.grid.specs.Answer.{Done}
 use Rattle.grid.specs.Grid.{cells_of, sides_good, grid_of}
 use Rattle.grid.specs.Good.{bad_flag}
 use Rattle.grid.specs.State.{Lent}
@@ -25,6 +25,7 @@ use Rattle.record.proofs.Numbers.{four}
 use Rattle.record.proofs.Answers.{whole-refused, whole-passed, whole-held}
 use Rattle.console.specs.Room.{low_cells, room_for}
 use Rattle.console.proofs.Rooms.{room-over, room-enough}
+use Rattle.grid.specs.declared.refusals.Refusal.TheVariants.{BadLength, BadSides}
 
 low_byte : (b x n : ℕ) → n ≡ b + 256 * x → n ≤ 128 → b ≡ n
 low_byte b x n e h = omega arith
@@ -72,8 +73,8 @@ module _ (r : List ℕ) (h : Held r 0 3 4) (g : sides_good (sides_in r) ≡ true
           rw (ne_eqb p (19 * n) (λ q. omega (arith, ep, e, q, l)), lt-leb n most l) refl
 
 -- ---- the reader's answer in slices of so much room
-under : (t x y : Bool) (rest : Answer) → (t ≡ true → x ≡ y) → or_refuse t 1 0 (or_refuse x 2 0 rest) ≡ or_refuse t 1 0 (or_refuse y 2 0 rest)
-under true x y rest f = ap (λ (b : Bool). or_refuse b 2 0 rest) (f refl)
+under : (t x y : Bool) (rest : Answer) → (t ≡ true → x ≡ y) → or_refuse t BadSides (or_refuse x BadLength rest) ≡ or_refuse t BadSides (or_refuse y BadLength rest)
+under true x y rest f = ap (λ (b : Bool). or_refuse b BadLength rest) (f refl)
 under false x y rest f = refl
 
 opens-same : (r : List ℕ) (t x y : Bool) (rest : Answer) → (Held r 0 3 4 → t ≡ true → x ≡ y) → opens_on r counts t x rest ≡ opens_on r counts t y rest
@@ -81,10 +82,10 @@ opens-same r t x y rest f = go (accepted (whole r 1 0 3 4 Done)) refl
   where
     go : (b : Bool) → accepted (whole r 1 0 3 4 Done) ≡ b → opens_on r counts t x rest ≡ opens_on r counts t y rest
     go true e =
-        whole-passed r 1 0 3 4 (or_refuse t 1 0 (or_refuse x 2 0 rest)) e
+        whole-passed r 1 0 3 4 (or_refuse t BadSides (or_refuse x BadLength rest)) e
         ∙ under t x y rest (f (whole-held r 1 0 3 4 e))
-        ∙ sym (whole-passed r 1 0 3 4 (or_refuse t 1 0 (or_refuse y 2 0 rest)) e)
-    go false e = whole-refused r 1 0 3 4 (or_refuse t 1 0 (or_refuse x 2 0 rest)) e ∙ sym (whole-refused r 1 0 3 4 (or_refuse t 1 0 (or_refuse y 2 0 rest)) e)
+        ∙ sym (whole-passed r 1 0 3 4 (or_refuse t BadSides (or_refuse y BadLength rest)) e)
+    go false e = whole-refused r 1 0 3 4 (or_refuse t BadSides (or_refuse x BadLength rest)) e ∙ sym (whole-refused r 1 0 3 4 (or_refuse t BadSides (or_refuse y BadLength rest)) e)
 
 -- the reader's tests, of which 2 asks that N be at most `most`
 abbrev pub answer_with : List ℕ → ℕ → Answer

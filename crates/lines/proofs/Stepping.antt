@@ -14,8 +14,8 @@ use Rattle.whole.specs.Fold.{first}
 use Rattle.whole.specs.laws.Tab.{length-tab}
 use Rattle.lattice.specs.Lattice.{d3q19}
 use Rattle.lattice.specs.Cell.{edge_good, coordinate_good, carry_good}
-use Rattle.grid.specs.declared.Answer.{Answer}
-use Rattle.grid.specs.declared.Answer.TheVariants.{Done}
+use Rattle.grid.specs.Answer.{Answer}
+use Rattle.grid.specs.Answer.{Done}
 use Rattle.grid.specs.Grid.{cells_of, grid_of, box}
 use Rattle.grid.specs.State.{Lent, Scene, state_of, lent_of}
 use Rattle.grid.specs.Step.{unsteady, next}
@@ -35,9 +35,10 @@ use Rattle.counts.specs.Counts.{mass_sum, line_with, line_of}
 use Rattle.lines.specs.Told.{state_before, step_of, state_after}
 use Rattle.counts.specs.inner.Totals.{total_by}
 use Rattle.lines.specs.inner.Playing.{line_by}
+use Rattle.grid.specs.declared.refusals.Refusal.TheVariants.{BadFlag, BadFlow, BadLayer, BadLength, BadNext, BadSetting, BadSides, BadState}
 
 -- a move is accepted, or refused with 7 or 8
-by_tests : (t u : Bool) (p q : ℕ) (x y z : Lent) → by_answer (or_refuse t 7 p (or_refuse u 8 q Done)) x y z ≡ cond (accepted (or_refuse t 7 p (or_refuse u 8 q Done))) x y
+by_tests : (t u : Bool) (p q : ℕ) (x y z : Lent) → by_answer (or_refuse t (BadFlow p) (or_refuse u (BadNext q) Done)) x y z ≡ cond (accepted (or_refuse t (BadFlow p) (or_refuse u (BadNext q) Done))) x y
 by_tests true true p q x y z = refl
 by_tests true false p q x y z = refl
 by_tests false u p q x y z = refl
@@ -54,8 +55,8 @@ moved S x y z =
 moved-carry : (S : Scene) → accepted (move_answer S) ≡ true → carry_good (next S).carry ≡ true
 unfolding move_answer
 moved-carry S e =
-    let a = none_found S.grid.cells 7 _ _ (accepted-done _ e) in
-    let b = none_found (suc S.grid.cells) 8 _ Done a.1 in
+    let a = none_found S.grid.cells BadFlow _ _ (accepted-done _ e) in
+    let b = none_found (suc S.grid.cells) BadNext _ Done a.1 in
     carry-fair S.lat S.grid.cells (next S) b.0
 
 -- a line's total where the carry is in its range
@@ -87,11 +88,11 @@ module _ (r : List ℕ) (k : Sound r) (content : content_answer r ≡ Done) wher
   unfolding content_answer good_answer grid_of box cells_in cells_of state_of flag_in d3q19
   tests =
       let n = cells_in r in
-      let a = passed (site_good (settings_in r) (site_in r)) 3 0 _ content in
-      let b = none_found n 5 _ _ a.1 in
-      let d = none_found (suc n) 6 _ _ b.1 in (
+      let a = passed (site_good (settings_in r) (site_in r)) (BadSetting 0) _ content in
+      let b = none_found n BadLayer _ _ a.1 in
+      let d = none_found (suc n) BadState _ _ b.1 in (
         a.0,
-        λ rest. skip n 4 _ _ k.tested ∙ skip n 5 _ _ b.0 ∙ skip (suc n) 6 _ rest (subst (λ (m : ℕ). suc n ≤ m) (bad-rule-same d3q19 n (state_in r) (state_of 18 (state_before r)) same) d.0),
+        λ rest. skip n BadFlag _ _ k.tested ∙ skip n BadLayer _ _ b.0 ∙ skip (suc n) BadState _ rest (subst (λ (m : ℕ). suc n ≤ m) (bad-rule-same d3q19 n (state_in r) (state_of 18 (state_before r)) same) d.0),
         d.0,
       )
 
@@ -115,9 +116,9 @@ module _ (r : List ℕ) (k : Sound r) (content : content_answer r ≡ Done) wher
   unfolding entry_answer cells_in
   entry b marks rest lb lm =
       let n = cells_of (sides_in r) in
-      or-pass 1 0 _ k.sides
-      ∙ or-pass 2 0 _ (and-true (lengths_good n (state_before r) && lengths_good n b) (eqb (length marks) n) (and-true (lengths_good n (state_before r)) (lengths_good n b) lengths-pass lb) (eq-eqb (length marks) n lm))
-      ∙ or-pass 3 0 _ settings
+      or-pass BadSides _ k.sides
+      ∙ or-pass BadLength _ (and-true (lengths_good n (state_before r) && lengths_good n b) (eqb (length marks) n) (and-true (lengths_good n (state_before r)) (lengths_good n b) lengths-pass lb) (eq-eqb (length marks) n lm))
+      ∙ or-pass (BadSetting 0) _ settings
       ∙ tests.1 rest
 
   -- so the step goes as the first set alone decides

@@ -1,6 +1,6 @@
 -- What gridstep's room, its size test and a refused step come to, in the customer's words, over `record_answer` and `told_of`. Assumes nothing.
 use Rattle.std.specs.Prelude.{◌≡◌, true, false, List, ℕ, ◌≤◌, ◌<◌, length}
-use Rattle.grid.specs.declared.Answer.TheVariants.{Done, Refused}
+use Rattle.grid.specs.Answer.{Done}
 use Rattle.grid.specs.Grid.{sides_good}
 use Rattle.grid.specs.State.{Lent}
 use Rattle.grid.specs.Outcome.{accepted}
@@ -8,14 +8,16 @@ use Rattle.record.specs.Bytes.{Held}
 use Rattle.record.specs.Reading.{sides_in, cells_in, slices_fit, read_answer}
 use Rattle.console.specs.Room.{room_for}
 use Rattle.lines.specs.Told.{record_answer, told_of}
+use Rattle.grid.specs.declared.refusals.Refusal.TheVariants.{BadEnd, BadLength}
+use Rattle.std.specs.Prelude.{Err}
 
 -- more than 65,536 bytes are refused whatever they hold
 abbrev pub TooLong : Type 0
-TooLong = (r : List ℕ) → 65536 < length r → record_answer r ≡ Refused 10 65536
+TooLong = (r : List ℕ) → 65536 < length r → record_answer r ≡ Err (BadEnd 65536)
 
 -- a record of more than 862 cells, whose section 1 is whole and whose sides are good, is refused with 2
 abbrev pub TooMany : Type 0
-TooMany = (r : List ℕ) → length r ≤ 65536 → Held r 0 3 4 → sides_good (sides_in r) ≡ true → 862 < cells_in r → record_answer r ≡ Refused 2 0
+TooMany = (r : List ℕ) → length r ≤ 65536 → Held r 0 3 4 → sides_good (sides_in r) ≡ true → 862 < cells_in r → record_answer r ≡ Err BadLength
 
 -- any other is answered as the reader answers it in slices of its N
 abbrev pub AsRead : Type 0

@@ -1,7 +1,7 @@
 -- What gridstep tells of the bytes that it is given: the numbers of each line, for every input. Assumes nothing.
 use Rattle.std.specs.Prelude.{ℕ, ◌*◌, cond, List, [], ◌∷◌, leb, pos, length}
-use Rattle.grid.specs.declared.Answer.{Answer}
-use Rattle.grid.specs.declared.Answer.TheVariants.{Done}
+use Rattle.grid.specs.Answer.{Answer}
+use Rattle.grid.specs.Answer.{Done}
 use Rattle.grid.specs.Grid.{sides_good, grid_of}
 use Rattle.grid.specs.State.{Lent, lent}
 use Rattle.grid.specs.Good.{bad_flag}
@@ -11,11 +11,12 @@ use Rattle.record.specs.Reading.{sides_in, settings_in, totals_in, carry_in, cel
 use Rattle.counts.specs.declared.counting.Line.{Line}
 use Rattle.lines.specs.declared.playing.Told.{Told}
 use Rattle.counts.specs.Counts.{line_of}
+use Rattle.grid.specs.declared.refusals.Refusal.TheVariants.{BadEnd}
 
 -- more than 65,536 bytes are refused first, 10 at 65,536; then the reader's tests, of which 2 asks that N be at most 862
 unfoldable pub record_answer : List ℕ → Answer
 record_answer r =
-    or_refuse (leb (length r) 65536) 10 65536
+    or_refuse (leb (length r) 65536) (BadEnd 65536)
     (shapes_on r counts (totals_in r) (cells_in r) (interfaces_in r) (19 * liquids_in r) (sides_good (sides_in r)) (leb (cells_in r) 862)
     (bad_flag (grid_of (sides_in r)) (flag_in r)) (content_answer r))
 

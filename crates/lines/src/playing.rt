@@ -6,7 +6,8 @@ ghost use Rattle.lines.specs.inner.Playing.{stepped_by, told_by};
 
 use console::answers::refused;
 use counts::counting::{Line, counts};
-use grid::{Answer, Sides};
+use grid::Sides;
+use grid::refusals::Answer;
 use lattice::Settings;
 use reading::reader;
 use record::flags;
@@ -36,7 +37,7 @@ pub(crate) fn refuse(a: Answer) -> Told
     Told {
         read: a,
         before: none,
-        step: Answer::Done,
+        step: Ok(()),
         after: none,
     }
 }
@@ -70,7 +71,7 @@ fn go(
     );
     let after = counts(flags2, masses2, carry2[0]);
     Told {
-        read: Answer::Done,
+        read: Ok(()),
         before,
         step,
         after,

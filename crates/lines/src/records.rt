@@ -5,7 +5,7 @@ ghost use Rattle.lines.specs.Told.{told_of};
 use crate::playing;
 use crate::playing::Told;
 use console::room::room;
-use grid::Answer;
+use grid::refusals::Refusal;
 
 // What is told of the bytes of a record, however many. Room for 862 cells, as document 01 fixes it: 65,536 bytes over the 76 of a cell's parts, rounded
 // down. A record that is all interface has 92 + 81N bytes, 108 + 81N with three numbers in section 4, so that 807 cells fit; walls and empty cells take
@@ -15,7 +15,7 @@ pub fn play(rec: &[u8]) -> Told
     ensures { result ≡ told_of rec.now }
 {
     if rec.len() > 65536 {
-        return playing::refuse(Answer::Refused(10, 65536));
+        return playing::refuse(Err(Refusal::BadEnd(65536)));
     }
     let n = room(rec, 862);
     let mut parts = [0i32; 16378];

@@ -12,8 +12,8 @@ use Rattle.lattice.specs.Lattice.{Lattice, d3q19, d2q9}
 use Rattle.lattice.specs.declared.Settings.{Settings}
 use Rattle.lattice.proofs.Paired.{Paired, paired19, paired9}
 use Rattle.grid.specs.declared.Sides.{Sides}
-use Rattle.grid.specs.declared.Answer.{Answer}
-use Rattle.grid.specs.declared.Answer.TheVariants.{Done}
+use Rattle.grid.specs.Answer.{Answer}
+use Rattle.grid.specs.Answer.{Done}
 use Rattle.grid.specs.Grid.{Grid, grid_of, box, flume, cells_of, sides_good}
 use Rattle.grid.specs.State.{Lent, State}
 use Rattle.grid.specs.Step.{next}
@@ -28,6 +28,7 @@ use Rattle.mirror.specs.Demands.{Calm, Mode, plain, scene_in, Even, Calms, none,
 use Rattle.mirror.proofs.Cells.{grid-mirror, flume9-mirror}
 use Rattle.mirror.proofs.Stepped.{mode-holds, plain-even}
 use Rattle.mirror.proofs.Outcomes.{mirrors-on, step-too, next-too, entry-too, room_of, lengths-on}
+use Rattle.grid.specs.declared.refusals.Refusal.TheVariants.{BadSteps}
 
 -- ---- any lattice and grid, any mode that is even
 abbrev pub Following : Type 0
@@ -152,7 +153,7 @@ pub runs_on : Running
 runs_on L K fits M paired laid m n g a b marks e calm second marks' room =
     let G = ground L K fits in
     let x = entered G n g a b marks e in
-    let y = passed (leb n 1000) 9 0 _ x.0 in
+    let y = passed (leb n 1000) BadSteps _ x.0 in
     let z = entry-too L K fits M paired laid m g a b marks Done Done y.1 second marks' room in
     let r = all_made L K fits M paired laid m g marks marks' room.marks-long n a (made G n g a b marks x.0 e) calm in
     let w : run_entry_on G n (reflect_settings M.axes g) (reflect_on G M a) second marks' ≡ Done = rw y.0 z in

@@ -15,8 +15,8 @@ use Rattle.lattice.specs.Cell.{relaxation_good, gravity_good}
 use Rattle.lattice.specs.declared.Settings.{Settings}
 use Rattle.lattice.proofs.Paired.{Paired, paired19}
 use Rattle.grid.specs.declared.Sides.{Sides}
-use Rattle.grid.specs.declared.Answer.{Answer}
-use Rattle.grid.specs.declared.Answer.TheVariants.{Done}
+use Rattle.grid.specs.Answer.{Answer}
+use Rattle.grid.specs.Answer.{Done}
 use Rattle.grid.specs.Grid.{Grid, cells_of, sides_good, grid_of, box}
 use Rattle.grid.specs.State.{Lent, state_of}
 use Rattle.grid.specs.Step.{next}
@@ -37,6 +37,7 @@ use Rattle.mirror.proofs.Rules.{good-too}
 use Rattle.mirror.proofs.Sets.{set-reflects, sets-reflect, set_twice, exact}
 use Rattle.mirror.proofs.OwnedSteps as owned
 use Rattle.mirror.proofs.Stepped.{mirror-holds}
+use Rattle.grid.specs.declared.refusals.Refusal.TheVariants.{BadLength, BadSetting, BadSides}
 
 abbrev pub Claim : Type 0
 Claim = (L : Lattice) (K : Grid) (fits : Bool) (M : Mirror) → Paired L → Laid L K → Reflection L K M
@@ -63,8 +64,8 @@ settings-too t g e =
 -- the set that lends room
 pub room_of : (G : Ground) (g : Settings) (a b : Lent) (marks : List ℕ) (rest : Answer) → entry_on G g a b marks rest ≡ Done → Room G b marks
 room_of G g a b marks rest e =
-    let x = passed G.fits 1 0 _ e in
-    let y = passed (lengths_on G a && lengths_on G b && eqb (length marks) G.cells) 2 0 _ x.1 in
+    let x = passed G.fits BadSides _ e in
+    let y = passed (lengths_on G a && lengths_on G b && eqb (length marks) G.cells) BadLength _ x.1 in
     record {
       second-long = and_right (lengths_on G a) (lengths_on G b) (and_left (lengths_on G a && lengths_on G b) (eqb (length marks) G.cells) y.0);
       marks-long = eqb-true (length marks) G.cells (and_right (lengths_on G a && lengths_on G b) (eqb (length marks) G.cells) y.0);
@@ -98,9 +99,9 @@ module _ (L : Lattice) (K : Grid) (fits : Bool) (M : Mirror) where
     pub entry-too : (b : Lent) (marks : List ℕ) (rest rest' : Answer) → entry_on G g a b marks rest ≡ Done → (second : Lent) (marks' : List ℕ) → Room G second marks'
         → entry_on G h (turned a) second marks' rest' ≡ rest'
     entry-too b marks rest rest' e second marks' room =
-        let x = passed fits 1 0 _ e in
-        let y = passed (lengths_on G a && lengths_on G b && eqb (length marks) K.cells) 2 0 _ x.1 in
-        let z = passed (settings_good g) 3 0 _ y.1 in
+        let x = passed fits BadSides _ e in
+        let y = passed (lengths_on G a && lengths_on G b && eqb (length marks) K.cells) BadLength _ x.1 in
+        let z = passed (settings_good g) (BadSetting 0) _ y.1 in
         rw (x.0, lengths-on a, room.second-long, eq-eqb (length marks') K.cells room.marks-long, settings-too M.axes g z.0)
         (good-too L K M laid m (state_on G a) (state_on G (turned a)) state-too rest rest' z.1)
 

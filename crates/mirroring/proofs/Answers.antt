@@ -12,8 +12,8 @@ use Rattle.whole.specs.laws.Bools.{and_left, and_right}
 use Rattle.whole.specs.Fold.{tab}
 use Rattle.lattice.specs.Lattice.{d3q19}
 use Rattle.grid.specs.declared.Sides.{Sides}
-use Rattle.grid.specs.declared.Answer.{Answer}
-use Rattle.grid.specs.declared.Answer.TheVariants.{Done, Refused}
+use Rattle.grid.specs.Answer.{Answer}
+use Rattle.grid.specs.Answer.{Done}
 use Rattle.grid.specs.Grid.{cells_of, sides_good}
 use Rattle.grid.specs.State.{Lent, lent, state_of, lent_of}
 use Rattle.grid.proofs.Accepted.{passed}
@@ -31,6 +31,9 @@ use Rattle.mirroring.specs.Promise.{Mirrored}
 use Rattle.mirroring.specs.inner.Between.{dir_in, table_mirror, Celled, Directed, Turnable}
 use Rattle.mirroring.proofs.Reflected.{directed, by-table}
 use Rattle.grid.proofs.Inside.{few as few-cells}
+use Rattle.grid.specs.declared.refusals.Refusal.TheVariants.{BadLength, BadSetting, BadSides}
+use Rattle.std.specs.Prelude.{Err}
+use Rattle.grid.specs.declared.refusals.Refusal.{Refusal}
 
 -- a set without its totals
 abbrev pub bare : Lent → Lent
@@ -41,7 +44,7 @@ module _ (s : Sides) (axis : ℕ) (a : Lent) (b : Held) where
   lengths = (three_lengths (cells_of s) a && three_lengths (cells_of s) b.set) && index_sized (cells_of s) b.index
 
   -- ---- the tests, one by one
-  pub sides-refused : sides_good s ≡ false → Refused 1 0 ≡ mirror_answer s axis a b
+  pub sides-refused : sides_good s ≡ false → Err BadSides ≡ mirror_answer s axis a b
   unfolding mirror_answer
   sides-refused e = rw e refl
 
@@ -52,12 +55,12 @@ module _ (s : Sides) (axis : ℕ) (a : Lent) (b : Held) where
       ap₂ (λ (y z : Bool). y && z) (ap₂ (λ (y z : Bool). y && z) p q) r ∙ ap (λ (m : ℕ). (three_lengths m a && three_lengths m b.set) && index_sized m b.index) e
 
   module _ (g : sides_good s ≡ true) where
-    pub lengths-refused : lengths ≡ false → Refused 2 0 ≡ mirror_answer s axis a b
+    pub lengths-refused : lengths ≡ false → Err BadLength ≡ mirror_answer s axis a b
     unfolding mirror_answer
     lengths-refused e = rw (g, e) refl
 
     module _ (l : lengths ≡ true) where
-      pub axis-refused : leb axis 2 ≡ false → Refused 3 0 ≡ mirror_answer s axis a b
+      pub axis-refused : leb axis 2 ≡ false → Err (BadSetting 0) ≡ mirror_answer s axis a b
       unfolding mirror_answer
       axis-refused e = rw (g, l, e) refl
 
@@ -94,9 +97,9 @@ module _ (s : Sides) (axis : ℕ) (a : Lent) (b : Held) where
   pub accepted : mirror_answer s axis a b ≡ Done → Accepted
   unfolding mirror_answer
   accepted e =
-      let x = passed (sides_good s) 1 0 _ e in
-      let y = passed lengths 2 0 _ x.1 in
-      let z = passed (leb axis 2) 3 0 _ y.1 in
+      let x = passed (sides_good s) BadSides _ e in
+      let y = passed lengths BadLength _ x.1 in
+      let z = passed (leb axis 2) (BadSetting 0) _ y.1 in
       record {
         axis-good = leb-true axis 2 z.0;
         turnable = λ dirs t. record {
@@ -114,7 +117,7 @@ module _ (s : Sides) (axis : ℕ) (a : Lent) (b : Held) where
       }
 
   -- ---- what either answer leaves
-  pub refused : {n p : ℕ} → Refused n p ≡ mirror_answer s axis a b → Mirrored s axis a b (Refused n p) b
+  pub refused : {refusal : Refusal} → Err refusal ≡ mirror_answer s axis a b → Mirrored s axis a b (Err refusal) b
   unfolding mirror_second
   refused e = record { answer-is = e; second_is = ap (λ (x : Answer). if_done x (indexed s (turned s axis a)) b) e }
 

@@ -13,8 +13,8 @@ use Rattle.whole.specs.laws.Bools.{and-true}
 use Rattle.lattice.specs.Lattice.{d3q19}
 use Rattle.lattice.specs.declared.Settings.{Settings}
 use Rattle.grid.specs.declared.Sides.{Sides}
-use Rattle.grid.specs.declared.Answer.{Answer}
-use Rattle.grid.specs.declared.Answer.TheVariants.{Done}
+use Rattle.grid.specs.Answer.{Answer}
+use Rattle.grid.specs.Answer.{Done}
 use Rattle.grid.specs.Grid.{cells_of, sides_good, grid_of, box}
 use Rattle.grid.specs.State.{Lent, lent, State, state_of, lent_of}
 use Rattle.grid.specs.Outcome.{or_refuse, good_answer, lengths_good, scene_of, step_answer, step_second, open-outcome}
@@ -35,6 +35,7 @@ use Rattle.mirroring.specs.Turned.{turned_set, axes_of, turned}
 use Rattle.mirroring.specs.Outcome.{mirror_answer, if_done, mirror_second}
 use Rattle.mirroring.specs.Demands.{Keeps, StepsAlike}
 use Rattle.mirroring.proofs.Answers.{accepted}
+use Rattle.grid.specs.declared.refusals.Refusal.TheVariants.{BadLength, BadSides, BadState}
 
 abbrev pub Claim : Type 0
 Claim = (s : Sides) (axis : ℕ) (a : Lent) (b : Held) → mirror_answer s axis a b ≡ Done → Keeps s axis a b
@@ -86,8 +87,8 @@ module _ (s : Sides) (axis : ℕ) (a : Lent) where
     pass : Passed
     unfolding three_answer
     pass =
-        let x = passed (sides_good s) 1 0 _ good in
-        let y = passed (three_lengths (cells_of s) a) 2 0 _ x.1 in
+        let x = passed (sides_good s) BadSides _ good in
+        let y = passed (three_lengths (cells_of s) a) BadLength _ x.1 in
         record { sides = x.0; lengths = y.0; rules = y.1 }
 
     three : length a.carry ≡ 3
@@ -128,8 +129,8 @@ module _ (s : Sides) (axis : ℕ) (a : Lent) where
 
     turned-rules : three_good s (turned s axis a) Done ≡ Done
     turned-rules =
-        let totals : Answer = or_refuse (totals_good (number_in a 1) (number_in a 2)) 6 (cells_of s) Done in
-        ap₂ (λ (u : State) (l : List ℤ). good_answer d3q19 (grid_of s) u (or_refuse (totals_good (get_or l 1 (pos 0)) (get_or l 2 (pos 0))) 6 (cells_of s) Done)) turned-state turned-totals
+        let totals : Answer = or_refuse (totals_good (number_in a 1) (number_in a 2)) (BadState (cells_of s)) Done in
+        ap₂ (λ (u : State) (l : List ℤ). good_answer d3q19 (grid_of s) u (or_refuse (totals_good (get_or l 1 (pos 0)) (get_or l 2 (pos 0))) (BadState (cells_of s)) Done)) turned-state turned-totals
         ∙ reflected-rules totals totals pass.rules
         ∙ (sound d3q19 (grid_of s) (state_of 18 a) totals pass.rules).1
 

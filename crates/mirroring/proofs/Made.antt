@@ -4,13 +4,12 @@ use mathlib.Core.Path.{◌≡◌, refl, sym, ap, ◌∙◌, subst}
 use mathlib.Core.List.{List, []}
 use Prim.Native.Nat.{ℕ, suc, ◌+◌, ◌*◌, ◌/◌, ◌%◌, ◌≤◌, ◌<◌}
 use native.Mathlib.Decide.{ℕ_discrete}
-use native.Mathlib.Nat.{not-suc-le-zero, mul-le-mul_left, mul-suc, mul_comm, mod-lt, div-lt_iff_lt-mul, div-add-mod, zero-lt-suc}
+use native.Mathlib.Nat.{mul-le-mul_left, mul-suc, mul_comm, mod-lt, div-lt_iff_lt-mul, div-add-mod, zero-lt-suc}
 use native.Mathlib.Omega.{arith}
 use lib.Arith.{lt_of_le-ne}
 use lib.IntN.{ℤ, pos}
-use lib.ListN.{length, get_or, set, length-set}
-use lib.Seq.{get_or-set_same, get_or-set_other}
-use Rattle.whole.specs.laws.Tab.{Upto, upto_zero, upto-more, upto_all}
+use lib.ListN.{get_or, set, length-set}
+use Rattle.whole.specs.laws.Tab.{Upto, upto-more, upto_all}
 use Rattle.grid.specs.declared.Sides.{Sides}
 use Rattle.grid.specs.Grid.{cells_of}
 use Rattle.grid.specs.State.{Lent, lent, state_of, lent_of}
@@ -24,26 +23,6 @@ use Rattle.mirroring.proofs.Reflected.{cell-low}
 -- ---- places among the parts of so many cells of w parts
 pub part-inside : (w j k c : ℕ) → j < c → k < w → w * j + k < w * c
 part-inside w j k c h l = let g : w * suc j ≤ w * c = mul-le-mul_left w h in omega (arith, mul-suc w j)
-
-pub parts-inside : (w j c : ℕ) → j < c → w * j + w ≤ w * c
-parts-inside w j c h = let g : w * suc j ≤ w * c = mul-le-mul_left w h in omega (arith, mul-suc w j)
-
--- ---- the parts of one cell, one more of them
-module _ (to : ℕ) (f : ℕ → ℤ) (old : List ℤ) where
-  pub fetched-none : Fetched 0 to f old old
-  fetched-none = record { size = refl; before = λ j h. refl; here = λ k h. absurd (not-suc-le-zero h) }
-
-  pub fetched-more : (new : List ℤ) (k : ℕ) (x : ℤ) → to + k < length old → x ≡ f k → Fetched k to f old new → Fetched (k + 1) to f old (set new (to + k) x)
-  fetched-more new k x h e d = record {
-    size = length-set new (to + k) x ∙ d.size;
-    before = λ j l. get_or-set_other new (to + k) j x (pos 0) (λ p. omega arith) ∙ d.before j l;
-    here = λ i l. go i l (ℕ_discrete i k);
-  }
-    where
-      go : (i : ℕ) → i < k + 1 → Dec (i ≡ k) → get_or (set new (to + k) x) (to + i) (pos 0) ≡ f i
-      go i l (yes p) =
-          ap (λ (m : ℕ). get_or (set new (to + k) x) (to + m) (pos 0)) p ∙ get_or-set_same new (to + k) x (pos 0) (omega (arith, d.size)) ∙ e ∙ ap f (sym p)
-      go i l (no n) = get_or-set_other new (to + k) (to + i) x (pos 0) (λ p. n (omega arith)) ∙ d.here i (lt_of_le-ne (omega arith) n)
 
 -- ---- the cells
 module _ (s : Sides) (axis : ℕ) (dirs : List ℕ) (q : ℕ) (a : Lent) where
@@ -66,15 +45,6 @@ module _ (s : Sides) (axis : ℕ) (dirs : List ℕ) (q : ℕ) (a : Lent) where
     pub masses : Upto (pos 0) mass_in d.masses c
     pub fills : Upto 0 fill_in d.fills c
     pub parts : (j k : ℕ) → j < c → k < suc q → get_or d.parts (suc q * j + k) (pos 0) ≡ part_in j k
-
-  pub made_none : {n : ℕ} (d : Lent) → Celled q n d → Made n d 0
-  made_none d z = record {
-    sized = z;
-    flags = upto_zero 0 flag_in d.flags;
-    masses = upto_zero (pos 0) mass_in d.masses;
-    fills = upto_zero 0 fill_in d.fills;
-    parts = λ j k h l. absurd (not-suc-le-zero h);
-  }
 
   -- what is fetched for cell c from its reflected cell m
   abbrev FetchedFor : ℕ → ℕ → ℕ → List ℤ → List ℤ → Type 0

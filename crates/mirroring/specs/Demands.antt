@@ -3,7 +3,7 @@
 use Rattle.std.specs.Prelude.{◌≡◌, List, ℕ}
 use Rattle.lattice.specs.declared.Settings.{Settings}
 use Rattle.grid.specs.declared.Sides.{Sides}
-use Rattle.grid.specs.declared.Answer.TheVariants.{Done}
+use Rattle.grid.specs.Answer.{Done}
 use Rattle.grid.specs.State.{Lent}
 use Rattle.grid.specs.Outcome.{step_answer, step_second}
 use Rattle.pumps.specs.Three.{head_of, three_answer}

@@ -1,7 +1,7 @@
 -- What the mirror promises of its answer and of every slice that it may write, refused or not. Assumes nothing.
 use Rattle.std.specs.Prelude.{◌≡◌, ℕ}
 use Rattle.grid.specs.declared.Sides.{Sides}
-use Rattle.grid.specs.declared.Answer.{Answer}
+use Rattle.grid.specs.Answer.{Answer}
 use Rattle.grid.specs.State.{Lent}
 use Rattle.index.specs.Held.{Held}
 use Rattle.mirroring.specs.Outcome.{mirror_answer, mirror_second}

@@ -5,7 +5,8 @@ ghost use Rattle.index.specs.Index.{index};
 ghost use Rattle.index.specs.Held.{held};
 ghost use Rattle.mirroring.specs.Outcome.{mirror_answer};
 
-use grid::{Answer, Sides, extent};
+use grid::refusals::{Answer, Refusal};
+use grid::{Sides, extent};
 use index::words;
 use pumps::entry;
 
@@ -29,7 +30,7 @@ pub(crate) fn entered(
     ensures { result ≡ mirror_answer s axis (lent flags.now parts.now masses.now fills.now carry.now) (held (lent flags2.now parts2.now masses2.now fills2.now carry2.now) (index words2.now count2.now)) }
 {
     if !extent::good_sides(s) {
-        return Answer::Refused(1, 0);
+        return Err(Refusal::BadSides);
     }
     let n = extent::cells(s);
     let first = entry::three_lengths(
@@ -50,10 +51,10 @@ pub(crate) fn entered(
     );
     let beside = words::good_lengths(words2.len(), count2.len(), n);
     if !((first & second) & beside) {
-        return Answer::Refused(2, 0);
+        return Err(Refusal::BadLength);
     }
     if axis > 2 {
-        return Answer::Refused(3, 0);
+        return Err(Refusal::BadSetting(0));
     }
     entry::checked(flags, parts, masses, fills, carry, s)
 }

@@ -63,9 +63,7 @@ pub(crate) fn fetch(
     requires { (from + width ≤ length parts.now) × (to + width ≤ length out.old) × (width ≤ 19) × Directed width dirs.now }
     ensures { Fetched width to (λ (k : ℕ). get_or parts.now (from + get_or dirs.now k 0) (pos 0)) out.old out.new }
 {
-    let mut k = 0;
-    while k < width {
+    for k in 0..width {
         out[to + k] = parts[from + dirs[k]];
-        k += 1;
     }
 }

@@ -9,9 +9,9 @@ ghost use Rattle.mirroring.specs.Promise.{Mirrored};
 ghost use Rattle.mirroring.specs.inner.Between.{Turnable, table_mirror};
 
 use crate::{entry, reflection};
-use grid::{Answer, Sides};
+use grid::Sides;
+use grid::refusals::Answer;
 use index::keeping;
-use walks::copying;
 
 // Every cell of the second set from the cell of the first that is reflected to it; totals aside. Of the box and of the flume: a cell has q + 1 parts, and
 // the table has where each direction is reflected.
@@ -33,14 +33,12 @@ pub fn turn(
     ensures { ◌≡◌ {A = Lent} (lent flags2.new parts2.new masses2.new fills2.new []) (turned_set (table_mirror s axis dirs.now) q (cells_of s) (lent flags.now parts.now masses.now fills.now [])) }
 {
     let width = q + 1;
-    let mut c = 0;
-    while c < flags.len() {
+    for c in 0..flags.len() {
         let m = reflection::cell_in(c, axis, s);
         flags2[c] = flags[m];
         masses2[c] = masses[m];
         fills2[c] = fills[m];
         reflection::fetch(parts, width * m, parts2, width * c, width, dirs);
-        c += 1;
     }
 }
 
@@ -63,18 +61,15 @@ pub fn mirrored(
 ) -> Answer
     ensures { Mirrored s axis (lent flags.now parts.now masses.now fills.now carry.now) (held (lent flags2.old parts2.old masses2.old fills2.old carry2.old) (index words2.old count2.old)) result (held (lent flags2.new parts2.new masses2.new fills2.new carry2.new) (index words2.new count2.new)) }
 {
-    let a = entry::entered(
+    entry::entered(
         flags, parts, masses, fills, carry, flags2, parts2, masses2, fills2, carry2, words2,
         count2, axis, s,
-    );
-    if let Answer::Refused(no, at) = a {
-        return Answer::Refused(no, at);
-    }
+    )?;
     let dirs = reflection::directions(axis);
     turn(
         flags, parts, masses, fills, flags2, parts2, masses2, fills2, &dirs, 18, axis, s,
     );
-    copying::copy_i64(carry, carry2);
+    carry2.copy_from_slice(carry);
     keeping::make(flags2, words2, count2);
-    Answer::Done
+    Ok(())
 }

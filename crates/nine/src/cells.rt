@@ -24,10 +24,8 @@ pub fn own9(parts: &[i32], c: usize) -> [i32; 19]
     ensures { result ≡ tab 19 (spread (pos 0) (λ (k : ℕ). get_or parts.now (9 * c + k) (pos 0))) }
 {
     let mut v = [0i32; 19];
-    let mut k = 0;
-    while k < 9 {
+    for k in 0..9 {
         v[place(k)] = parts[9 * c + k];
-        k += 1;
     }
     v
 }
@@ -37,10 +35,8 @@ pub fn paste9(out: &mut [i32], c: usize, v: [i32; 19])
     requires { 9 * c + 9 ≤ length out.old }
     ensures { out.new ≡ pasted9 out.old c v }
 {
-    let mut k = 0;
-    while k < 9 {
+    for k in 0..9 {
         out[9 * c + k] = v[place(k)];
-        k += 1;
     }
 }
 
@@ -51,10 +47,8 @@ pub fn quieted(v: [i32; 19]) -> [i32; 19]
     ensures { result ≡ v }
 {
     let mut r = [0i32; 19];
-    let mut k = 0;
-    while k < 9 {
+    for k in 0..9 {
         r[place(k)] = v[place(k)];
-        k += 1;
     }
     r
 }

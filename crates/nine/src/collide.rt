@@ -23,15 +23,14 @@ pub fn by_divider9(f: &mut [i32; 19], v: Flow, p: i64)
     let k = common_of(v, p);
     let d = dots(v);
     let mut r = v.rho;
-    let mut i = 1;
-    while i < 19 {
+    for h in 0..9 {
+        let i = 2 * h + 1;
         let n = relaxed_pair(f[i], f[i + 1], weight9(i), d[i], k);
         let x = n.a;
         let y = n.b;
         f[i] = x;
         f[i + 1] = y;
         r -= x + y;
-        i += 2;
     }
     f[0] = r;
 }
@@ -45,14 +44,10 @@ pub fn collided9(f: [i32; 19], v: Flow, p: i64) -> [i32; 19]
     let c = (1024 - p) as i32;
     let mut a = [0i32; 19];
     let mut r = v.rho;
-    let mut i = 1;
-    while i < 19 {
+    for i in 1..19 {
         let m = settled(e[i - 1], f[i], c);
-        let n = settled(e[i], f[i + 1], c);
         a[i] = m;
-        a[i + 1] = n;
-        r -= m + n;
-        i += 2;
+        r -= m;
     }
     if highest(e) > 4293918719 {
         let mut b = f;

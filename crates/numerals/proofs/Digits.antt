@@ -1,8 +1,9 @@
 -- Digits are at most 9, so that n of them spell a number below 10^n, and a word a number of thousandths below 10^15. Assumes nothing.
+use Rattle.std.proofs.Common.{Some, None}
 use mathlib.Core.Path.{◌≡◌, refl, sym, ap, ◌∙◌, subst}
-use mathlib.Core.Logic.{◌⊎◌, ⊎_elim}
-use mathlib.Core.Bool.{Bool, true, false, ◌&&◌, ◌||◌, cond, true≢false, false≢true}
-use mathlib.Core.List.{List, [], ◌∷◌, ◌++◌}
+use mathlib.Core.Logic.{⊎_elim}
+use mathlib.Core.Bool.{Bool, true, false, ◌&&◌, ◌||◌, cond, false≢true}
+use mathlib.Core.List.{List, [], ◌∷◌}
 use Prim.Native.Nat.{ℕ, zero, suc, ◌+◌, ◌-◌, ◌*◌, ◌^◌, ◌≤◌, ◌<◌}
 use native.Mathlib.Nat.{pow-succ', pow-le-pow_right}
 use native.Mathlib.Numerals.{add-one}
@@ -14,7 +15,6 @@ use lib.Seq.{get_or-drop}
 use Rattle.whole.specs.laws.Bools.{and_right, or_cases}
 use Rattle.whole.specs.laws.Order.{≤-or}
 use Rattle.numerals.specs.declared.text.Kind.TheVariants.{Digit, Nought}
-use Rattle.numerals.specs.declared.number.Magnitude.TheVariants.{Amount, Unreadable}
 use Rattle.numerals.specs.Text.{of_kind, run, every}
 use Rattle.numerals.specs.Number.{digit_at, value_to, thousandths_at, ends_well, plain_of}
 use Rattle.numerals.proofs.Runs.{run_at, every-at}
@@ -126,25 +126,25 @@ unfolding ends_well
 ends_so w k h g n e = simp (lt-leb (length w) k h, lt-ltb (k + 1) (length w) g, eq-eqb (get_or w k 0) 46 n, e)
 
 -- ---- the word as a whole
-pub plain-few : (w : List ℕ) → run (of_kind Digit) w < 1 → Unreadable ≡ plain_of w
+pub plain-few : (w : List ℕ) → run (of_kind Digit) w < 1 → None ≡ plain_of w
 unfolding plain_of
 plain-few w h = simp (lt-leb 1 (run (of_kind Digit) w) h)
 
-pub plain-many : (w : List ℕ) → 1 ≤ run (of_kind Digit) w → 12 < run (of_kind Digit) w → Unreadable ≡ plain_of w
+pub plain-many : (w : List ℕ) → 1 ≤ run (of_kind Digit) w → 12 < run (of_kind Digit) w → None ≡ plain_of w
 unfolding plain_of
 plain-many w h g = simp (le-leb 1 (run (of_kind Digit) w) h, lt-leb (run (of_kind Digit) w) 12 g)
 
-pub plain_other : (w : List ℕ) → 1 ≤ run (of_kind Digit) w → run (of_kind Digit) w ≤ 12 → ends_well w (run (of_kind Digit) w) ≡ false → Unreadable ≡ plain_of w
+pub plain_other : (w : List ℕ) → 1 ≤ run (of_kind Digit) w → run (of_kind Digit) w ≤ 12 → ends_well w (run (of_kind Digit) w) ≡ false → None ≡ plain_of w
 unfolding plain_of
 plain_other w h g e = simp (le-leb 1 (run (of_kind Digit) w) h, le-leb (run (of_kind Digit) w) 12 g, e)
 
 pub plain-so : (w : List ℕ) → 1 ≤ run (of_kind Digit) w → run (of_kind Digit) w ≤ 12 → ends_well w (run (of_kind Digit) w) ≡ true
-    → Amount (1000 * value_to w (run (of_kind Digit) w) + thousandths_at w (run (of_kind Digit) w)) ≡ plain_of w
+    → Some (1000 * value_to w (run (of_kind Digit) w) + thousandths_at w (run (of_kind Digit) w)) ≡ plain_of w
 unfolding plain_of
 plain-so w h g e = simp (le-leb 1 (run (of_kind Digit) w) h, le-leb (run (of_kind Digit) w) 12 g, e)
 
 plain-is : (w : List ℕ) (a b e : Bool) (n : ℕ) → leb (run (of_kind Digit) w) 12 ≡ b → ends_well w (run (of_kind Digit) w) ≡ e
-    → Amount n ≡ cond (a && b && e) (Amount (1000 * value_to w (run (of_kind Digit) w) + thousandths_at w (run (of_kind Digit) w))) Unreadable → n < 1000000000000000
+    → Some n ≡ cond (a && b && e) (Some (1000 * value_to w (run (of_kind Digit) w) + thousandths_at w (run (of_kind Digit) w))) None → n < 1000000000000000
 plain-is w true true true n p q r =
     let k = run (of_kind Digit) w in
     let i : n ≡ 1000 * value_to w k + thousandths_at w k = cc in
@@ -153,6 +153,6 @@ plain-is w true true false n p q r = absurd (let z : ◌≡◌ {A = ℕ} 0 1 = c
 plain-is w true false e n p q r = absurd (let z : ◌≡◌ {A = ℕ} 0 1 = cc in omega arith)
 plain-is w false b e n p q r = absurd (let z : ◌≡◌ {A = ℕ} 0 1 = cc in omega arith)
 
-pub plain-lt : (w : List ℕ) {n : ℕ} → Amount n ≡ plain_of w → n < 1000000000000000
+pub plain-lt : (w : List ℕ) {n : ℕ} → Some n ≡ plain_of w → n < 1000000000000000
 unfolding plain_of
 plain-lt w {n} r = plain-is w (leb 1 (run (of_kind Digit) w)) (leb (run (of_kind Digit) w) 12) (ends_well w (run (of_kind Digit) w)) n refl refl r

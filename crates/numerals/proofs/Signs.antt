@@ -1,7 +1,8 @@
 -- A magnitude below 10^15 as the code casts it: by `n as i64`, and by `!((n - 1) as i64)` behind a minus; and a word by its first byte. Assumes nothing.
+use Rattle.std.proofs.Common.{None}
 use mathlib.Core.Path.{◌≡◌, refl, ap, ◌∙◌}
 use mathlib.Core.List.{List, [], ◌∷◌}
-use Prim.Native.Nat.{ℕ, zero, suc, ◌-◌, ◌≤◌, ◌<◌}
+use Prim.Native.Nat.{ℕ, zero, suc, ◌-◌, ◌<◌}
 use native.Mathlib.Omega.{arith}
 use borrow.Author.Tests.{eq-eqb, ne_eqb}
 use lib.IntN.{pos, neg_ℤ}
@@ -10,7 +11,6 @@ use lib.Seq.{take_all}
 use mir.Syntax.{w64}
 use mir.Val.{SFits, to_z}
 use mir.ValLaws.{to_z_pos, to_z-neg}
-use Rattle.numerals.specs.declared.number.Number.TheVariants.{Unreadable}
 use Rattle.numerals.specs.Number.{plain_of, kept, negated, number_of}
 
 pub half : {n : ℕ} → n < 1000000000000000 → SFits w64 (pos n)
@@ -26,7 +26,7 @@ minus (suc k) p h =
     ap (to_z w64) e ∙ to_z-neg w64 k (omega arith)
 
 -- ---- by the first byte
-pub signed-none : (w : List ℕ) → length w ≡ 0 → Unreadable ≡ number_of w
+pub signed-none : (w : List ℕ) → length w ≡ 0 → None ≡ number_of w
 unfolding number_of
 signed-none [] h = refl
 signed-none (b ∷ t) h = absurd (omega arith)

@@ -1,11 +1,6 @@
 -- The numbers that words spell, in thousandths: perhaps a minus; 1 to 12 digits; perhaps a point and digits, those after the third all 0. Assumes nothing.
-use Rattle.std.specs.Prelude.{Bool, ◌&&◌, ◌||◌, cond, List, [], ◌∷◌, ℕ, zero, suc, ◌+◌, ◌-◌, ◌*◌, leb, ltb, eqb, pos, neg_ℤ, length, get_or, drop}
+use Rattle.std.specs.Prelude.{Bool, ◌&&◌, ◌||◌, cond, List, [], ◌∷◌, ℕ, zero, suc, ◌+◌, ◌-◌, ◌*◌, leb, ltb, eqb, ℤ, pos, neg_ℤ, length, get_or, drop, Option, Some, None}
 use Rattle.numerals.specs.declared.text.Kind.TheVariants.{Digit, Nought}
-use Rattle.numerals.specs.declared.number.Magnitude.{Magnitude}
-use Rattle.numerals.specs.declared.number.Magnitude.TheVariants.{Amount}
-use Rattle.numerals.specs.declared.number.Magnitude.TheVariants as magnitude
-use Rattle.numerals.specs.declared.number.Number.{Number}
-use Rattle.numerals.specs.declared.number.Number.TheVariants.{Thousandths, Unreadable}
 use Rattle.numerals.specs.Text.{of_kind, run, every}
 
 -- the digit at a place; past the end, where none is written, it is 0
@@ -28,22 +23,22 @@ ends_well w k =
     || (ltb (k + 1) (length w) && eqb (get_or w k 0) 46 && every (of_kind Digit) (drop (k + 1) w) && every (of_kind Nought) (drop (k + 4) w))
 
 -- a number without its sign
-unfoldable pub plain_of : List ℕ → Magnitude
+unfoldable pub plain_of : List ℕ → Option ℕ
 plain_of w =
     let k = run (of_kind Digit) w in
-    cond (leb 1 k && leb k 12 && ends_well w k) (Amount (1000 * value_to w k + thousandths_at w k)) magnitude.Unreadable
+    cond (leb 1 k && leb k 12 && ends_well w k) (Some (1000 * value_to w k + thousandths_at w k)) None
 
-abbrev pub kept : Magnitude → Number
-kept (Amount n) = Thousandths (pos n)
-kept magnitude.Unreadable = Unreadable
+abbrev pub kept : Option ℕ → Option ℤ
+kept (Some n) = Some (pos n)
+kept None = None
 
-abbrev pub negated : Magnitude → Number
-negated (Amount n) = Thousandths (neg_ℤ (pos n))
-negated magnitude.Unreadable = Unreadable
+abbrev pub negated : Option ℕ → Option ℤ
+negated (Some n) = Some (neg_ℤ (pos n))
+negated None = None
 
 -- a number: perhaps a minus before it
-unfoldable pub number_of : List ℕ → Number
-number_of [] = Unreadable
+unfoldable pub number_of : List ℕ → Option ℤ
+number_of [] = None
 number_of (b ∷ t) = cond (eqb b 45) (negated (plain_of t)) (kept (plain_of (b ∷ t)))
 
 -- names every definition of this file: whoever unfolds this computes with all of them

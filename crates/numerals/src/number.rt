@@ -5,20 +5,6 @@ ghost use Rattle.numerals.specs.Number.{digit_at, value_to, thousandths_at, ends
 
 use crate::text::{Kind, all_from, past};
 
-// What a word spells without a sign, in thousandths.
-#[derive(Clone, Copy)]
-pub enum Magnitude {
-    Amount(u64),
-    Unreadable,
-}
-
-// What a word spells, in thousandths.
-#[derive(Clone, Copy)]
-pub enum Number {
-    Thousandths(i64),
-    Unreadable,
-}
-
 // The digit at a place; past the end, where none is written, it is 0.
 fn digit_at(w: &[u8], i: usize) -> u64
     ensures { result ≡ digit_at w.now i }
@@ -40,10 +26,8 @@ fn value(w: &[u8], n: usize) -> u64
     ensures { result ≡ value_to w.now n }
 {
     let mut v = 0;
-    let mut i = 0;
-    while i < n {
+    for i in 0..n {
         v = 10 * v + digit_at(w, i);
-        i += 1;
     }
     v
 }
@@ -76,50 +60,47 @@ fn thousandths(w: &[u8], k: usize) -> u64
     100 * digit_at(w, k + 1) + 10 * digit_at(w, k + 2) + digit_at(w, k + 3)
 }
 
-fn plain(w: &[u8]) -> Magnitude
+// What a word spells without a sign, in thousandths.
+fn plain(w: &[u8]) -> Option<u64>
     ensures { result ≡ plain_of w.now }
 {
     let k = past(w, 0, Kind::Digit);
     if k < 1 {
-        return Magnitude::Unreadable;
+        return None;
     }
     if 12 < k {
-        return Magnitude::Unreadable;
+        return None;
     }
     if !ends_well(w, k) {
-        return Magnitude::Unreadable;
+        return None;
     }
-    Magnitude::Amount(1000 * value(w, k) + thousandths(w, k))
+    Some(1000 * value(w, k) + thousandths(w, k))
 }
 
-fn positive(w: &[u8]) -> Number
+fn positive(w: &[u8]) -> Option<i64>
     ensures { result ≡ kept (plain_of w.now) }
 {
-    let Magnitude::Amount(n) = plain(w) else {
-        return Number::Unreadable;
-    };
-    Number::Thousandths(n as i64)
+    let n = plain(w)?;
+    Some(n as i64)
 }
 
 // What stands behind a minus. `!x` is -x - 1, which has no case of its own where -x may not fit.
-fn negative(w: &[u8]) -> Number
+fn negative(w: &[u8]) -> Option<i64>
     ensures { result ≡ negated (plain_of w.now) }
 {
-    let Magnitude::Amount(n) = plain(w) else {
-        return Number::Unreadable;
-    };
+    let n = plain(w)?;
     if n == 0 {
-        return Number::Thousandths(0);
+        return Some(0);
     }
-    Number::Thousandths(!((n - 1) as i64))
+    Some(!((n - 1) as i64))
 }
 
-// The number that a word spells.
-pub fn number_of(w: &[u8]) -> Number
+// The number that a word spells, in thousandths; nothing where it cannot be read as one.
+pub fn number_of(w: &[u8]) -> Option<i64>
     ensures { result ≡ number_of w.now }
 {
     if w.len() == 0 {
-        return Number::Unreadable;
+        return None;
     }
     if w[0] == 45 {
         return negative(&w[1..]);

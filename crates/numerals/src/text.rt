@@ -67,14 +67,12 @@ pub fn past(s: &[u8], at: usize, k: Kind) -> usize
     requires { at ≤ length s.now }
     ensures { result ≡ at + run (of_kind k) (drop at s.now) }
 {
-    let mut i = at;
-    while i < s.len() {
+    for i in at..s.len() {
         if !of_kind(k, s[i]) {
             return i;
         }
-        i += 1;
     }
-    i
+    s.len()
 }
 
 // Every byte from `at` on is of that kind.
@@ -127,12 +125,10 @@ pub fn same_letters(w: &[u8], key: &[u8]) -> bool
     if w.len() != key.len() {
         return false;
     }
-    let mut i = 0;
-    while i < w.len() {
+    for i in 0..w.len() {
         if small(w[i]) != small(key[i]) {
             return false;
         }
-        i += 1;
     }
     true
 }
@@ -142,10 +138,8 @@ pub fn line_at(s: &[u8], n: usize) -> usize
     ensures { LineIs s.now n result }
 {
     let mut at = 0;
-    let mut i = 0;
-    while i < n {
+    for _ in 0..n {
         at = next_line(s, at);
-        i += 1;
     }
     at
 }

@@ -1,14 +1,13 @@
 -- Pass 0 over marks, by offsets: the range that a loop over marks goes over, one by one or some together, is the cells with neighbours; and in the box what it finds is what the grid's
 -- neighbours have. Assumes nothing.
-use mathlib.Core.Path.{◌≡◌, refl, sym, ap, ap₂, ◌∙◌}
-use mathlib.Core.Bool.{Bool, true, false, ◌&&◌, cond, false≢true}
+use mathlib.Core.Path.{◌≡◌, refl, ap, ap₂, ◌∙◌}
+use mathlib.Core.Bool.{Bool, true, false, ◌&&◌, cond}
 use mathlib.Core.List.{List}
-use Prim.Native.Nat.{ℕ, ◌+◌, ◌-◌, ◌*◌, ◌≤◌, ◌<◌}
+use Prim.Native.Nat.{ℕ, ◌+◌, ◌-◌, ◌≤◌}
 use native.Mathlib.Omega.{arith}
-use native.Mathlib.Decide.{dec_lt}
 use lib.Dec.{leb, ltb}
 use lib.ListN.{length, get_or}
-use borrow.Author.Tests.{leb-true, ltb-true, le-leb, lt-ltb, ne_eqb}
+use borrow.Author.Tests.{leb-true, ltb-true, le-leb, lt-ltb}
 use Rattle.whole.specs.laws.Bools.{and_left, and_right, and-true, cond_yes, cond_no}
 use Rattle.whole.specs.Fold.{tab}
 use Rattle.whole.specs.laws.Tab.{tab-cong}
@@ -16,9 +15,7 @@ use Rattle.grid.specs.declared.Sides.{Sides}
 use Rattle.grid.specs.Grid.{cells_of}
 use Rattle.grid.specs.inner.Passes.{amid, Inner, low_of, inside, beside_at, beside_in, open_mark, opened_by, opened_mark}
 use Rattle.grid.proofs.Beside.{Offsets, beside-is}
-use Rattle.grid.proofs.Ranges.{ltb-same, ranged, Ranged, ranged-all}
-use Rattle.passes.specs.inner.Marks.{opened_at}
-use Rattle.passes.specs.inner.Stretch.{Stretch}
+use Rattle.grid.proofs.Ranges.{ltb-same, Ranged, ranged-all}
 
 pub inside-inner : (s : Sides) (c : ℕ) → inside s c ≡ true → Inner s c
 unfolding inside
@@ -47,28 +44,6 @@ cond-cong t true x y z e f = cond_yes x z e ∙ f refl
 cond-cong t false x y z e f = cond_no x z e
 
 -- ---- pass 0
-
--- the places from c to e − 1 are done together, by what is f there
-pub ranged-stretch : (f g : ℕ → ℕ) (old : List ℕ) (a b c e : ℕ) (out new : List ℕ) → Ranged 0 f old a b out c → Stretch 0 g c e out new → c ≤ e → e ≤ b
-    → ((j : ℕ) → c ≤ j → j < e → g j ≡ f j) → Ranged 0 f old a b new e
-ranged-stretch f g old a b c e out new r s h k same =
-    record {
-      from = omega (arith, r.from);
-      to = k;
-      size = s.size ∙ r.size;
-      done = λ j l. at j l (dec_lt j c);
-      rest = λ j l. s.after j l ∙ r.rest j (omega arith);
-    }
-  where
-    at : (j : ℕ) → j < e → Dec (j < c) → get_or new j 0 ≡ ranged 0 f old a b j
-    at j l (yes m) = s.before j m ∙ r.done j m
-    at j l (no m) =
-        s.here j (omega arith) l ∙ same j (omega arith) l
-        ∙ sym (cond_yes (f j) (get_or old j 0) (and-true (leb a j) (ltb j b) (le-leb a j (omega (arith, r.from))) (lt-ltb j b (omega arith))))
-
--- a cell that is not fluid has no mark
-pub dry-unmarked : (flags off : List ℕ) (low c : ℕ) → (get_or flags c 0 ≡ 2 → ⊥) → 0 ≡ opened_at flags off low c
-dry-unmarked flags off low c f = rw (ne_eqb (get_or flags c 0) 2 f) refl
 
 pub opened : (flags marks off out : List ℕ) (low c : ℕ) → length marks ≡ length flags
     → Ranged 0 (λ c. open_mark (get_or flags c 0) (beside_at flags off (c - low) 3)) marks low (length flags - low) out c → length flags - low ≤ c

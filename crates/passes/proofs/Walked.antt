@@ -1,7 +1,7 @@
 -- Pass 1, turn by turn: what holds once the first c cells have gone through stages 1 to 4, over what a function of one cell sees; and that once all have,
 -- the second set's parts, masses and marks are those of the step's scene. Assumes nothing.
 use mathlib.Core.Path.{◌≡◌, refl, sym, ap, ◌∙◌, subst}
-use mathlib.Core.Logic.{◌≢◌, ⊎_elim}
+use mathlib.Core.Logic.{⊎_elim}
 use mathlib.Core.Bool.{Bool, true, false, ◌&&◌, not, cond, false≢true}
 use mathlib.Core.List.{List, []}
 use Prim.Native.Nat.{ℕ, zero, suc, ◌+◌, ◌-◌, ◌*◌, ◌≤◌, ◌<◌}
@@ -75,17 +75,6 @@ module _ (weights : ℕ → ℕ) (flags : List ℕ) (part : ℕ → ℕ → ℤ)
     pub marks-left : (j : ℕ) → c ≤ j → get_or marks j 0 ≡ get_or marks₀ j 0
     pub fair-tells : fair ≡ true → (j : ℕ) → j < c → fair_of j ≡ true
     pub calm-tells : calm ≡ true → (j : ℕ) → j < c → mark_of j ≡ 0
-
-  pub walked-first : (marks₀ : List ℕ) (part2 : ℕ → ℕ → ℤ) (masses2 : List ℤ) → Walked marks₀ part2 masses2 marks₀ true true 0
-  walked-first marks₀ part2 masses2 = record {
-    steady = λ j h. absurd (not-suc-le-zero h);
-    parts-done = λ j k h. absurd (not-suc-le-zero h);
-    masses-done = upto_zero (pos 0) mass_of masses2;
-    marks-done = upto_zero 0 mark_of marks₀;
-    marks-left = λ j h. refl;
-    fair-tells = λ e j h. absurd (not-suc-le-zero h);
-    calm-tells = λ e j h. absurd (not-suc-le-zero h);
-  }
 
   -- one turn: cell c's parts are put, those before it stay
   module _ (marks₀ : List ℕ) (part2 after : ℕ → ℕ → ℤ) (masses2 : List ℤ) (marks : List ℕ) (fair calm : Bool) (c : ℕ) (w : Walked marks₀ part2 masses2 marks fair calm c)

@@ -33,11 +33,7 @@ pub(crate) fn unmark(marks: &mut [u8], a: usize, b: usize)
     requires { (a ≤ b) × (b ≤ length marks.old) }
     ensures { Cleared 0 a b marks.old marks.new }
 {
-    let mut c = a;
-    while c < b {
-        marks[c] = 0;
-        c += 1;
-    }
+    marks[a..b].fill(0);
 }
 
 // Cells a to b - 1 get pass 0's mark. All in one way, so that many are looked at together.
@@ -45,10 +41,8 @@ fn mark_span(flags: &[u8], marks: &mut [u8], off: &[usize; 19], low: usize, a: u
     requires { Reaching (length flags.now) off.now low × (length marks.old ≡ length flags.now) × (low ≤ a) × (a ≤ b) × (b + low ≤ length flags.now) }
     ensures { Stretch 0 (opened_at flags.now off.now low) a b marks.old marks.new }
 {
-    let mut c = a;
-    while c < b {
+    for c in a..b {
         marks[c] = open_mark(flags[c], neighbours::beside(flags, off, c - low, 3));
-        c += 1;
     }
 }
 
@@ -59,6 +53,7 @@ pub fn mark_open_by(flags: &[u8], marks: &mut [u8], off: &[usize; 19], low: usiz
 {
     let end = flags.len() - low;
     let mut c = low;
+    // From one fluid cell to the next, 32 at a time: no range says that.
     while c < end {
         let a = least(seeking::next_of(flags, c, 2), end);
         let b = least(a + 32, end);

@@ -10,11 +10,11 @@ use grid::{Sides, kinds, neighbours};
 use lattice::Settings;
 use walks::seeking;
 
-// The cell that refusal 7 names; or whether every new part keeps test 6's rules, and whether nothing converts.
+// What pass 1 finds where no cell stops it: whether every new part keeps test 6's rules, and whether nothing converts.
 #[derive(Clone, Copy)]
-pub enum Passed {
-    Stopped(usize),
-    Through(bool, bool),
+pub struct Found {
+    pub fair: bool,
+    pub calm: bool,
 }
 
 // Cells a to b - 1 get no mass.
@@ -22,11 +22,7 @@ fn unload(masses2: &mut [i32], a: usize, b: usize)
     requires { (a ≤ b) × (b ≤ length masses2.old) }
     ensures { Cleared (pos 0) a b masses2.old masses2.new }
 {
-    let mut c = a;
-    while c < b {
-        masses2[c] = 0;
-        c += 1;
-    }
+    masses2[a..b].fill(0);
 }
 
 // Neither mass nor mark in cell c, which is dry in both sets and so has no parts already, and in those after it that are so too; the next cell that is not.
@@ -46,6 +42,7 @@ pub fn skip_dry(
     e
 }
 
+// Stages 1 to 4 of all cells; or the cell that refusal 7 names.
 pub fn flowing(
     flags: &[u8],
     parts: &[i32],
@@ -57,7 +54,7 @@ pub fn flowing(
     marks: &mut [u8],
     s: Sides,
     g: Settings,
-) -> Passed
+) -> Result<Found, usize>
     requires { Flowable s g flags.now parts.now masses.now fills.now flags2.now parts2.old masses2.old marks.old }
     ensures { Flowed s g flags.now parts.now masses.now fills.now result parts2.new masses2.new marks.new }
 {
@@ -68,13 +65,14 @@ pub fn flowing(
     let mut fair = true;
     let mut calm = true;
     let mut c = 0;
+    // It goes on where the dry cells end: no range says that.
     while c < flags.len() {
         if kinds::either_liquid(flags, flags2, c) {
             let o = moving::put_parts(
                 flags, parts, fills, parts2, marks[c], &off, &from, low, c, g, keep,
             );
             if !o.ok {
-                return Passed::Stopped(c);
+                return Err(c);
             }
             let m = trading::new_mass(flags, parts, masses, fills, &off, low, c, o.rho);
             let k = trading::new_mark(flags[c], m, o.rho);
@@ -87,5 +85,5 @@ pub fn flowing(
             c = skip_dry(flags, flags2, masses2, marks, c);
         }
     }
-    Passed::Through(fair, calm)
+    Ok(Found { fair, calm })
 }

@@ -3,7 +3,7 @@ use mathlib.Core.Path.{◌≡◌, refl, sym, ap, ◌∙◌, subst}
 use mathlib.Core.Logic.{◌⊎◌, inl, inr, ⊎_elim}
 use mathlib.Core.Bool.{Bool, true, false}
 use mathlib.Core.List.{List, ◌++◌}
-use Prim.Native.Nat.{ℕ, zero, suc, ◌+◌, ◌-◌, ◌*◌, ◌/◌, ◌≤◌, ◌<◌}
+use Prim.Native.Nat.{ℕ, zero, suc, ◌-◌, ◌*◌, ◌/◌, ◌≤◌, ◌<◌}
 use native.Mathlib.Omega.{arith}
 use lib.IntN.{ℤ, pos, ◌+ℤ◌}
 use lib.ListN.{get_or, drop, get_or-append}
@@ -14,17 +14,15 @@ use Rattle.whole.specs.laws.Tab.{length-tab, get_or-tab}
 use Rattle.lattice.specs.Lattice.{d3q19}
 use Rattle.lattice.proofs.Paired.{paired19}
 use Rattle.grid.specs.declared.Sides.{Sides}
-use Rattle.grid.specs.declared.Answer.{Answer}
-use Rattle.grid.specs.declared.Answer.TheVariants as answer
+use Rattle.grid.specs.Answer.{Answer}
+use Rattle.grid.specs.Answer.{Done}
 use Rattle.grid.specs.Grid.{cells_of, grid_of}
 use Rattle.grid.specs.State.{Lent, state_of, flag_of}
 use Rattle.grid.specs.Demands.{water, water_of}
 use Rattle.grid.specs.inner.Passes.{Flagged}
 use Rattle.grid.proofs.Box.{grid-laid}
-use Rattle.pools.specs.declared.Told.{Told}
-use Rattle.pools.specs.declared.Told.TheVariants.{Pools, Refused}
 use Rattle.pools.specs.Pools.{start, is_lowest, lowest, pool_count, mark}
-use Rattle.pools.specs.Outcome.{Room, count_of, mark_of, water_in, tested, fits, by_tests, pools_answer, pools_room, Asked}
+use Rattle.pools.specs.Outcome.{Told, Room, count_of, mark_of, water_in, tested, fits, by_tests, pools_answer, pools_room, Asked}
 use Rattle.pools.specs.Demands.{Liquid, LowestOf, Answered}
 use Rattle.pools.proofs.Counts.{count_yes, count_no}
 use Rattle.pools.proofs.Chains.{Wet, lowest-is}
@@ -34,9 +32,11 @@ use Rattle.pools.proofs.Water.{water-holds}
 use Rattle.pools.proofs.Flooding.{walled, cells_are}
 use Rattle.pools.proofs.Tested.{Passed, has-passed, flagged}
 use Rattle.whole.specs.laws.Counts.{count-le}
+use Rattle.grid.specs.declared.refusals.Refusal.TheVariants.{BadPools}
+use Rattle.std.specs.Prelude.{Ok, Err}
 
 abbrev pub Claim : Type 0
-Claim = (s : Sides) (a : Lent) (r : Room) (n : ℕ) → pools_answer s a r ≡ Pools n → Answered s a r n
+Claim = (s : Sides) (a : Lent) (r : Room) (n : ℕ) → pools_answer s a r ≡ Ok n → Answered s a r n
 
 -- no second answer fits
 pub asked-unique : {s : Sides} {a : Lent} {r : Room} {t u : Told} {x y : Room} → Asked s a r t x → Asked s a r u y → (t ≡ u) × (x ≡ y)
@@ -54,13 +54,13 @@ found_at (suc n) f k h l = go (f n) refl (≤-or k (count n f)) (found_at n f k 
     go false e (inr m) r = absurd (omega (arith, count_no n f e, l, m))
 
 -- an answer that counts pools
-counted : (x : Answer) (b : Bool) (k n : ℕ) → by_tests x b Refused (Refused 21 k) (Pools k) ≡ Pools n → (x ≡ answer.Done) × (b ≡ true) × (k ≡ n)
-counted answer.Done true k n e = (refl, refl, cc)
-counted answer.Done false k n e = absurd (let z : ◌≡◌ {A = ℕ} 0 1 = cc in omega arith)
-counted (answer.Refused m p) b k n e = absurd (let z : ◌≡◌ {A = ℕ} 0 1 = cc in omega arith)
+counted : (x : Answer) (b : Bool) (k n : ℕ) → by_tests x b Err (Err (BadPools k)) (Ok k) ≡ Ok n → (x ≡ Done) × (b ≡ true) × (k ≡ n)
+counted (Ok _) true k n e = (refl, refl, cc)
+counted (Ok _) false k n e = absurd (let z : ◌≡◌ {A = ℕ} 0 1 = cc in omega arith)
+counted (Err refusal) b k n e = absurd (let z : ◌≡◌ {A = ℕ} 0 1 = cc in omega arith)
 
-module _ (s : Sides) (a : Lent) (r : Room) (n : ℕ) (e : pools_answer s a r ≡ Pools n) where
-  ways : (tested s a r ≡ answer.Done) × (fits s a r ≡ true) × (count_of s a.flags ≡ n)
+module _ (s : Sides) (a : Lent) (r : Room) (n : ℕ) (e : pools_answer s a r ≡ Ok n) where
+  ways : (tested s a r ≡ Done) × (fits s a r ≡ true) × (count_of s a.flags ≡ n)
   unfolding pools_answer
   ways = counted (tested s a r) (fits s a r) (count_of s a.flags) n e
 

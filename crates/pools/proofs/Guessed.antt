@@ -19,21 +19,21 @@ use Rattle.whole.specs.laws.Tab.{tab-cong}
 use Rattle.lattice.specs.Lattice.{Lattice, d3q19}
 use Rattle.lattice.proofs.Paired.{Paired, paired19}
 use Rattle.grid.specs.declared.Sides.{Sides}
-use Rattle.grid.specs.declared.Answer.{Answer}
-use Rattle.grid.specs.declared.Answer.TheVariants as answer
+use Rattle.grid.specs.Answer.{Answer}
+use Rattle.grid.specs.Answer.{Done}
 use Rattle.grid.specs.Grid.{Grid, cells_of, grid_of}
 use Rattle.grid.specs.State.{Lent, liquid, state_of, flag_of}
 use Rattle.grid.specs.Demands.{Walled}
 use Rattle.grid.proofs.Laid.{Laid}
 use Rattle.grid.proofs.Box.{grid-laid}
-use Rattle.pools.specs.declared.Told.{Told}
-use Rattle.pools.specs.declared.Told.TheVariants.{Pools, Refused}
 use Rattle.pools.specs.Pools.{Chain, start, then, lowest, is_lowest, pool_count, mark, pool_cells, pool_water}
-use Rattle.pools.specs.Outcome.{Room, room, mark_of, cells_in, water_in, tested, fits, by_tests, pools_answer, pools_room}
+use Rattle.pools.specs.Outcome.{Told, Room, room, mark_of, cells_in, water_in, tested, fits, by_tests, pools_answer, pools_room}
 use Rattle.pools.proofs.Chains.{Wet, wet-end, chain-on, lowest-is}
 use Rattle.pools.proofs.Flooding.{walled, cells_are}
 use Rattle.pools.proofs.Tested.{has-passed, flagged}
 use Rattle.whole.specs.laws.Counts.{count-cong}
+use Rattle.grid.specs.declared.refusals.Refusal.TheVariants.{BadPools}
+use Rattle.std.specs.Prelude.{Ok, Err}
 
 -- ---- the test, and what is worked out from a guess
 
@@ -181,11 +181,11 @@ module _ (s : Sides) (a : Lent) (r : Room) (low : ℕ → ℕ) where
   number = count_guess 18 (grid_of s) flag low
 
   unfoldable pub told_guess : Told
-  told_guess = by_tests answer.Done (leb number (length r.counts)) Refused (Refused 21 number) (Pools number)
+  told_guess = by_tests Done (leb number (length r.counts)) Err (Err (BadPools number)) (Ok number)
 
   unfoldable pub room_guess : Room
   room_guess =
-      by_tests answer.Done (leb number (length r.counts)) (λ n p. r)
+      by_tests Done (leb number (length r.counts)) (λ refusal. r)
       (room (replicate (cells_of s) 0) (replicate (cells_of s) 0) r.counts r.waters)
       (room (tab (cells_of s) (mark_guess 18 (grid_of s) flag low)) (replicate (cells_of s) 0)
       (tab number (λ k. cells_guess 18 (grid_of s) flag low (suc k)) ++ drop number r.counts)
@@ -195,7 +195,7 @@ module _ (s : Sides) (a : Lent) (r : Room) (low : ℕ → ℕ) where
     pub told_is : pools_answer s a r ≡ told_guess
     pub room-is : pools_room s a r ≡ room_guess
 
-  pub guess-right : tested s a r ≡ answer.Done → guessed 18 (grid_of s) flag low ≡ true → Right
+  pub guess-right : tested s a r ≡ Done → guessed 18 (grid_of s) flag low ≡ true → Right
   unfolding d3q19 pools_answer pools_room told_guess room_guess fits
   guess-right done passes =
       let outer = walled (flagged s a r (has-passed s a r done)) in
@@ -209,16 +209,16 @@ module _ (s : Sides) (a : Lent) (r : Room) (low : ℕ → ℕ) where
       = tab-cong number (λ k. water_in s a (suc k)) (λ k. water_guess 18 (grid_of s) flag low (state_of 18 a).mass (suc k)) (pos 0)
       (λ k h. waters d3q19 (grid_of s) flag low paired19 (grid-laid s) outer passes (state_of 18 a).mass (suc k)) in
       record {
-        told_is = ap (λ (k : ℕ). by_tests (tested s a r) (leb k (length r.counts)) Refused (Refused 21 k) (Pools k)) n
-            ∙ ap (λ (x : Answer). by_tests x (leb number (length r.counts)) Refused (Refused 21 number) (Pools number)) done;
+        told_is = ap (λ (k : ℕ). by_tests (tested s a r) (leb k (length r.counts)) Err (Err (BadPools k)) (Ok k)) n
+            ∙ ap (λ (x : Answer). by_tests x (leb number (length r.counts)) Err (Err (BadPools number)) (Ok number)) done;
         room-is =
-            ap (λ (k : ℕ). by_tests (tested s a r) (leb k (length r.counts)) (λ n p. r)
+            ap (λ (k : ℕ). by_tests (tested s a r) (leb k (length r.counts)) (λ refusal. r)
             (room (replicate (cells_of s) 0) (replicate (cells_of s) 0) r.counts r.waters)
             (room (tab (cells_of s) (mark_of s a.flags)) (replicate (cells_of s) 0)
             (tab k (λ k. cells_in s a.flags (suc k)) ++ drop k r.counts)
             (tab k (λ k. water_in s a (suc k)) ++ drop k r.waters))) n
             ∙ three m c w
-            ∙ ap (λ (x : Answer). by_tests x (leb number (length r.counts)) (λ n p. r)
+            ∙ ap (λ (x : Answer). by_tests x (leb number (length r.counts)) (λ refusal. r)
             (room (replicate (cells_of s) 0) (replicate (cells_of s) 0) r.counts r.waters)
             (room (tab (cells_of s) (mark_guess 18 (grid_of s) flag low)) (replicate (cells_of s) 0)
             (tab number (λ k. cells_guess 18 (grid_of s) flag low (suc k)) ++ drop number r.counts)
@@ -226,13 +226,13 @@ module _ (s : Sides) (a : Lent) (r : Room) (low : ℕ → ℕ) where
       }
     where
       three : {m m' c c' : List ℕ} {w w' : List ℤ} → m ≡ m' → c ≡ c' → w ≡ w'
-          → by_tests (tested s a r) (leb number (length r.counts)) (λ n p. r)
+          → by_tests (tested s a r) (leb number (length r.counts)) (λ refusal. r)
           (room (replicate (cells_of s) 0) (replicate (cells_of s) 0) r.counts r.waters)
           (room m (replicate (cells_of s) 0) (c ++ drop number r.counts) (w ++ drop number r.waters))
-          ≡ by_tests (tested s a r) (leb number (length r.counts)) (λ n p. r)
+          ≡ by_tests (tested s a r) (leb number (length r.counts)) (λ refusal. r)
           (room (replicate (cells_of s) 0) (replicate (cells_of s) 0) r.counts r.waters)
           (room m' (replicate (cells_of s) 0) (c' ++ drop number r.counts) (w' ++ drop number r.waters))
       three u v x i =
-          by_tests (tested s a r) (leb number (length r.counts)) (λ n p. r)
+          by_tests (tested s a r) (leb number (length r.counts)) (λ refusal. r)
           (room (replicate (cells_of s) 0) (replicate (cells_of s) 0) r.counts r.waters)
           (room (u i) (replicate (cells_of s) 0) (v i ++ drop number r.counts) (x i ++ drop number r.waters))

@@ -3,7 +3,7 @@
 use mathlib.Core.Path.{◌≡◌, refl, sym, ap, ap₂, ◌∙◌, subst}
 use mathlib.Core.Bool.{Bool, true, false, ◌&&◌, cond}
 use mathlib.Core.List.{List, ◌++◌}
-use Prim.Native.Nat.{ℕ, zero, suc, ◌+◌, ◌*◌, ◌≤◌, ◌<◌}
+use Prim.Native.Nat.{ℕ, zero, suc, ◌≤◌, ◌<◌}
 use native.Mathlib.Omega.{arith}
 use lib.Dec.{eqb, leb}
 use lib.IntN.{ℤ, pos, nat_abs}
@@ -19,8 +19,8 @@ use Rattle.lattice.specs.Lattice.{d3q19, density}
 use Rattle.lattice.specs.Cell.{dense}
 use Rattle.lattice.proofs.Paired.{paired19}
 use Rattle.grid.specs.declared.Sides.{Sides}
-use Rattle.grid.specs.declared.Answer.{Answer}
-use Rattle.grid.specs.declared.Answer.TheVariants as answer
+use Rattle.grid.specs.Answer.{Answer}
+use Rattle.grid.specs.Answer.{Done}
 use Rattle.grid.specs.Grid.{cells_of, sides_good, grid_of, box}
 use Rattle.grid.specs.State.{Lent, by_flag, liquid, state_of, flag_of}
 use Rattle.grid.specs.Outcome.{good_answer}
@@ -32,7 +32,6 @@ use Rattle.grid.proofs.Prepared.{cell-body, cell-mass}
 use Rattle.pumps.specs.Three.{three_lengths, three_good}
 use Rattle.pumps.proofs.Checked.{four, then-checked}
 use Rattle.pumps.proofs.Checked as checked
-use Rattle.pools.specs.declared.Told.TheVariants.{Pools, Refused}
 use Rattle.pools.specs.Pools.{mark, pool_cells, pool_water}
 use Rattle.pools.specs.Outcome.{Room, room, count_of, mark_of, cells_in, water_in, tested, fits, by_tests, pools_answer, pools_room, Asked}
 use Rattle.pools.specs.inner.Flood.{Finished}
@@ -42,6 +41,9 @@ use Rattle.pools.proofs.Flooding.{walled, cells_are}
 use Rattle.pools.proofs.Listings.{headed}
 use Rattle.whole.specs.laws.Sums.{sum-cong}
 use Rattle.whole.specs.laws.Counts.{count-cong}
+use Rattle.grid.specs.declared.refusals.Refusal.TheVariants.{BadFlag, BadLength, BadPools, BadSides}
+use Rattle.std.specs.Prelude.{Ok, Err}
+use Rattle.grid.specs.declared.refusals.Refusal.{Refusal}
 
 -- what cell j adds to the water of pool k + 1, by its mark
 abbrev mass-by : ℕ → List ℤ → ℕ → ℕ → ℤ
@@ -61,17 +63,17 @@ module _ (s : Sides) (a : Lent) (r : Room) where
       ap (λ (x : Bool). x && eqb (length r.marks) n && eqb (length r.work) n && eqb (length r.counts) (length r.waters)) q
       ∙ ap (λ (m : ℕ). (eqb (length a.carry) 3 && four s a m) && eqb (length r.marks) m && eqb (length r.work) m && eqb (length r.counts) (length r.waters)) e
 
-  pub refuses-sides : sides_good s ≡ false → answer.Refused 1 0 ≡ tested s a r
+  pub refuses-sides : sides_good s ≡ false → Err BadSides ≡ tested s a r
   unfolding tested
   refuses-sides e = rw e refl
 
   module _ (g : sides_good s ≡ true) where
-    pub refuses-lengths : lengths ≡ false → answer.Refused 2 0 ≡ tested s a r
+    pub refuses-lengths : lengths ≡ false → Err BadLength ≡ tested s a r
     unfolding tested
     refuses-lengths e = rw (g, e) refl
 
     module _ (l : lengths ≡ true) where
-      pub then-tested : three_good s a answer.Done ≡ tested s a r
+      pub then-tested : three_good s a Done ≡ tested s a r
       unfolding tested
       then-tested = rw (g, l) refl
 
@@ -83,11 +85,11 @@ module _ (s : Sides) (a : Lent) (r : Room) where
       (and_left (three_lengths (cells_of s) a && eqb (length r.marks) (cells_of s) && eqb (length r.work) (cells_of s)) (eqb (length r.counts) (length r.waters)) l))
 
   -- a set that one of the tests refuses: nothing is written
-  pub refused : {n p : ℕ} → answer.Refused n p ≡ tested s a r → Asked s a r (Refused n p) r
+  pub refused : {refusal : Refusal} → Err refusal ≡ tested s a r → Asked s a r (Err refusal) r
   unfolding pools_answer pools_room
-  refused {n} {p} e = record {
-    told_is = ap (λ (x : Answer). by_tests x (fits s a r) Refused (Refused 21 (count_of s a.flags)) (Pools (count_of s a.flags))) e;
-    room-is = ap (λ (x : Answer). by_tests x (fits s a r) (λ n p. r)
+  refused e = record {
+    told_is = ap (λ (x : Answer). by_tests x (fits s a r) Err (Err (BadPools (count_of s a.flags))) (Ok (count_of s a.flags))) e;
+    room-is = ap (λ (x : Answer). by_tests x (fits s a r) (λ refusal. r)
         (room (replicate (cells_of s) 0) (replicate (cells_of s) 0) r.counts r.waters)
         (room (tab (cells_of s) (mark_of s a.flags)) (replicate (cells_of s) 0)
         (tab (count_of s a.flags) (λ k. cells_in s a.flags (suc k)) ++ drop (count_of s a.flags) r.counts)
@@ -98,16 +100,16 @@ module _ (s : Sides) (a : Lent) (r : Room) where
 
   pub record Passed : Type 0 where
     pub set : checked.Passed s a
-    pub good : three_good s a answer.Done ≡ answer.Done
+    pub good : three_good s a Done ≡ Done
     pub marks : length r.marks ≡ cells_of s
     pub work : length r.work ≡ cells_of s
     pub list : length r.counts ≡ length r.waters
 
-  pub has-passed : tested s a r ≡ answer.Done → Passed
+  pub has-passed : tested s a r ≡ Done → Passed
   unfolding tested
   has-passed e =
-      let x = passed (sides_good s) 1 0 _ e in
-      let y = passed lengths 2 0 _ x.1 in
+      let x = passed (sides_good s) BadSides _ e in
+      let y = passed lengths BadLength _ x.1 in
       let three = and_left (three_lengths (cells_of s) a && eqb (length r.marks) (cells_of s) && eqb (length r.work) (cells_of s)) (eqb (length r.counts) (length r.waters)) y.0 in
       record {
         set = checked.has-passed s a (sym (then-checked s a x.0 (set-lengths y.0)) ∙ y.1);
@@ -123,7 +125,7 @@ module _ (s : Sides) (a : Lent) (r : Room) where
     flagged = record {
       sides = p.set.sides;
       count = p.set.sized.flags;
-      tested = (none_found (grid_of s).cells 4 _ _ p.good).0;
+      tested = (none_found (grid_of s).cells BadFlag _ _ p.good).0;
     }
 
     dense-in : (ρ : ℤ) → dense ρ ≡ true → nat_abs ρ ≤ 2359296
@@ -147,13 +149,13 @@ module _ (s : Sides) (a : Lent) (r : Room) where
         (λ l. dense-in (density d3q19 ((state_of 18 a).part c)) (cell-body (cells_of s) (state_of 18 a) p.set.cells c h l).is-dense)
 
     -- ---- the list has room for too few pools
-    pub too_many : {n : ℕ} {marks work : List ℕ} → tested s a r ≡ answer.Done → n ≡ count_of s a.flags → length r.counts < n → marks ≡ replicate (cells_of s) 0 → work ≡ replicate (cells_of s) 0
-        → Asked s a r (Refused 21 n) (room marks work r.counts r.waters)
+    pub too_many : {n : ℕ} {marks work : List ℕ} → tested s a r ≡ Done → n ≡ count_of s a.flags → length r.counts < n → marks ≡ replicate (cells_of s) 0 → work ≡ replicate (cells_of s) 0
+        → Asked s a r (Err (BadPools n)) (room marks work r.counts r.waters)
     unfolding pools_answer pools_room fits
     too_many {n} {marks} {work} t e h x y =
         let f : leb (count_of s a.flags) (length r.counts) ≡ false = lt-leb (count_of s a.flags) (length r.counts) (omega arith) in
         record {
-          told_is = ap (λ (k : ℕ). Refused 21 k) e ∙ sym (rw (t, f) refl);
+          told_is = ap (λ (k : ℕ). Err (BadPools k)) e ∙ sym (rw (t, f) refl);
           room-is = ap₂ (λ (l m : List ℕ). room l m r.counts r.waters) x y ∙ sym (rw (t, f) refl);
         }
 
@@ -193,8 +195,8 @@ module _ (s : Sides) (a : Lent) (r : Room) where
           ∙ sum-cong (grid_of s).cells (λ j. mass-by (get_or marks j 0) a.masses k j) (λ j. mass-by (mark 18 (grid_of s) (flag_of a.flags) j) a.masses k j)
           (λ j h. ap (λ (x : ℕ). mass-by x a.masses k j) (mark-at j (subst (λ (m : ℕ). j < m) (cells_are s) h)))
 
-      pub accepted : {counts : List ℕ} {waters : List ℤ} {work'' : List ℕ} → tested s a r ≡ answer.Done → work'' ≡ replicate (cells_of s) 0
-          → Listed marks a.masses n (length marks) r.counts r.waters counts waters → Asked s a r (Pools n) (room marks work'' counts waters)
+      pub accepted : {counts : List ℕ} {waters : List ℤ} {work'' : List ℕ} → tested s a r ≡ Done → work'' ≡ replicate (cells_of s) 0
+          → Listed marks a.masses n (length marks) r.counts r.waters counts waters → Asked s a r (Ok n) (room marks work'' counts waters)
       unfolding pools_answer pools_room fits
       accepted {counts} {waters} {work''} t y l =
           let e = d.number_is in
@@ -204,7 +206,7 @@ module _ (s : Sides) (a : Lent) (r : Room) where
           let z : waters ≡ tab n (λ k. water_in s a (suc k)) ++ drop n r.waters
           = headed (pos 0) r.waters waters n (λ k. water_in s a (suc k)) (omega (arith, enough, p.list)) l.waters-size (λ k h. l.water k h ∙ water-in k) l.water-rest in
           record {
-            told_is = ap (λ (k : ℕ). Pools k) e ∙ sym (rw (t, f) refl);
+            told_is = ap (λ (k : ℕ). Ok k) e ∙ sym (rw (t, f) refl);
             room-is =
                 four d.marks-are y
                 (x ∙ ap (λ (k : ℕ). tab k (λ k. cells_in s a.flags (suc k)) ++ drop k r.counts) e)

@@ -25,11 +25,7 @@ fn place(x: u32) -> usize
 pub fn clear(marks: &mut [u16])
     ensures { marks.new ≡ replicate (length marks.old) 0 }
 {
-    let mut i = 0;
-    while i < marks.len() {
-        marks[i] = 0;
-        i += 1;
-    }
+    marks.fill(0);
 }
 
 // Where cell e is liquid and has no mark, it gets the mark m and the next place of the queue. Answers the queue's length.
@@ -64,10 +60,8 @@ fn spread(
     let k = d - neighbours::low_of(s);
     let m = marks[d];
     let mut end = tail;
-    let mut i = 1;
-    while i < 19 {
+    for i in 1..19 {
         end = touch(flags, marks, work, k + off[i], m, end);
-        i += 1;
     }
     end
 }
@@ -87,6 +81,7 @@ fn drain(
 {
     let mut at = head;
     let mut end = tail;
+    // The queue grows while it is gone through: no range says that.
     while at < end {
         let d = place(work[at]);
         end = spread(flags, off, marks, work, d, end, s);
@@ -130,10 +125,8 @@ pub fn flood(flags: &[u8], marks: &mut [u16], work: &mut [u32], s: Sides) -> usi
     clear(marks);
     let off = neighbours::offsets(s);
     let mut found = Found { tail: 0, pools: 0 };
-    let mut c = 0;
-    while c < flags.len() {
+    for c in 0..flags.len() {
         found = visit(flags, &off, marks, work, c, found, s);
-        c += 1;
     }
     found.pools
 }

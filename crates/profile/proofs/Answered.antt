@@ -15,11 +15,12 @@ use Rattle.whole.specs.Fold.{first}
 use Rattle.whole.specs.laws.Search.{first_passes, first-none, before-first}
 use Rattle.whole.specs.laws.Order.{le_z-false}
 use Rattle.grid.specs.declared.Sides.{Sides}
-use Rattle.grid.specs.declared.Answer.TheVariants as answer
+use Rattle.grid.specs.Answer.{Done}
 use Rattle.grid.specs.Grid.{sides_good}
 use Rattle.grid.proofs.GoodSides.{good-sides}
-use Rattle.tunnel.specs.declared.Placed.{Placed}
-use Rattle.tunnel.specs.Depth.{Reading, solid, dry, deep, depth_of, measured_of}
+use Rattle.std.specs.Prelude.{Ok}
+use Rattle.tunnel.specs.Place.{Placed}
+use Rattle.tunnel.specs.Depth.{Reading, reading_number, reading_sum, solid, dry, deep, depth_of, measured_of}
 use Rattle.tunnel.proofs.Tests.{Reads, reads-solid, reads-dry, reads-deep, measured-reads, measures, lengths, two-means, Finds, finds-none, finds-cell, place-finds}
 use Rattle.profile.specs.Profile.{Survey, point_at, placed_at, column_of, shown_by, seen, depth_at, not_above, far, broken, is_deepest, deepest}
 use Rattle.profile.specs.Outcome.{tests_answer}
@@ -46,14 +47,14 @@ pub none-deepest : (v : Survey) (m : ℕ) → m ≤ deepest v m → AllDry v m
 none-deepest v m h = record { dry = no-deepest v m h }
 
 -- ---- an accepted list
-read_as : (w : Reading) → Reads w → (w ≡ solid) ⊎ ((w ≡ dry) ⊎ ((0 < w.sum) × (w ≡ deep w.sum)))
+read_as : (w : Reading) → Reads w → (w ≡ Ok solid) ⊎ ((w ≡ Ok dry) ⊎ ((0 < reading_sum w) × (w ≡ Ok (deep (reading_sum w)))))
 read_as w reads-solid = inl refl
 read_as w reads-dry = inr (inl refl)
 read_as w (reads-deep h) = inr (inr (h, refl))
 
 -- a cell's column shows what depth answers, and that is no refusal
 column-reads : (s : Sides) (flags fills : List ℕ) (c : ℕ) → sides_good s ≡ true → lengths s flags fills 0 0 ≡ true
-    → (eqb (column_of s flags fills c).number 4 || eqb (column_of s flags fills c).number 6) ≡ false → Reads (column_of s flags fills c)
+    → (eqb (reading_number (column_of s flags fills c)) 4 || eqb (reading_number (column_of s flags fills c)) 6) ≡ false → Reads (column_of s flags fills c)
 unfolding column_of
 column-reads s flags fills c g l e =
     let x = c % s.nx in
@@ -61,7 +62,7 @@ column-reads s flags fills c g l e =
     let k = good-sides s g in
     let d : depth_of s flags fills x y ≡ measured_of s flags fills x y =
     measures s flags fills x y g l (mod-lt c (omega (arith, k.x.low))) (mod-lt (c / s.nx) (omega (arith, k.y.low))) in
-    subst Reads (sym d) (measured-reads s flags fills x y (subst (λ (w : Reading). (eqb w.number 4 || eqb w.number 6) ≡ false) d e))
+    subst Reads (sym d) (measured-reads s flags fills x y (subst (λ (w : Reading). (eqb (reading_number w) 4 || eqb (reading_number w) 6) ≡ false) d e))
 
 line-by : (v : Survey) (i : ℕ) (p : Placed) → placed_at v.frame v.points i ≡ p → Finds p → sides_good v.frame.sides ≡ true
     → lengths v.frame.sides v.flags v.fills 0 0 ≡ true → broken v i ≡ false → Line v i
@@ -70,10 +71,10 @@ line-by v i p e finds-none g l b = is-outside e
 line-by v i p e (finds-cell c) g l b =
     let s = v.frame.sides in
     let shown : seen v i ≡ column_of s v.flags v.fills c = ap (shown_by s v.flags v.fills) e in
-    let r = column-reads s v.flags v.fills c g l (subst (λ (w : Reading). (eqb w.number 4 || eqb w.number 6) ≡ false) shown b) in
+    let r = column-reads s v.flags v.fills c g l (subst (λ (w : Reading). (eqb (reading_number w) 4 || eqb (reading_number w) 6) ≡ false) shown b) in
     is_read c e shown (read_as (seen v i) (subst Reads (sym shown) r))
 
-pub listed : (v : Survey) (chainages : List ℤ) (kinds depths : ℕ) → tests_answer v chainages kinds depths ≡ answer.Done → Listed v chainages
+pub listed : (v : Survey) (chainages : List ℤ) (kinds depths : ℕ) → tests_answer v chainages kinds depths ≡ Done → Listed v chainages
 unfolding far placed_at
 listed v chainages kinds depths e =
     let o = tests-opened v chainages kinds depths e in

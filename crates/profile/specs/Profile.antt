@@ -1,14 +1,12 @@
 -- The chainage profile: what each point of a list shows, which tests it passes, and which is the deepest. Placing and depth are used as they are
 -- promised; no range and no fill is looked at here. Assumes nothing.
-use Rattle.std.specs.Prelude.{Bool, false, ◌&&◌, ◌||◌, List, ℕ, zero, suc, ◌+◌, ◌*◌, ◌/◌, ◌%◌, eqb, leb, ltb, ℤ, pos, get_or}
+use Rattle.std.specs.Prelude.{Bool, false, ◌&&◌, ◌||◌, List, ℕ, zero, suc, ◌+◌, ◌*◌, ◌/◌, ◌%◌, eqb, leb, ltb, ℤ, pos, get_or, Ok, Err}
 use Rattle.std.specs.Int.Signed.{le_z}
 use Rattle.whole.specs.Fold.{first, all}
 use Rattle.grid.specs.declared.Sides.{Sides}
 use Rattle.tunnel.specs.declared.Point.{Point}
-use Rattle.tunnel.specs.declared.Placed.{Placed}
-use Rattle.tunnel.specs.declared.Placed.TheVariants.{Refused, Cell}
-use Rattle.tunnel.specs.Place.{placing_of, refusal_number}
-use Rattle.tunnel.specs.Depth.{Reading, refused, depth_of}
+use Rattle.tunnel.specs.Place.{Placed, placing_of, placed_number}
+use Rattle.tunnel.specs.Depth.{Reading, reading_number, reading_sum, depth_of}
 use Rattle.profile.specs.declared.Frame.{Frame}
 
 -- a grid and the coordinates of a list of survey points
@@ -37,8 +35,8 @@ column_of s flags fills c = depth_of s flags fills (c % s.nx) (c / s.nx % s.ny)
 
 -- placing's refusal where it finds no cell
 abbrev pub shown_by : Sides → List ℕ → List ℕ → Placed → Reading
-shown_by s flags fills (Refused number place) = refused number place
-shown_by s flags fills (Cell c) = column_of s flags fills c
+shown_by s flags fills (Ok c) = column_of s flags fills c
+shown_by s flags fills (Err refusal) = Err refusal
 
 -- what point i shows. Where all tests have passed a refusal is placing's 13: the point is outside
 unfoldable pub seen : Survey → ℕ → Reading
@@ -46,7 +44,7 @@ seen v i = shown_by v.frame.sides v.flags v.fills (placed_at v.frame v.points i)
 
 -- its depth in 65,536ths, 0 unless it is deep
 unfoldable pub depth_at : Survey → ℕ → ℕ
-depth_at v i = (seen v i).sum
+depth_at v i = reading_sum (seen v i)
 
 -- ---- what a test of the list finds at point i
 
@@ -57,11 +55,11 @@ not_above chainages (suc i) = le_z (get_or chainages (suc i) (pos 0)) (get_or ch
 
 -- 3: a coordinate is out of range
 unfoldable pub far : Frame → List ℤ → ℕ → Bool
-far f points i = eqb (refusal_number (placed_at f points i)) 3
+far f points i = eqb (placed_number (placed_at f points i)) 3
 
 -- 4 and 6: its column does not pass depth's tests
 unfoldable pub broken : Survey → ℕ → Bool
-broken v i = eqb (seen v i).number 4 || eqb (seen v i).number 6
+broken v i = eqb (reading_number (seen v i)) 4 || eqb (reading_number (seen v i)) 6
 
 -- ---- the deepest point
 

@@ -7,7 +7,7 @@ ghost use Rattle.profile.specs.Outcome.{open_answer, columns_answer, tests_answe
 
 use crate::{Frame, points};
 use columns::column::column_depth;
-use grid::Answer;
+use grid::refusals::{Answer, Refusal};
 use tunnel::{answers, placing};
 
 // Test 23: the first chainage that is not above the one before; their number if there is none.
@@ -15,12 +15,10 @@ fn first_not_above(chainages: &[i64]) -> usize
     ensures { result ≡ first (length chainages.now) (not_above chainages.now) }
 {
     let m = chainages.len();
-    let mut i = 1;
-    while i < m {
+    for i in 1..m {
         if chainages[i] <= chainages[i - 1] {
             return i;
         }
-        i += 1;
     }
     m
 }
@@ -30,12 +28,10 @@ fn first_far(f: Frame, points: &[i64], m: usize) -> usize
     requires { length points.now ≡ 3 * m }
     ensures { result ≡ first m (far f points.now) }
 {
-    let mut i = 0;
-    while i < m {
+    for i in 0..m {
         if answers::refusal_number(points::placed(f, points, i)) == 3 {
             return i;
         }
-        i += 1;
     }
     m
 }
@@ -52,12 +48,10 @@ fn first_broken(f: Frame, flags: &[u8], fills: &[u32], points: &[i64], m: usize)
     requires { (length points.now ≡ 3 * m) × (sides_good f.sides ≡ true) }
     ensures { result ≡ first m (broken (survey f flags.now fills.now points.now)) }
 {
-    let mut i = 0;
-    while i < m {
+    for i in 0..m {
         if refuses(answers::depth_number(points::look(f, flags, fills, points, i))) {
             return i;
         }
-        i += 1;
     }
     m
 }
@@ -69,10 +63,9 @@ fn columns_tested(f: Frame, flags: &[u8], fills: &[u32], points: &[i64], m: usiz
 {
     let i = first_broken(f, flags, fills, points, m);
     if i < m {
-        let a = points::look(f, flags, fills, points, i);
-        return Answer::Refused(answers::depth_number(a), answers::depth_place(a));
+        points::look(f, flags, fills, points, i)?;
     }
-    Answer::Done
+    Ok(())
 }
 
 // Test 2 of the list and its lines: three coordinates, a kind and a depth for each chainage.
@@ -98,24 +91,24 @@ fn opened(
     let origin = f.origin;
     let n = answers::depth_number(column_depth(s, flags, fills, 0, 0));
     if n == 1 {
-        return Answer::Refused(1, 0);
+        return Err(Refusal::BadSides);
     }
     if n == 2 {
-        return Answer::Refused(2, 0);
+        return Err(Refusal::BadLength);
     }
     if !whole(m, points, kinds, depths) {
-        return Answer::Refused(2, 0);
+        return Err(Refusal::BadLength);
     }
     if m == 0 {
-        return Answer::Refused(22, 0);
+        return Err(Refusal::BadList);
     }
     if 2000 < m {
-        return Answer::Refused(22, 0);
+        return Err(Refusal::BadList);
     }
     if answers::refusal_number(placing::place(s, f.edge, origin, origin)) == 3 {
-        return Answer::Refused(3, 0);
+        return Err(Refusal::BadSetting(0));
     }
-    Answer::Done
+    Ok(())
 }
 
 // Every test of a profile, in order.
@@ -131,17 +124,14 @@ pub fn tested(
     ensures { result ≡ tests_answer (survey f flags.now fills.now points.now) chainages.now kinds depths }
 {
     let m = chainages.len();
-    let a = opened(f, flags, fills, m, points.len(), kinds, depths);
-    if let Answer::Refused(number, place) = a {
-        return Answer::Refused(number, place);
-    }
+    opened(f, flags, fills, m, points.len(), kinds, depths)?;
     let up = first_not_above(chainages);
     let out = first_far(f, points, m);
     if up < m {
-        return Answer::Refused(23, up);
+        return Err(Refusal::BadChainage(up));
     }
     if out < m {
-        return Answer::Refused(3, out);
+        return Err(Refusal::BadSetting(out));
     }
     columns_tested(f, flags, fills, points, m)
 }

@@ -8,9 +8,8 @@ pub fn number(a: Profiled) -> u8
     ensures { result ≡ profiled_number a }
 {
     match a {
-        Profiled::Refused(number, _) => number,
-        Profiled::Deepest(_) => 0,
-        Profiled::Dry => 0,
+        Ok(_) => 0,
+        Err(refusal) => refusal.number(),
     }
 }
 
@@ -18,9 +17,8 @@ pub fn place(a: Profiled) -> usize
     ensures { result ≡ profiled_place a }
 {
     match a {
-        Profiled::Refused(_, place) => place,
-        Profiled::Deepest(_) => 0,
-        Profiled::Dry => 0,
+        Ok(_) => 0,
+        Err(refusal) => refusal.place(),
     }
 }
 
@@ -29,9 +27,9 @@ pub fn wet(a: Profiled) -> u8
     ensures { result ≡ wet_of a }
 {
     match a {
-        Profiled::Refused(_, _) => 0,
-        Profiled::Deepest(_) => 1,
-        Profiled::Dry => 0,
+        Ok(Some(_)) => 1,
+        Ok(None) => 0,
+        Err(_) => 0,
     }
 }
 
@@ -40,8 +38,8 @@ pub fn deepest(a: Profiled) -> usize
     ensures { result ≡ deepest_of a }
 {
     match a {
-        Profiled::Refused(_, _) => 0,
-        Profiled::Deepest(i) => i,
-        Profiled::Dry => 0,
+        Ok(Some(i)) => i,
+        Ok(None) => 0,
+        Err(_) => 0,
     }
 }

@@ -30,14 +30,12 @@ pub(crate) fn written(
     ensures { Written f flags.now fills.now points.now m result kinds.new depths.new }
 {
     let mut best = Best { at: m, sum: 0 };
-    let mut i = 0;
-    while i < m {
+    for i in 0..m {
         let a = points::look(f, flags, fills, points, i);
         let depth = answers::depth_value(a);
         kinds[i] = kinds::kind(a);
         depths[i] = depth;
         best = better(best, exact::shares(depth), i);
-        i += 1;
     }
     best.at
 }

@@ -17,8 +17,8 @@ use Rattle.whole.specs.laws.Machine.{Within}
 use Rattle.lattice.specs.Lattice.{d3q19, density}
 use Rattle.lattice.specs.Cell.{dense}
 use Rattle.grid.specs.declared.Sides.{Sides}
-use Rattle.grid.specs.declared.Answer.{Answer}
-use Rattle.grid.specs.declared.Answer.TheVariants.{Done, Refused}
+use Rattle.grid.specs.Answer.{Answer}
+use Rattle.grid.specs.Answer.{Done}
 use Rattle.grid.specs.Grid.{cells_of}
 use Rattle.grid.specs.State.{Lent, lent, liquid, state_of, part_of}
 use Rattle.grid.specs.inner.Sight.{Body}
@@ -26,12 +26,14 @@ use Rattle.grid.specs.Outcome.{or_refuse}
 use Rattle.grid.proofs.Lists.{get_or-there}
 use Rattle.grid.proofs.Prepared.{cell-body, cell-mass}
 use Rattle.grid.specs.inner.Fill.{Weighty}
-use Rattle.pumps.specs.declared.Acted.{Acted}
-use Rattle.pumps.specs.declared.Acted.TheVariants as acted
+use Rattle.pumps.specs.Acts.{Acted}
 use Rattle.pumps.specs.Three.{number_in, total_good, three_answer}
 use Rattle.pumps.specs.Acts.{moved_of, counted_in, act_good, and_then, act_answer, act_set, acted_by, set_by, ActTold}
 use Rattle.pumps.specs.inner.Working.{Working, move_or, Worked}
 use Rattle.pumps.proofs.Checked.{Passed}
+use Rattle.grid.specs.declared.refusals.Refusal.TheVariants.{BadAmount, NotInterface, Outside}
+use Rattle.std.specs.Prelude.{Err}
+use Rattle.grid.specs.declared.refusals.Refusal.{Refusal}
 
 -- ---- what the work asks of a set that passed
 dense-some : (ρ : ℤ) → dense ρ ≡ true → pos 0 <ℤ ρ
@@ -90,29 +92,29 @@ module _ (pour : Bool) (s : Sides) (c : ℕ) (amount : ℤ) (a : Lent) where
   abbrev good : Bool
   good = act_good pour amount m (number_in a (counted_in pour))
 
-  refuse : (n p : ℕ) → Refused n p ≡ act_answer pour s c amount a → ActTold pour s c amount a (acted.Refused n p) a
-  refuse n p e = record {
+  refuse : (refusal : Refusal) → Err refusal ≡ act_answer pour s c amount a → ActTold pour s c amount a (Err refusal) a
+  refuse refusal e = record {
     answer-is = ap (λ (x : Answer). acted_by x (moved_of pour amount m)) e;
     set_is = ap (λ (x : Answer). set_by x (act_set pour c amount a) a) e;
   }
 
-  pub told-refused : {n p : ℕ} → Refused n p ≡ three_answer s a → ActTold pour s c amount a (acted.Refused n p) a
+  pub told-refused : {refusal : Refusal} → Err refusal ≡ three_answer s a → ActTold pour s c amount a (Err refusal) a
   unfolding act_answer
-  told-refused {n} {p} e =
-      refuse n p (ap (λ (x : Answer). and_then x (or_refuse (ltb c (cells_of s)) 13 0 (or_refuse (eqb (get_or a.flags c 0) 1) 15 c (or_refuse good 16 0 Done)))) e)
+  told-refused {refusal} e =
+      refuse refusal (ap (λ (x : Answer). and_then x (or_refuse (ltb c (cells_of s)) Outside (or_refuse (eqb (get_or a.flags c 0) 1) (NotInterface c) (or_refuse good BadAmount Done)))) e)
 
   module _ (ok : three_answer s a ≡ Done) where
-    pub told-outside : cells_of s ≤ c → ActTold pour s c amount a (acted.Refused 13 0) a
+    pub told-outside : cells_of s ≤ c → ActTold pour s c amount a (Err Outside) a
     unfolding act_answer
-    told-outside h = refuse 13 0 (simp (ok, le-ltb c (cells_of s) h))
+    told-outside h = refuse Outside (simp (ok, le-ltb c (cells_of s) h))
 
     module _ (h : c < cells_of s) where
-      pub told-other : (get_or a.flags c 0 ≡ 1 → ⊥) → ActTold pour s c amount a (acted.Refused 15 c) a
+      pub told-other : (get_or a.flags c 0 ≡ 1 → ⊥) → ActTold pour s c amount a (Err (NotInterface c)) a
       unfolding act_answer
-      told-other f = refuse 15 c (simp (ok, lt-ltb c (cells_of s) h, ne_eqb (get_or a.flags c 0) 1 f))
+      told-other f = refuse (NotInterface c) (simp (ok, lt-ltb c (cells_of s) h, ne_eqb (get_or a.flags c 0) 1 f))
 
       module _ (f : get_or a.flags c 0 ≡ 1) where
-        answer-by : act_answer pour s c amount a ≡ or_refuse good 16 0 Done
+        answer-by : act_answer pour s c amount a ≡ or_refuse good BadAmount Done
         unfolding act_answer
         answer-by = simp (ok, lt-ltb c (cells_of s) h, eq-eqb (get_or a.flags c 0) 1 f)
 
@@ -127,7 +129,7 @@ module _ (pour : Bool) (s : Sides) (c : ℕ) (amount : ℤ) (a : Lent) where
               set_is = (λ i. lent a.flags a.parts ((w.masses-are ∙ cond_yes _ _ e) i) ((w.fills-are ∙ cond_yes _ _ e) i) ((w.carry-is ∙ cond_yes _ _ e) i)) ∙ sym (ap (λ (x : Answer). set_by x (act_set pour c amount a) a) d);
             }
         by-good false e r masses fills carry w =
-            let d : act_answer pour s c amount a ≡ Refused 16 0 = answer-by ∙ simp e in
+            let d : act_answer pour s c amount a ≡ Err BadAmount = answer-by ∙ simp e in
             record {
               answer-is = w.answer-is ∙ ap (λ (b : Bool). move_or b (moved_of pour amount m)) e ∙ sym (ap (λ (x : Answer). acted_by x (moved_of pour amount m)) d);
               set_is = (λ i. lent a.flags a.parts ((w.masses-are ∙ cond_no _ _ e) i) ((w.fills-are ∙ cond_no _ _ e) i) ((w.carry-is ∙ cond_no _ _ e) i)) ∙ sym (ap (λ (x : Answer). set_by x (act_set pour c amount a) a) d);

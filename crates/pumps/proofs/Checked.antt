@@ -11,8 +11,8 @@ use lib.ListN.{length, get_or, take}
 use Rattle.whole.specs.laws.Bools.{and_left, and_right, and-true}
 use Rattle.lattice.specs.Lattice.{Lattice, d3q19}
 use Rattle.grid.specs.declared.Sides.{Sides}
-use Rattle.grid.specs.declared.Answer.{Answer}
-use Rattle.grid.specs.declared.Answer.TheVariants.{Done, Refused}
+use Rattle.grid.specs.Answer.{Answer}
+use Rattle.grid.specs.Answer.{Done}
 use Rattle.grid.specs.Grid.{Grid, cells_of, sides_good, grid_of, box}
 use Rattle.grid.specs.State.{Lent, State, state_of}
 use Rattle.grid.specs.Good.{bad_flag, bad_fluid, bad_rule, cell_good}
@@ -20,25 +20,28 @@ use Rattle.grid.specs.inner.Between.{Sized}
 use Rattle.grid.specs.Outcome.{or_refuse, good_answer}
 use Rattle.grid.proofs.Accepted.{passed, none_found, Sound, sound, cell-good}
 use Rattle.pumps.specs.Three.{number_in, head_of, total_good, totals_good, three_lengths, three_good, three_answer}
+use Rattle.grid.specs.declared.refusals.Refusal.TheVariants.{BadFlag, BadLayer, BadLength, BadSides, BadState}
+use Rattle.std.specs.Prelude.{Err}
+use Rattle.grid.specs.declared.refusals.Refusal.{Refusal}
 
 -- ---- a chain of three tests with another end
-chain-refused : (a b c : Bool) (i j k n p : ℕ) (rest : Answer) → Refused n p ≡ or_refuse a 4 i (or_refuse b 5 j (or_refuse c 6 k Done)) → Refused n p ≡ or_refuse a 4 i (or_refuse b 5 j (or_refuse c 6 k rest))
-chain-refused false b c i j k n p rest e = e
-chain-refused true false c i j k n p rest e = e
-chain-refused true true false i j k n p rest e = e
-chain-refused true true true i j k n p rest e = absurd (let z : ◌≡◌ {A = ℕ} 0 1 = cc in omega arith)
+chain-refused : (a b c : Bool) (i j k : ℕ) (refusal : Refusal) (rest : Answer) → Err refusal ≡ or_refuse a (BadFlag i) (or_refuse b (BadLayer j) (or_refuse c (BadState k) Done)) → Err refusal ≡ or_refuse a (BadFlag i) (or_refuse b (BadLayer j) (or_refuse c (BadState k) rest))
+chain-refused false b c i j k refusal rest e = e
+chain-refused true false c i j k refusal rest e = e
+chain-refused true true false i j k refusal rest e = e
+chain-refused true true true i j k refusal rest e = absurd (let z : ◌≡◌ {A = ℕ} 0 1 = cc in omega arith)
 
-chain-done : (a b c : Bool) (i j k : ℕ) (rest : Answer) → or_refuse a 4 i (or_refuse b 5 j (or_refuse c 6 k Done)) ≡ Done → or_refuse a 4 i (or_refuse b 5 j (or_refuse c 6 k rest)) ≡ rest
+chain-done : (a b c : Bool) (i j k : ℕ) (rest : Answer) → or_refuse a (BadFlag i) (or_refuse b (BadLayer j) (or_refuse c (BadState k) Done)) ≡ Done → or_refuse a (BadFlag i) (or_refuse b (BadLayer j) (or_refuse c (BadState k) rest)) ≡ rest
 chain-done false b c i j k rest e = absurd (let z : ◌≡◌ {A = ℕ} 0 1 = cc in omega arith)
 chain-done true false c i j k rest e = absurd (let z : ◌≡◌ {A = ℕ} 0 1 = cc in omega arith)
 chain-done true true false i j k rest e = absurd (let z : ◌≡◌ {A = ℕ} 0 1 = cc in omega arith)
 chain-done true true true i j k rest e = refl
 
 module _ (L : Lattice) (G : Grid) (t : State) (rest : Answer) where
-  pub good-refused : (n p : ℕ) → Refused n p ≡ good_answer L G t Done → Refused n p ≡ good_answer L G t rest
+  pub good-refused : (refusal : Refusal) → Err refusal ≡ good_answer L G t Done → Err refusal ≡ good_answer L G t rest
   unfolding good_answer
-  good-refused n p e =
-      chain-refused (leb G.cells (bad_flag G t.flag)) (leb G.cells (bad_fluid L.q G t.flag)) (leb (suc G.cells) (bad_rule L G.cells t)) _ _ _ n p rest e
+  good-refused refusal e =
+      chain-refused (leb G.cells (bad_flag G t.flag)) (leb G.cells (bad_fluid L.q G t.flag)) (leb (suc G.cells) (bad_rule L G.cells t)) _ _ _ refusal rest e
 
   pub good-done : good_answer L G t Done ≡ Done → good_answer L G t rest ≡ rest
   unfolding good_answer
@@ -70,11 +73,11 @@ module _ (s : Sides) (a : Lent) where
   unfolding three_lengths
   lengths-told {n} {b} {r} e q h = ap (λ (m : ℕ). eqb (length a.carry) 3 && four m) (sym e) ∙ sym q ∙ h
 
-  pub refuses-sides : sides_good s ≡ false → Refused 1 0 ≡ three_answer s a
+  pub refuses-sides : sides_good s ≡ false → Err BadSides ≡ three_answer s a
   unfolding three_answer
   refuses-sides e = simp e
 
-  pub refuses-lengths : sides_good s ≡ true → three_lengths (cells_of s) a ≡ false → Refused 2 0 ≡ three_answer s a
+  pub refuses-lengths : sides_good s ≡ true → three_lengths (cells_of s) a ≡ false → Err BadLength ≡ three_answer s a
   unfolding three_answer
   refuses-lengths g h = simp (g, h)
 
@@ -105,19 +108,19 @@ module _ (s : Sides) (a : Lent) where
   -- ---- tests 4 to 6: the base's, and then the totals
   module _ (rest : Answer) where
     abbrev totals : Answer
-    totals = or_refuse (totals_good (number_in a 1) (number_in a 2)) 6 (cells_of s) rest
+    totals = or_refuse (totals_good (number_in a 1) (number_in a 2)) (BadState (cells_of s)) rest
 
-    pub refuses-good : {n p : ℕ} → Refused n p ≡ good_answer d3q19 (grid_of s) (state_of 18 (head_of a)) Done → Refused n p ≡ three_good s a rest
-    refuses-good {n} {p} e = good-refused d3q19 (grid_of s) (state_of 18 a) totals n p (e ∙ ap (λ (t : State). good_answer d3q19 (grid_of s) t Done) head-state)
+    pub refuses-good : {refusal : Refusal} → Err refusal ≡ good_answer d3q19 (grid_of s) (state_of 18 (head_of a)) Done → Err refusal ≡ three_good s a rest
+    refuses-good {refusal} e = good-refused d3q19 (grid_of s) (state_of 18 a) totals refusal (e ∙ ap (λ (t : State). good_answer d3q19 (grid_of s) t Done) head-state)
 
     pub then-totals : good_answer d3q19 (grid_of s) (state_of 18 (head_of a)) Done ≡ Done → totals ≡ three_good s a rest
     then-totals done = sym (good-done d3q19 (grid_of s) (state_of 18 a) totals (ap (λ (t : State). good_answer d3q19 (grid_of s) t Done) (sym head-state) ∙ done))
 
-    pub refuses-totals : good_answer d3q19 (grid_of s) (state_of 18 (head_of a)) Done ≡ Done → {n : ℕ} → n ≡ cells_of s → totals_good (number_in a 1) (number_in a 2) ≡ false → Refused 6 n ≡ three_good s a rest
-    refuses-totals done e h = ap (Refused 6) e ∙ sym (ap (λ (t : Bool). or_refuse t 6 (cells_of s) rest) h) ∙ then-totals done
+    pub refuses-totals : good_answer d3q19 (grid_of s) (state_of 18 (head_of a)) Done ≡ Done → {n : ℕ} → n ≡ cells_of s → totals_good (number_in a 1) (number_in a 2) ≡ false → Err (BadState n) ≡ three_good s a rest
+    refuses-totals done e h = ap (λ (p : ℕ). Err (BadState p)) e ∙ sym (ap (λ (t : Bool). or_refuse t (BadState (cells_of s)) rest) h) ∙ then-totals done
 
     pub accepts-totals : good_answer d3q19 (grid_of s) (state_of 18 (head_of a)) Done ≡ Done → totals_good (number_in a 1) (number_in a 2) ≡ true → rest ≡ three_good s a rest
-    accepts-totals done h = sym (ap (λ (t : Bool). or_refuse t 6 (cells_of s) rest) h) ∙ then-totals done
+    accepts-totals done h = sym (ap (λ (t : Bool). or_refuse t (BadState (cells_of s)) rest) h) ∙ then-totals done
 
   pub accepts : sides_good s ≡ true → length a.carry ≡ 3 → four (cells_of s) ≡ true → good_answer d3q19 (grid_of s) (state_of 18 (head_of a)) Done ≡ Done
       → total_good (number_in a 1) ≡ true → total_good (number_in a 2) ≡ true → Done ≡ three_answer s a
@@ -140,9 +143,9 @@ module _ (s : Sides) (a : Lent) where
   bounds : (rest : Answer) → good_answer d3q19 (grid_of s) (state_of 18 a) rest ≡ Done → suc (cells_of s) ≤ bad_rule d3q19 (cells_of s) (state_of 18 a)
   unfolding good_answer grid_of box cells_of
   bounds rest e =
-      let x = none_found (grid_of s).cells 4 _ _ e in
-      let y = none_found (grid_of s).cells 5 _ _ x.1 in
-      (none_found (suc (grid_of s).cells) 6 _ _ y.1).0
+      let x = none_found (grid_of s).cells BadFlag _ _ e in
+      let y = none_found (grid_of s).cells BadLayer _ _ x.1 in
+      (none_found (suc (grid_of s).cells) BadState _ _ y.1).0
 
   each : suc (cells_of s) ≤ bad_rule d3q19 (cells_of s) (state_of 18 a) → (c : ℕ) → c < cells_of s → cell_good d3q19 (state_of 18 a) c ≡ true
   unfolding grid_of box cells_of
@@ -151,11 +154,11 @@ module _ (s : Sides) (a : Lent) where
   pub has-passed : three_answer s a ≡ Done → Passed
   unfolding three_answer
   has-passed e =
-      let totals = or_refuse (totals_good (number_in a 1) (number_in a 2)) 6 (cells_of s) Done in
-      let x = passed (sides_good s) 1 0 _ e in
-      let y = passed (three_lengths (cells_of s) a) 2 0 _ x.1 in
+      let totals = or_refuse (totals_good (number_in a 1) (number_in a 2)) (BadState (cells_of s)) Done in
+      let x = passed (sides_good s) BadSides _ e in
+      let y = passed (three_lengths (cells_of s) a) BadLength _ x.1 in
       let z = sound d3q19 (grid_of s) (state_of 18 a) totals y.1 in
-      let w = passed (totals_good (number_in a 1) (number_in a 2)) 6 (cells_of s) Done z.1 in
+      let w = passed (totals_good (number_in a 1) (number_in a 2)) (BadState (cells_of s)) Done z.1 in
       let r = bounds totals y.1 in
       record {
         sides = x.0;

@@ -17,8 +17,8 @@ use Rattle.lattice.specs.Lattice.{d3q19, density}
 use Rattle.lattice.specs.Cell.{mass_good, carry_good, fill_of}
 use Rattle.lattice.specs.Body.{eq_z, body_good}
 use Rattle.grid.specs.declared.Sides.{Sides}
-use Rattle.grid.specs.declared.Answer.{Answer}
-use Rattle.grid.specs.declared.Answer.TheVariants.{Done, Refused}
+use Rattle.grid.specs.Answer.{Answer}
+use Rattle.grid.specs.Answer.{Done}
 use Rattle.grid.specs.Grid.{cells_of, grid_of, box}
 use Rattle.grid.specs.State.{Lent, State, by_flag, state_of, part_of}
 use Rattle.grid.specs.Step.{fill_for}
@@ -34,11 +34,13 @@ use Rattle.pumps.specs.Demands.{balance, Kept}
 use Rattle.pumps.proofs.Checked.{Passed, has-passed, four, head-state, accepts}
 use Rattle.pumps.proofs.Amounts.{mass-kept, total_kept}
 use Rattle.pumps.proofs.Balance.{water-more, poured, taken}
+use Rattle.grid.specs.declared.refusals.Refusal.TheVariants.{BadAmount, NotInterface, Outside}
+use Rattle.std.specs.Prelude.{Ok, Err}
 
 -- ---- what acceptance tells
 pub then-both : (x rest : Answer) → and_then x rest ≡ Done → (x ≡ Done) × (rest ≡ Done)
-then-both Done rest e = (refl, e)
-then-both (Refused n p) rest e = absurd (let z : ◌≡◌ {A = ℕ} 0 1 = cc in omega arith)
+then-both (Ok _) rest e = (refl, e)
+then-both (Err refusal) rest e = absurd (let z : ◌≡◌ {A = ℕ} 0 1 = cc in omega arith)
 
 record Accepted (pour : Bool) (s : Sides) (c : ℕ) (amount : ℤ) (a : Lent) : Type 0 where
   pub three : three_answer s a ≡ Done
@@ -50,14 +52,14 @@ accepted : (pour : Bool) (s : Sides) (c : ℕ) (amount : ℤ) (a : Lent) → act
 unfolding act_answer
 accepted pour s c amount a e =
     let good = act_good pour amount (get_or a.masses c (pos 0)) (number_in a (counted_in pour)) in
-    let x = then-both (three_answer s a) (or_refuse (ltb c (cells_of s)) 13 0 (or_refuse (eqb (get_or a.flags c 0) 1) 15 c (or_refuse good 16 0 Done))) e in
-    let y = passed (ltb c (cells_of s)) 13 0 (or_refuse (eqb (get_or a.flags c 0) 1) 15 c (or_refuse good 16 0 Done)) x.1 in
-    let z = passed (eqb (get_or a.flags c 0) 1) 15 c (or_refuse good 16 0 Done) y.1 in
+    let x = then-both (three_answer s a) (or_refuse (ltb c (cells_of s)) Outside (or_refuse (eqb (get_or a.flags c 0) 1) (NotInterface c) (or_refuse good BadAmount Done))) e in
+    let y = passed (ltb c (cells_of s)) Outside (or_refuse (eqb (get_or a.flags c 0) 1) (NotInterface c) (or_refuse good BadAmount Done)) x.1 in
+    let z = passed (eqb (get_or a.flags c 0) 1) (NotInterface c) (or_refuse good BadAmount Done) y.1 in
     record {
       three = x.0;
       inside = ltb-true c (cells_of s) y.0;
       interface = eqb-true (get_or a.flags c 0) 1 z.0;
-      good = (passed good 16 0 Done z.1).0;
+      good = (passed good BadAmount Done z.1).0;
     }
 
 -- ---- a cell's rules look at its flag, parts, mass and fill

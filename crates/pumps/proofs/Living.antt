@@ -8,7 +8,7 @@ use lib.ListN.{length}
 use Rattle.whole.specs.laws.Bools.{and_left}
 use Rattle.lattice.specs.Lattice.{d3q19}
 use Rattle.grid.specs.declared.Sides.{Sides}
-use Rattle.grid.specs.declared.Answer.TheVariants.{Done}
+use Rattle.grid.specs.Answer.{Done}
 use Rattle.grid.specs.Grid.{cells_of, sides_good, grid_of}
 use Rattle.grid.specs.State.{Lent, State, state_of}
 use Rattle.grid.specs.Outcome.{good_answer, lengths_good, check_answer, scene_of, entry_answer, step_answer, next_of, step_second}
@@ -21,6 +21,7 @@ use Rattle.pumps.specs.Demands.{balance, totalled, Lived, start, acted, stepped,
 use Rattle.pumps.proofs.Checked.{Passed, has-passed, four, head-state, accepts}
 use Rattle.pumps.proofs.Base.{base-accepts, base-water}
 use Rattle.pumps.proofs.Kept.{act-kept}
+use Rattle.grid.specs.declared.refusals.Refusal.TheVariants.{BadLength, BadSides}
 
 -- ---- one step
 module _ (s : Sides) (b d : Lent) where
@@ -35,8 +36,8 @@ module _ (s : Sides) (b d : Lent) where
   good_of : check_answer s d ≡ Done → (four s (totalled d b) (cells_of s) ≡ true) × (good_answer d3q19 (grid_of s) (state_of 18 d) Done ≡ Done)
   unfolding check_answer lengths_good
   good_of e =
-      let x = passed (sides_good s) 1 0 _ e in
-      let y = passed (lengths_good (cells_of s) d) 2 0 _ x.1 in
+      let x = passed (sides_good s) BadSides _ e in
+      let y = passed (lengths_good (cells_of s) d) BadLength _ x.1 in
       (and_left (four s (totalled d b) (cells_of s)) (eqb (length d.carry) 1) y.0, y.1)
 
   total-good : Passed s b → check_answer s d ≡ Done → three_answer s (totalled d b) ≡ Done

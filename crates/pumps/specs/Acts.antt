@@ -1,31 +1,34 @@
 -- Pour and take: what each answers, and what each lent slice then holds, for every input. Assumes nothing.
-use Rattle.std.specs.Prelude.{◌≡◌, Bool, ◌&&◌, cond, ℕ, ◌+◌, ◌*◌, ◌≤◌, ◌<◌, eqb, ltb, ℤ, pos, ◌+ℤ◌, ◌-ℤ◌, get_or, set}
+use Rattle.std.specs.Prelude.{◌≡◌, Bool, ◌&&◌, cond, ℕ, eqb, ltb, ℤ, pos, ◌+ℤ◌, ◌-ℤ◌, get_or, set}
 use Rattle.std.specs.Int.Signed.{le_z, lt_z}
 use Rattle.lattice.specs.Lattice.{d3q19, density}
 use Rattle.lattice.specs.Cell.{fill_of}
 use Rattle.grid.specs.declared.Sides.{Sides}
-use Rattle.grid.specs.declared.Answer.{Answer}
-use Rattle.grid.specs.declared.Answer.TheVariants.{Done, Refused}
+use Rattle.grid.specs.Answer.{Answer, Done, refusal_number, refusal_place}
+use Rattle.grid.specs.declared.refusals.Refusal.{Refusal}
 use Rattle.grid.specs.Grid.{cells_of}
 use Rattle.grid.specs.State.{Lent, lent, part_of}
 use Rattle.grid.specs.Outcome.{or_refuse}
-use Rattle.pumps.specs.declared.Acted.{Acted}
-use Rattle.pumps.specs.declared.Acted.TheVariants as acted
 use Rattle.pumps.specs.Three.{number_in, three_answer}
+use Rattle.grid.specs.declared.refusals.Refusal.TheVariants.{BadAmount, NotInterface, Outside}
+use Rattle.std.specs.Prelude.{Result, Ok, Err}
 
--- ---- the paper's number and place of each case, 0 0 if accepted, and what was moved, 0 beside a refusal
+-- ---- what was moved, or the refusal; the paper's number and place of each case, 0 0 if accepted, and what was moved, 0 beside a refusal
+
+abbrev pub Acted : Type 0
+Acted = Result ℤ Refusal
 
 abbrev pub acted_number : Acted → ℕ
-acted_number (acted.Moved t) = 0
-acted_number (acted.Refused n p) = n
+acted_number (Ok moved) = 0
+acted_number (Err refusal) = refusal_number refusal
 
 abbrev pub acted_place : Acted → ℕ
-acted_place (acted.Moved t) = 0
-acted_place (acted.Refused n p) = p
+acted_place (Ok moved) = 0
+acted_place (Err refusal) = refusal_place refusal
 
 abbrev pub acted_moved : Acted → ℤ
-acted_moved (acted.Moved t) = t
-acted_moved (acted.Refused n p) = pos 0
+acted_moved (Ok moved) = moved
+acted_moved (Err refusal) = pos 0
 
 -- ---- in numbers; `pour` tells the two acts apart
 
@@ -58,16 +61,16 @@ act_good pour amount mass total =
 
 -- an answer that is no refusal lets the next one speak
 abbrev pub and_then : Answer → Answer → Answer
-and_then Done rest = rest
-and_then (Refused number place) rest = Refused number place
+and_then (Ok _) rest = rest
+and_then (Err refusal) rest = Err refusal
 
 -- tests 1, 2, 4, 5, 6, 13, 15, 16
 unfoldable pub act_answer : Bool → Sides → ℕ → ℤ → Lent → Answer
 act_answer pour s c amount a =
     and_then (three_answer s a)
-    (or_refuse (ltb c (cells_of s)) 13 0
-    (or_refuse (eqb (get_or a.flags c 0) 1) 15 c
-    (or_refuse (act_good pour amount (get_or a.masses c (pos 0)) (number_in a (counted_in pour))) 16 0 Done)))
+    (or_refuse (ltb c (cells_of s)) Outside
+    (or_refuse (eqb (get_or a.flags c 0) 1) (NotInterface c)
+    (or_refuse (act_good pour amount (get_or a.masses c (pos 0)) (number_in a (counted_in pour))) BadAmount Done)))
 
 -- the set after it: mass, fill and total; nothing else is written
 unfoldable pub act_set : Bool → ℕ → ℤ → Lent → Lent
@@ -82,12 +85,12 @@ act_set pour c amount a =
 
 -- by an answer: what was moved, or the refusal; the set after it, or the set as it was
 abbrev pub acted_by : Answer → ℤ → Acted
-acted_by Done moved = acted.Moved moved
-acted_by (Refused number place) moved = acted.Refused number place
+acted_by (Ok _) moved = Ok moved
+acted_by (Err refusal) moved = Err refusal
 
 abbrev pub set_by : Answer → Lent → Lent → Lent
-set_by Done after before = after
-set_by (Refused number place) after before = before
+set_by (Ok _) after before = after
+set_by (Err refusal) after before = before
 
 pub record ActTold (pour : Bool) (s : Sides) (c : ℕ) (amount : ℤ) (a : Lent) (answer : Acted) (after : Lent) : Type 0 where
   pub answer-is : answer ≡ acted_by (act_answer pour s c amount a) (moved_of pour amount (get_or a.masses c (pos 0)))

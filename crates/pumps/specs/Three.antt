@@ -3,11 +3,12 @@ use Rattle.std.specs.Prelude.{Bool, ◌&&◌, [], ◌∷◌, ℕ, ◌*◌, eqb, 
 use Rattle.std.specs.Int.Signed.{le_z}
 use Rattle.lattice.specs.Lattice.{d3q19}
 use Rattle.grid.specs.declared.Sides.{Sides}
-use Rattle.grid.specs.declared.Answer.{Answer}
-use Rattle.grid.specs.declared.Answer.TheVariants.{Done}
+use Rattle.grid.specs.Answer.{Answer}
+use Rattle.grid.specs.Answer.{Done}
 use Rattle.grid.specs.Grid.{cells_of, sides_good, grid_of}
 use Rattle.grid.specs.State.{Lent, lent, state_of}
 use Rattle.grid.specs.Outcome.{or_refuse, good_answer}
+use Rattle.grid.specs.declared.refusals.Refusal.TheVariants.{BadLength, BadSides, BadState}
 
 -- the slice's numbers: 0 the carry, 1 poured, 2 taken
 abbrev pub number_in : Lent → ℕ → ℤ
@@ -35,11 +36,11 @@ three_lengths n a =
 
 -- tests 4, 5, 6: the base's, of which the carry is the slice's first number; then poured and taken, 6 at N
 abbrev pub three_good : Sides → Lent → Answer → Answer
-three_good s a rest = good_answer d3q19 (grid_of s) (state_of 18 a) (or_refuse (totals_good (number_in a 1) (number_in a 2)) 6 (cells_of s) rest)
+three_good s a rest = good_answer d3q19 (grid_of s) (state_of 18 a) (or_refuse (totals_good (number_in a 1) (number_in a 2)) (BadState (cells_of s)) rest)
 
 -- tests 1, 2, 4, 5, 6
 unfoldable pub three_answer : Sides → Lent → Answer
-three_answer s a = or_refuse (sides_good s) 1 0 (or_refuse (three_lengths (cells_of s) a) 2 0 (three_good s a Done))
+three_answer s a = or_refuse (sides_good s) BadSides (or_refuse (three_lengths (cells_of s) a) BadLength (three_good s a Done))
 
 -- names every definition of this file: whoever unfolds this computes with all of them
 unfoldable pub open-three : Unit {0}

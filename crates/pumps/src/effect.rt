@@ -6,10 +6,9 @@ ghost use Rattle.pumps.specs.inner.Working.{EffectIs};
 
 use whole::wide;
 
-// Whether the act may be, what it moves, and the mass and the total after it.
+// What the act moves, and the mass and the total after it.
 #[derive(Clone, Copy)]
 pub struct Change {
-    pub good: bool,
     pub moved: i64,
     pub mass: i32,
     pub total: i64,
@@ -48,43 +47,27 @@ fn mass_after(pour: bool, mass: i64, moved: i64) -> i64
     mass - moved
 }
 
-// Test 16, and the numbers where it passes.
-pub fn effect(pour: bool, amount: i64, mass: i32, total: i64) -> Change
+// Test 16: the numbers where it passes, None where it fails.
+pub fn effect(pour: bool, amount: i64, mass: i32, total: i64) -> Option<Change>
     requires { Within mass 2359296 × Within total 1000000000000000 }
     ensures { EffectIs pour amount mass total result }
 {
     if !good_amount(amount) {
-        return Change {
-            good: false,
-            moved: 0,
-            mass: 0,
-            total: 0,
-        };
+        return None;
     }
     let m = wide(mass);
     let moved = moved_by(pour, amount, m);
     let after = mass_after(pour, m, moved);
     if 2359296 < after {
-        return Change {
-            good: false,
-            moved: 0,
-            mass: 0,
-            total: 0,
-        };
+        return None;
     }
     let sum = total + moved;
     if 1000000000000000 < sum {
-        return Change {
-            good: false,
-            moved: 0,
-            mass: 0,
-            total: 0,
-        };
+        return None;
     }
-    Change {
-        good: true,
+    Some(Change {
         moved,
         mass: after as i32,
         total: sum,
-    }
+    })
 }

@@ -5,7 +5,8 @@ ghost use Rattle.grid.specs.State.{lent};
 ghost use Rattle.pumps.specs.Three.{total_good, totals_good, three_lengths, three_good, three_answer};
 
 use checks::checking;
-use grid::{Answer, Sides, extent};
+use grid::refusals::{Answer, Refusal};
+use grid::{Sides, extent};
 
 fn good_total(t: i64) -> bool
     ensures { result ≡ total_good t }
@@ -45,16 +46,13 @@ pub fn checked(
     s: Sides,
 ) -> Answer
     requires { (sides_good s ≡ true) × (three_lengths (cells_of s) (lent flags.now parts.now masses.now fills.now carry.now) ≡ true) }
-    ensures { result ≡ three_good s (lent flags.now parts.now masses.now fills.now carry.now) Answer.Done }
+    ensures { result ≡ three_good s (lent flags.now parts.now masses.now fills.now carry.now) (Ok tt) }
 {
-    let a = checking::checked(flags, parts, masses, fills, &carry[..1], s);
-    if let Answer::Refused(no, at) = a {
-        return Answer::Refused(no, at);
-    }
+    checking::checked(flags, parts, masses, fills, &carry[..1], s)?;
     if !good_totals(carry[1], carry[2]) {
-        return Answer::Refused(6, flags.len());
+        return Err(Refusal::BadState(flags.len()));
     }
-    Answer::Done
+    Ok(())
 }
 
 // Tests 1, 2, 4, 5 and 6.
@@ -69,7 +67,7 @@ pub fn check(
     ensures { result ≡ three_answer s (lent flags.now parts.now masses.now fills.now carry.now) }
 {
     if !extent::good_sides(s) {
-        return Answer::Refused(1, 0);
+        return Err(Refusal::BadSides);
     }
     let n = extent::cells(s);
     if !three_lengths(
@@ -80,7 +78,7 @@ pub fn check(
         carry.len(),
         n,
     ) {
-        return Answer::Refused(2, 0);
+        return Err(Refusal::BadLength);
     }
     checked(flags, parts, masses, fills, carry, s)
 }

@@ -1,4 +1,5 @@
 -- The reader takes the header that the writer writes, whatever follows it, and finds the sides and the corner that were written. Assumes nothing.
+use Rattle.std.proofs.Common.{Some, Ok}
 use mathlib.Core.Path.{◌≡◌, refl, sym, ap, ap₂, ◌∙◌}
 use mathlib.Core.Bool.{true}
 use mathlib.Core.List.{List, [], ◌∷◌, ◌++◌}
@@ -11,10 +12,8 @@ use Rattle.whole.specs.laws.Bounds.{abs-mul}
 use Rattle.whole.specs.laws.Quot.{quot-exact}
 use Rattle.grid.specs.declared.Sides.{Sides}
 use Rattle.numerals.specs.declared.text.Kind.TheVariants.{Word}
-use Rattle.numerals.specs.declared.number.Number.TheVariants.{Thousandths}
 use Rattle.heights.specs.declared.header.Key.TheVariants.{Columns, Rows, West, South, Edge, Missing}
 use Rattle.heights.specs.declared.header.Frame.{Frame}
-use Rattle.heights.specs.declared.header.Header.TheVariants.{Read}
 use Rattle.numerals.specs.Text.{of_kind, next_line, from_line, open-text}
 use Rattle.numerals.specs.Number.{number_of, open-number}
 use Rattle.heights.specs.Header.{key_of, is_whole, checked, line_value, entry_of, header_of}
@@ -53,7 +52,7 @@ missing-word : Each (of_kind Word) missing
 unfolding missing
 missing-word = (refl, (refl, (refl, (refl, (refl, tt)))))
 
-missing-reads : checked Missing (number_of missing) ≡ Thousandths (negsuc 9998999)
+missing-reads : checked Missing (number_of missing) ≡ Some (negsuc 9998999)
 unfolding missing open-text open-number
 missing-reads = refl
 
@@ -111,50 +110,50 @@ module _ (s : Sides) (t : Corner) (g : Written (frame_of s t)) (rest : List ℕ)
   unfolding from_line l5
   from-6 = ap next_line from-5 ∙ line-next Missing missing missing-word missing-some rest
 
-  columns : entry_of Columns l0 ≡ Thousandths (pos 1000 *ℤ f.nx)
+  columns : entry_of Columns l0 ≡ Some (pos 1000 *ℤ f.nx)
   unfolding entry_of from_line l0
   columns =
       line_reads Columns (whole_of f.nx) (whole_word f.nx g.nx) (whole-some f.nx g.nx) l1
       ∙ ap (checked Columns) (whole-spell f.nx g.nx) ∙ simp (thousand-whole f.nx)
 
-  rows : entry_of Rows l0 ≡ Thousandths (pos 1000 *ℤ f.ny)
+  rows : entry_of Rows l0 ≡ Some (pos 1000 *ℤ f.ny)
   unfolding entry_of l1
   rows =
       ap (line_value Rows) from-1
       ∙ line_reads Rows (whole_of f.ny) (whole_word f.ny g.ny) (whole-some f.ny g.ny) l2
       ∙ ap (checked Rows) (whole-spell f.ny g.ny) ∙ simp (thousand-whole f.ny)
 
-  west : entry_of West l0 ≡ Thousandths f.x
+  west : entry_of West l0 ≡ Some f.x
   unfolding entry_of l2
   west =
       ap (line_value West) from-2
       ∙ line_reads West (metres_of f.x) (metres-word f.x g.x) (metres-some f.x) l3
       ∙ ap (checked West) (metres-spell f.x g.x)
 
-  south : entry_of South l0 ≡ Thousandths f.y
+  south : entry_of South l0 ≡ Some f.y
   unfolding entry_of l3
   south =
       ap (line_value South) from-3
       ∙ line_reads South (metres_of f.y) (metres-word f.y g.y) (metres-some f.y) l4
       ∙ ap (checked South) (metres-spell f.y g.y)
 
-  edge : entry_of Edge l0 ≡ Thousandths f.edge
+  edge : entry_of Edge l0 ≡ Some f.edge
   unfolding entry_of l4
   edge =
       ap (line_value Edge) from-4
       ∙ line_reads Edge (metres_of f.edge) (metres-word f.edge g.edge) (metres-some f.edge) l5
       ∙ ap (checked Edge) (metres-spell f.edge g.edge)
 
-  last : entry_of Missing l0 ≡ Thousandths (negsuc 9998999)
+  last : entry_of Missing l0 ≡ Some (negsuc 9998999)
   unfolding entry_of l5
   last = ap (line_value Missing) from-5 ∙ line_reads Missing missing missing-word missing-some rest ∙ missing-reads
 
   -- the header written is read, whatever rows follow it
-  pub header-back : header_of (header_text s t rest) ≡ Read (frame_of s t)
+  pub header-back : header_of (header_text s t rest) ≡ Ok (frame_of s t)
   header-back =
       ap header_of is-l0
       ∙ sym (header-so l0 columns rows west south edge last)
-      ∙ (λ i. Read (record { nx = quot-exact 1000 f.nx (omega arith) i; ny = quot-exact 1000 f.ny (omega arith) i; x = f.x; y = f.y; edge = f.edge }))
+      ∙ (λ i. Ok (record { nx = quot-exact 1000 f.nx (omega arith) i; ny = quot-exact 1000 f.ny (omega arith) i; x = f.x; y = f.y; edge = f.edge }))
 
   -- and what follows are the rows
   pub rows_back : from_line 6 (header_text s t rest) ≡ rest

@@ -1,8 +1,9 @@
 -- The demands hold: what is spelled is read, and the reader accepts every text that the writer writes. Assumes nothing.
+use Rattle.std.proofs.Common.{Result, Ok}
 use mathlib.Core.Path.{◌≡◌, refl, ap, ◌∙◌}
 use mathlib.Core.Bool.{Bool, true, false, cond, ◌&&◌}
-use mathlib.Core.List.{List, ◌++◌}
-use Prim.Native.Nat.{ℕ, zero, suc, ◌+◌, ◌*◌, ◌/◌, ◌≤◌, ◌<◌}
+use mathlib.Core.List.{List}
+use Prim.Native.Nat.{ℕ, zero, suc, ◌*◌, ◌/◌, ◌≤◌, ◌<◌}
 use native.Mathlib.Nat.{mul-le-mul_left}
 use native.Mathlib.Omega.{arith}
 use borrow.Author.Tests.{leb-true}
@@ -16,16 +17,14 @@ use Rattle.whole.specs.laws.Sums.{total-le}
 use Rattle.lattice.specs.Cell.{edge_good, coordinate_good}
 use Rattle.lattice.specs.declared.Settings.{Settings}
 use Rattle.grid.specs.declared.Sides.{Sides}
-use Rattle.grid.specs.declared.Answer.{Answer}
-use Rattle.grid.specs.declared.Answer.TheVariants.{Done}
+use Rattle.grid.specs.Answer.{Answer}
+use Rattle.grid.specs.Answer.{Done}
 use Rattle.grid.specs.State.{Lent}
 use Rattle.grid.proofs.GoodSides.{good-sides}
 use Rattle.tunnel.specs.Depth.{is_wall, open_fill}
 use Rattle.tunnel.proofs.Columns.{open-le}
-use Rattle.heights.specs.declared.header.Header.{Header}
-use Rattle.heights.specs.declared.header.Header.TheVariants.{Read}
-use Rattle.heights.specs.declared.rows.Rows.TheVariants.{Fine}
 use Rattle.numerals.specs.Text.{from_line}
+use Rattle.heights.specs.declared.header.Frame.{Frame}
 use Rattle.heights.specs.Header.{header_of}
 use Rattle.heights.specs.Rows.{rows_of}
 use Rattle.invert.specs.declared.testing.Lengths.{Lengths}
@@ -101,16 +100,16 @@ module _ (s : Sides) (t : Corner) (a : Lent) (room : List ℕ) (done : map_answe
   text-is = rw done (take_at (map_of s t a) (drop (length (map_of s t a)) room) (length (map_of s t a)) refl)
 
   -- the header, and the rows behind it
-  header_read : header_of (map_of s t a) ≡ Read (frame_of s t)
+  header_read : header_of (map_of s t a) ≡ Ok (frame_of s t)
   header_read = ap header_of map_is ∙ header-back s t written rows
 
-  rows-read : rows_of s.ny s.nx (from_line 6 (map_of s t a)) 7 ≡ Fine
+  rows-read : rows_of s.ny s.nx (from_line 6 (map_of s t a)) 7 ≡ Ok tt
   rows-read =
       ap (λ (l : List ℕ). rows_of s.ny s.nx (from_line 6 l) 7) map_is
       ∙ ap (λ (l : List ℕ). rows_of s.ny s.nx l 7) (rows_back s t written rows)
       ∙ some s.nx refl
     where
-      some : (n : ℕ) → s.nx ≡ n → rows_of s.ny n (rows_text (depth_at s (nat_abs t.edge) a.flags a.fills) n s.ny) 7 ≡ Fine
+      some : (n : ℕ) → s.nx ≡ n → rows_of s.ny n (rows_text (depth_at s (nat_abs t.edge) a.flags a.fills) n s.ny) 7 ≡ Ok tt
       some zero e = absurd (omega (arith, (good-sides s measured.good).x.low))
       some (suc n) e = rows-good (depth_at s (nat_abs t.edge) a.flags a.fills) n s.ny 7 (λ x y h k. depth_small s (nat_abs t.edge) a.flags a.fills measured x y (omega arith) k)
 
@@ -123,7 +122,7 @@ module _ (s : Sides) (t : Corner) (a : Lent) (room : List ℕ) (done : map_answe
     unfolding read_head
     read_is =
         ap (λ (x : List ℕ). read_head x nz oz g l) text-is
-        ∙ ap (λ (h : Header). head_by h (map_of s t a) nz oz g l) header_read
+        ∙ ap (λ (h : Result Frame ℕ). head_by h (map_of s t a) nz oz g l) header_read
         ∙ ap (λ (x : Answer). told_head x (sides_with s nz) g (site_with t oz)) answer-is
 
 pub read_back : ReadBack

@@ -1,15 +1,15 @@
 -- The reader takes the rows that the writer writes: each a line of so many whole numbers, and nothing behind them. Assumes nothing.
+use Rattle.std.proofs.Common.{Ok}
 use mathlib.Core.Path.{◌≡◌, refl, ap, ◌∙◌}
 use mathlib.Core.Bool.{true, false}
 use mathlib.Core.List.{List, [], ◌∷◌, ◌++◌, append_assoc}
-use Prim.Native.Nat.{ℕ, zero, suc, ◌+◌, ◌≤◌, ◌<◌}
+use Prim.Native.Nat.{ℕ, zero, suc, ◌+◌, ◌<◌}
 use native.Mathlib.Omega.{arith}
 use borrow.Author.Tests.{eq-eqb}
 use lib.IntN.{ℤ, nat_abs}
 use lib.ListN.{length, drop}
 use lib.Seq.{drop-append-add}
 use Rattle.numerals.specs.declared.text.Kind.TheVariants.{Word, Line}
-use Rattle.heights.specs.declared.rows.Rows.TheVariants.{Fine}
 use Rattle.numerals.specs.Text.{of_kind, run, behind, word, after_word, next_line, open-text}
 use Rattle.numerals.specs.Number.{number_of}
 use Rattle.heights.specs.Rows.{is_whole_number, row_good, tail_of, rows_of}
@@ -102,11 +102,11 @@ module _ (v : ℕ → ℤ) where
 
 -- ---- all rows
 
-none_left : (n i : ℕ) → rows_of 0 n [] i ≡ Fine
+none_left : (n i : ℕ) → rows_of 0 n [] i ≡ Ok tt
 unfolding rows_of tail_of
 none_left n i = refl
 
-pub rows-good : (v : ℕ → ℕ → ℤ) (n m i : ℕ) → ((x y : ℕ) → x < suc n → y < m → Small (v x y)) → rows_of m (suc n) (rows_text v (suc n) m) i ≡ Fine
+pub rows-good : (v : ℕ → ℕ → ℤ) (n m i : ℕ) → ((x y : ℕ) → x < suc n → y < m → Small (v x y)) → rows_of m (suc n) (rows_text v (suc n) m) i ≡ Ok tt
 unfolding rows_text
 rows-good v n zero i h = none_left (suc n) i
 rows-good v n (suc m) i h =

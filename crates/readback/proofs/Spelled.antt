@@ -1,6 +1,7 @@
 -- What the spelling of a number spells is that number. Assumes nothing.
+use Rattle.std.proofs.Common.{Some}
 use mathlib.Core.Path.{◌≡◌, refl, sym, ap, ap₂, ◌∙◌}
-use mathlib.Core.Bool.{Bool, true, ◌&&◌, ◌||◌, true≢false, false≢true}
+use mathlib.Core.Bool.{Bool, true, true≢false}
 use mathlib.Core.List.{List, [], ◌∷◌, ◌++◌, append_assoc, append-nil}
 use Prim.Native.Nat.{ℕ, zero, suc, ◌+◌, ◌-◌, ◌*◌, ◌/◌, ◌%◌, ◌^◌, ◌≤◌, ◌<◌}
 use native.Mathlib.Nat.{pow-succ', div-add-mod, mod-lt}
@@ -10,8 +11,6 @@ use lib.IntN.{ℤ, pos, negsuc, neg_ℤ, nat_abs, ◌*ℤ◌}
 use lib.ListN.{length, drop, get_or, length-append}
 use lib.Seq.{get_or_at, get_or-append-add, drop-append-add}
 use Rattle.numerals.specs.declared.text.Kind.TheVariants.{Digit, Nought}
-use Rattle.numerals.specs.declared.number.Magnitude.TheVariants.{Amount}
-use Rattle.numerals.specs.declared.number.Number.TheVariants.{Thousandths}
 use Rattle.numerals.specs.Text.{of_kind, run, every}
 use Rattle.numerals.specs.Number.{digit_at, value_to, thousandths_at, ends_well, plain_of, kept, negated, number_of}
 use Rattle.spelling.specs.Spelling.{digits_of, width, spell_of, whole_of, metres_of}
@@ -90,11 +89,11 @@ module _ (n : ℕ) (h : n < 1000000000000) where
 
   -- the value, from what follows
   pub plain-front : (r : List ℕ) (t : ℕ) → run (of_kind Digit) r ≡ 0 → ends_well (spell_of n ++ r) (width n) ≡ true → thousandths_at (spell_of n ++ r) (width n) ≡ t
-      → plain_of (spell_of n ++ r) ≡ Amount (1000 * n + t)
+      → plain_of (spell_of n ++ r) ≡ Some (1000 * n + t)
   plain-front r t e w v =
       let k = front r e in
       sym (plain-so (spell_of n ++ r) (omega (arith, k, width_some 19 n)) (omega (arith, k, few)) (ap (ends_well (spell_of n ++ r)) k ∙ w))
-      ∙ ap₂ (λ (a b : ℕ). Amount (1000 * a + b)) (ap (value_to (spell_of n ++ r)) k ∙ value-front r) (ap (thousandths_at (spell_of n ++ r)) k ∙ v)
+      ∙ ap₂ (λ (a b : ℕ). Some (1000 * a + b)) (ap (value_to (spell_of n ++ r)) k ∙ value-front r) (ap (thousandths_at (spell_of n ++ r)) k ∙ v)
 
   digit-behind : (r : List ℕ) (i : ℕ) → digit_at (spell_of n ++ r) (width n + i) ≡ digit_at r i
   unfolding digit_at
@@ -106,7 +105,7 @@ module _ (n : ℕ) (h : n < 1000000000000) where
   thousandths-behind r = omega (arith, digit-behind r 1, digit-behind r 2, digit-behind r 3)
 
   -- nothing follows
-  pub plain-whole : plain_of (spell_of n ++ []) ≡ Amount (1000 * n + 0)
+  pub plain-whole : plain_of (spell_of n ++ []) ≡ Some (1000 * n + 0)
   unfolding run digit_at
   plain-whole =
       plain-front [] 0 refl (sym (ends-here (spell_of n ++ []) (width n) (omega (arith, length-append (spell_of n) [], length-spell)))) (thousandths-behind [])
@@ -141,7 +140,7 @@ module _ (n : ℕ) (h : n < 1000000000000) where
     unfolding tail digits_of digit_at
     behind = thousandths-behind tail ∙ omega arith
 
-    pub plain-metres : plain_of (spell_of n ++ 46 ∷ digits_of 3 t) ≡ Amount (1000 * n + t)
+    pub plain-metres : plain_of (spell_of n ++ 46 ∷ digits_of 3 t) ≡ Some (1000 * n + t)
     unfolding tail
     plain-metres = plain-front tail t (run-no (of_kind Digit) 46 (digits_of 3 t) refl) ends behind
 
@@ -159,7 +158,7 @@ spell-some : (n : ℕ) → n < 1000000000000 → 0 < length (spell_of n)
 spell-some n h = omega (arith, length-spell n h, width_some 19 n)
 
 -- millimetres as metres, within ±10^15
-pub metres-spell : (z : ℤ) → nat_abs z < 1000000000000000 → number_of (metres_of z) ≡ Thousandths z
+pub metres-spell : (z : ℤ) → nat_abs z < 1000000000000000 → number_of (metres_of z) ≡ Some z
 unfolding metres_of
 metres-spell (pos m) h =
     let a = m / 1000 in
@@ -168,7 +167,7 @@ metres-spell (pos m) h =
     ap (λ (l : List ℕ). number_of (l ++ (spell_of a ++ 46 ∷ digits_of 3 (m % 1000)))) (plain-sign m)
     ∙ first-kept (spell_of a) (46 ∷ digits_of 3 (m % 1000)) (spell-each a s) (spell-some a s)
     ∙ ap kept (plain-metres a s (m % 1000) t)
-    ∙ ap (λ (n : ℕ). Thousandths (pos n)) (div-add-mod m 1000)
+    ∙ ap (λ (n : ℕ). Some (pos n)) (div-add-mod m 1000)
 metres-spell (negsuc m) h =
     let a = suc m / 1000 in
     let s : a < 1000000000000 = omega arith in
@@ -176,20 +175,20 @@ metres-spell (negsuc m) h =
     ap (λ (l : List ℕ). number_of (l ++ (spell_of a ++ 46 ∷ digits_of 3 (suc m % 1000)))) (minus-sign m)
     ∙ behind-minus (spell_of a ++ 46 ∷ digits_of 3 (suc m % 1000))
     ∙ ap negated (plain-metres a s (suc m % 1000) t)
-    ∙ ap (λ (n : ℕ). Thousandths (neg_ℤ (pos n))) (div-add-mod (suc m) 1000)
+    ∙ ap (λ (n : ℕ). Some (neg_ℤ (pos n))) (div-add-mod (suc m) 1000)
 
 -- a whole number, within ±10^12
-pub whole-spell : (z : ℤ) → nat_abs z < 1000000000000 → number_of (whole_of z) ≡ Thousandths (pos 1000 *ℤ z)
+pub whole-spell : (z : ℤ) → nat_abs z < 1000000000000 → number_of (whole_of z) ≡ Some (pos 1000 *ℤ z)
 unfolding whole_of
 whole-spell (pos m) h =
     ap (λ (l : List ℕ). number_of (l ++ spell_of m)) (plain-sign m)
     ∙ ap number_of (sym (append-nil (spell_of m)))
     ∙ first-kept (spell_of m) [] (spell-each m h) (spell-some m h)
     ∙ ap kept (plain-whole m h)
-    ∙ (let e : 1000 * m + 0 ≡ 1000 * m = omega arith in ap (λ (n : ℕ). Thousandths (pos n)) e)
+    ∙ (let e : 1000 * m + 0 ≡ 1000 * m = omega arith in ap (λ (n : ℕ). Some (pos n)) e)
 whole-spell (negsuc m) h =
     ap (λ (l : List ℕ). number_of (l ++ spell_of (suc m))) (minus-sign m)
     ∙ behind-minus (spell_of (suc m))
     ∙ ap (λ (l : List ℕ). negated (plain_of l)) (sym (append-nil (spell_of (suc m))))
     ∙ ap negated (plain-whole (suc m) h)
-    ∙ (let e : 1000 * suc m + 0 ≡ 1000 * suc m = omega arith in ap (λ (n : ℕ). Thousandths (neg_ℤ (pos n))) e)
+    ∙ (let e : 1000 * suc m + 0 ≡ 1000 * suc m = omega arith in ap (λ (n : ℕ). Some (neg_ℤ (pos n))) e)

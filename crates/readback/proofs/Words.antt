@@ -1,17 +1,17 @@
 -- What the writer spells are words of the reader, and its header lines are lines that the reader takes. Assumes nothing.
+use Rattle.std.proofs.Common.{None}
 use mathlib.Core.Path.{◌≡◌, refl, sym, ap, ◌∙◌, subst}
-use mathlib.Core.Bool.{Bool, true, false, ◌&&◌, ◌||◌, not, cond, true≢false, false≢true}
+use mathlib.Core.Bool.{Bool, true, false, ◌&&◌, not, cond, false≢true}
 use mathlib.Core.List.{List, [], ◌∷◌, ◌++◌, append_assoc}
-use Prim.Native.Nat.{ℕ, ◌+◌, ◌-◌, ◌*◌, ◌/◌, ◌%◌, ◌≤◌, ◌<◌}
+use Prim.Native.Nat.{ℕ, ◌/◌, ◌%◌, ◌<◌}
 use native.Mathlib.Omega.{arith}
 use borrow.Author.Tests.{ne_eqb, leb-true}
 use lib.Dec.{leb, eqb}
-use lib.IntN.{ℤ, pos, negsuc, nat_abs, ◌*ℤ◌}
+use lib.IntN.{ℤ, pos, negsuc, nat_abs}
 use lib.ListN.{length, drop, length-append}
 use lib.Seq.{take_at, drop_at}
 use Rattle.whole.specs.laws.Bools.{and_left, and_right}
 use Rattle.numerals.specs.declared.text.Kind.TheVariants.{Blank, Word, Line, Digit}
-use Rattle.numerals.specs.declared.number.Number.TheVariants.{Unreadable}
 use Rattle.heights.specs.declared.header.Key.{Key}
 use Rattle.heights.specs.declared.header.Key.TheVariants.{Columns, Rows, West, South, Edge, Missing}
 use Rattle.numerals.specs.Text.{of_kind, blank, run, ahead, behind, word, after_word, next_line, alike, open-text}
@@ -121,8 +121,8 @@ module _ (k : Key) (w : List ℕ) (p : Each (of_kind Word) w) (h : 0 < length w)
       let two : word l ≡ w = word-space (w ++ 10 ∷ rest) ∙ word-front w 10 rest p h refl in
       let past : after_word l ≡ 10 ∷ rest = after-space (w ++ 10 ∷ rest) ∙ after_front w 10 rest p h refl in
       let none : length (word (after_word l)) ≡ 0 = ap (λ (x : List ℕ). length (word x)) past ∙ ap length (no_word rest) in
-      ap (λ (x : List ℕ). cond (alike x (key_of k)) (last_of k (after_word t)) Unreadable) one
-      ∙ ap (λ (b : Bool). cond b (last_of k (after_word t)) Unreadable) (key-alike k)
+      ap (λ (x : List ℕ). cond (alike x (key_of k)) (last_of k (after_word t)) None) one
+      ∙ ap (λ (b : Bool). cond b (last_of k (after_word t)) None) (key-alike k)
       ∙ ap (last_of k) on
       ∙ sym (last-so k l none)
       ∙ ap (λ (x : List ℕ). checked k (number_of x)) two

@@ -1,13 +1,12 @@
 -- P8's demands on reader and writer together. Each is a type, proved in proofs/. Assumes nothing.
-use Rattle.std.specs.Prelude.{◌≡◌, true, List, ℕ, ◌≤◌, ◌<◌, ℤ, pos, nat_abs, ◌*ℤ◌, take}
+use Rattle.std.specs.Prelude.{◌≡◌, true, List, ℕ, ◌≤◌, ◌<◌, ℤ, pos, nat_abs, ◌*ℤ◌, take, Some}
 use Rattle.lattice.specs.declared.Settings.{Settings}
 use Rattle.grid.specs.declared.Sides.{Sides}
-use Rattle.grid.specs.declared.Answer.TheVariants.{Done}
+use Rattle.grid.specs.Answer.{Done}
 use Rattle.grid.specs.Grid.{cells_of}
 use Rattle.grid.specs.State.{Lent}
 use Rattle.record.specs.declared.Site.{Site}
 use Rattle.record.specs.Layout.{site_good}
-use Rattle.numerals.specs.declared.number.Number.TheVariants.{Thousandths}
 use Rattle.numerals.specs.Number.{number_of}
 use Rattle.invert.specs.declared.testing.Lengths.{Lengths}
 use Rattle.invert.specs.Outcome.{set_fits, given_answer, told_head, read_head}
@@ -17,10 +16,10 @@ use Rattle.depths.specs.Outcome.{map_answer, map_written, map_room}
 
 -- what the spelling of a number spells is that number, in thousandths: of a length within ±10^15 millimetres, and of a whole number within ±10^12
 abbrev pub MetresBack : Type 0
-MetresBack = (z : ℤ) → nat_abs z < 1000000000000000 → number_of (metres_of z) ≡ Thousandths z
+MetresBack = (z : ℤ) → nat_abs z < 1000000000000000 → number_of (metres_of z) ≡ Some z
 
 abbrev pub WholeBack : Type 0
-WholeBack = (z : ℤ) → nat_abs z < 1000000000000 → number_of (whole_of z) ≡ Thousandths (pos 1000 *ℤ z)
+WholeBack = (z : ℤ) → nat_abs z < 1000000000000 → number_of (whole_of z) ≡ Some (pos 1000 *ℤ z)
 
 -- the text that the writer leaves in its room
 abbrev pub text_in : Sides → Corner → Lent → List ℕ → List ℕ

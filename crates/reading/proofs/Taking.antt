@@ -2,8 +2,8 @@
 -- and the parts as the list that the first pass left; both are the record's own. Assumes nothing.
 use mathlib.Core.Path.{◌≡◌, sym, ap, ap₂, ◌∙◌, subst}
 use mathlib.Core.Bool.{true}
-use mathlib.Core.List.{List, [], ◌∷◌}
-use Prim.Native.Nat.{ℕ, suc, ◌+◌, ◌*◌, ◌-◌, ◌/◌, ◌%◌, ◌≤◌, ◌<◌}
+use mathlib.Core.List.{List}
+use Prim.Native.Nat.{ℕ, suc, ◌+◌, ◌*◌, ◌/◌, ◌%◌, ◌≤◌, ◌<◌}
 use native.Mathlib.Omega.{arith}
 use lib.IntN.{ℤ, pos}
 use lib.ListN.{length, get_or}
@@ -13,7 +13,7 @@ use Rattle.whole.specs.laws.Machine.{Within}
 use Rattle.whole.specs.laws.Tab.{tab-cong}
 use Rattle.lattice.specs.Lattice.{d3q19, density}
 use Rattle.lattice.proofs.Tame.{dense-low}
-use Rattle.grid.specs.declared.Answer.TheVariants.{Done}
+use Rattle.grid.specs.Answer.{Done}
 use Rattle.grid.specs.Grid.{grid_of, box, cells_of}
 use Rattle.grid.specs.State.{by_flag, liquid, lent_of, flag_of}
 use Rattle.grid.specs.Step.{fill_for}
@@ -29,6 +29,7 @@ use Rattle.record.specs.Places.{counts, masses_from, parts_from}
 use Rattle.record.specs.Layout.{site_good}
 use Rattle.record.specs.Reading.{settings_in, site_in, sides_in, totals_in, poured_in, taken_in, cells_in, flags_in, flag_in, interfaces_in, mass_at, part_at, part_in, mass_in, state_in, content_answer}
 use Rattle.record.specs.inner.Passes.{held_mass, held_part, Weighed, mass_loaded, fill_loaded, loaded_mass, loaded_fill}
+use Rattle.grid.specs.declared.refusals.Refusal.TheVariants.{BadLayer, BadSetting, BadState}
 
 module _ (r : List ℕ) where
   abbrev N : ℕ
@@ -85,12 +86,12 @@ module _ (r : List ℕ) where
     unfolding content_answer grid_of box cells_in cells_of
     cells-good c h =
         let n = cells_in r in
-        let last = or_refuse (totals_good (poured_in r) (taken_in r)) 6 n Done in
-        let six = if_none (suc n) 6 (bad_rule d3q19 n (state_in r)) last in
-        let five = if_none n 5 (bad_fluid 18 (grid_of (sides_in r)) (flag_in r)) six in
-        let a = passed (site_good (settings_in r) (site_in r)) 3 0 five done in
-        let b = none_found n 5 (bad_fluid 18 (grid_of (sides_in r)) (flag_in r)) six a.1 in
-        let d = none_found (suc n) 6 (bad_rule d3q19 n (state_in r)) last b.1 in
+        let last = or_refuse (totals_good (poured_in r) (taken_in r)) (BadState n) Done in
+        let six = if_none (suc n) BadState (bad_rule d3q19 n (state_in r)) last in
+        let five = if_none n BadLayer (bad_fluid 18 (grid_of (sides_in r)) (flag_in r)) six in
+        let a = passed (site_good (settings_in r) (site_in r)) (BadSetting 0) five done in
+        let b = none_found n BadLayer (bad_fluid 18 (grid_of (sides_in r)) (flag_in r)) six a.1 in
+        let d = none_found (suc n) BadState (bad_rule d3q19 n (state_in r)) last b.1 in
         cell-good d3q19 (grid_of (sides_in r)) (state_in r) d.0 c h
 
     body-there : (c : ℕ) → c < cells_in r → liquid (flag_in r c) ≡ true → Body (part_in r c)

@@ -52,15 +52,12 @@ pub fn first_unfair(rec: &[u8], flags: &[u8], masses: usize, parts: usize) -> us
 {
     let mut m = masses;
     let mut p = parts;
-    let mut c = 0;
-    while c < flags.len() {
-        let flag = flags[c];
-        if !fair_cell(rec, flag, m, p) {
+    for (c, flag) in flags.iter().enumerate() {
+        if !fair_cell(rec, *flag, m, p) {
             return c;
         }
-        m += 4 * one_interface(flag);
-        p += 76 * one_liquid(flag);
-        c += 1;
+        m += 4 * one_interface(*flag);
+        p += 76 * one_liquid(*flag);
     }
-    c
+    flags.len()
 }

@@ -15,11 +15,8 @@ pub fn parts_at(rec: &[u8], at: usize) -> [i32; 19]
     ensures { result ≡ tab 19 (λ (k : ℕ). i32_at rec.now (at + 4 * k)) }
 {
     let mut v = [0i32; 19];
-    let mut k = 0;
-    while k < 19 {
-        let x = i32_at(rec, at + 4 * k);
-        v[k] = x;
-        k += 1;
+    for k in 0..19 {
+        v[k] = i32_at(rec, at + 4 * k);
     }
     v
 }
@@ -42,11 +39,8 @@ pub fn load_parts(rec: &[u8], flags: &[u8], from: usize, parts: &mut [i32])
     ensures { parts.new ≡ tab (19 * length flags.now) (λ (m : ℕ). by_flag (flag_of flags.now (m / 19)) (pos 0) (i32_at rec.now (from + 4 * (19 * liquids (m / 19) (flag_of flags.now) + m % 19))) (i32_at rec.now (from + 4 * (19 * liquids (m / 19) (flag_of flags.now) + m % 19))) (pos 0)) }
 {
     let mut at = from;
-    let mut c = 0;
-    while c < flags.len() {
-        let flag = flags[c];
-        paste(parts, 19 * c, cell_parts(rec, flag, at));
-        at += 76 * one_liquid(flag);
-        c += 1;
+    for (c, flag) in flags.iter().enumerate() {
+        paste(parts, 19 * c, cell_parts(rec, *flag, at));
+        at += 76 * one_liquid(*flag);
     }
 }

@@ -7,11 +7,11 @@ ghost use Rattle.record.specs.Reading.{refused_head};
 use crate::content::content;
 use crate::shape::shape;
 use crate::take::take;
+use grid::Sides;
 use grid::extent::cells;
-use grid::{Answer, Sides};
+use grid::refusals::Answer;
 use lattice::Settings;
 use record::given::{settings_in, sides_in, site_in};
-use record::section::passed;
 use record::{Head, Site};
 
 // What is returned beside a refusal.
@@ -54,20 +54,18 @@ pub fn read(
 ) -> Head
     ensures { Read rec.now (lent [] parts.old masses.old fills.old carry.old) result parts.new masses.new fills.new carry.new }
 {
-    let shaped = shape(rec, parts.len(), masses.len(), fills.len(), carry.len());
-    if !passed(shaped) {
-        return refused(shaped);
+    if let Err(refusal) = shape(rec, parts.len(), masses.len(), fills.len(), carry.len()) {
+        return refused(Err(refusal));
     }
     let s = sides_in(rec);
-    let tested = content(rec, s);
-    if !passed(tested) {
-        return refused(tested);
+    if let Err(refusal) = content(rec, s) {
+        return refused(Err(refusal));
     }
     take(rec, cells(s), parts, masses, fills, carry);
     let g = settings_in(rec);
     let t = site_in(rec);
     Head {
-        answer: Answer::Done,
+        answer: Ok(()),
         sides: s,
         settings: g,
         site: t,

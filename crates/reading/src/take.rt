@@ -1,6 +1,6 @@
 // An accepted record into the lent slices.
 ghost use Rattle.std.specs.Prelude.{◌≡◌, ◌*◌, length};
-ghost use Rattle.grid.specs.declared.Answer.TheVariants.{Done};
+ghost use Rattle.grid.specs.Answer.{Done};
 ghost use Rattle.record.specs.Reading.{cells_in, content_answer};
 ghost use Rattle.record.specs.inner.Passes.{Sound, Taken};
 

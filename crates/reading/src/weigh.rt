@@ -71,14 +71,11 @@ pub fn load_masses(
     ensures { Loaded rec.now flags.now from parts.now masses.new fills.new }
 {
     let mut at = from;
-    let mut c = 0;
-    while c < flags.len() {
-        let flag = flags[c];
-        let rho = cell_density(flag, parts, c);
-        let m = cell_mass(rec, flag, at, rho);
+    for (c, flag) in flags.iter().enumerate() {
+        let rho = cell_density(*flag, parts, c);
+        let m = cell_mass(rec, *flag, at, rho);
         masses[c] = m;
-        fills[c] = cell_fill(flag, m, rho);
-        at += 4 * one_interface(flag);
-        c += 1;
+        fills[c] = cell_fill(*flag, m, rho);
+        at += 4 * one_interface(*flag);
     }
 }

@@ -2,10 +2,9 @@
 -- slices of the right lengths. The one idea: the record is its sections one after the other, so each number is read where it was put; that a good
 -- state's numbers fit their bytes is what its rules say. Assumes nothing.
 use mathlib.Core.Path.{◌≡◌, refl, sym, ap, ap₂, ◌∙◌, subst}
-use mathlib.Core.Bool.{Bool, true, false, not, cond, ◌&&◌, false≢true}
+use mathlib.Core.Bool.{Bool, true, false, not, cond, ◌&&◌}
 use mathlib.Core.List.{List, [], ◌∷◌, ◌++◌}
-use mathlib.Core.Logic.{◌⊎◌}
-use Prim.Native.Nat.{ℕ, suc, ◌+◌, ◌*◌, ◌^◌, ◌≤◌, ◌<◌}
+use Prim.Native.Nat.{ℕ, suc, ◌+◌, ◌*◌, ◌≤◌, ◌<◌}
 use native.Mathlib.Nat.{le_trans, le_of_eq}
 use native.Mathlib.Omega.{arith}
 use lib.Dec.{eqb, leb}
@@ -22,7 +21,7 @@ use Rattle.lattice.specs.Lattice.{d3q19, density}
 use Rattle.lattice.specs.Cell.{edge_good, coordinate_good, carry_good}
 use Rattle.lattice.specs.declared.Settings.{Settings}
 use Rattle.grid.specs.declared.Sides.{Sides}
-use Rattle.grid.specs.declared.Answer.TheVariants.{Done}
+use Rattle.grid.specs.Answer.{Done}
 use Rattle.grid.specs.Grid.{cells_of, sides_good, grid_of, box}
 use Rattle.grid.specs.Good.{dry_good, interface_good, fluid_good, fill_good, cell_good, bad_flag, bad_fluid, bad_rule}
 use Rattle.lattice.specs.Body.{eq_z}
@@ -54,6 +53,7 @@ use Rattle.record.proofs.Standing.{count-five, flags-back, count-six, count-seve
 use Rattle.record.proofs.WrittenBy.{Fit, small, write-fit}
 use Rattle.record.proofs.Answers.{or-pass}
 use Rattle.record.proofs.Shaped.{shape-passes}
+use Rattle.grid.specs.declared.refusals.Refusal.TheVariants.{BadFlag, BadLayer, BadSetting, BadState}
 
 -- the claim
 abbrev pub Claim : Type 0
@@ -163,9 +163,9 @@ module _ (s : Sides) (g : Settings) (t : Site) (a : Lent) (fit : Fit s g t a) wh
   tests : (n ≤ bad_flag (grid_of s) S.flag) × (n ≤ bad_fluid 18 (grid_of s) S.flag) × (suc n ≤ bad_rule d3q19 n S)
   unfolding good_answer grid_of box cells_of d3q19
   tests =
-      let four = none_found (cells_of s) 4 (bad_flag (grid_of s) S.flag) _ fit.good in
-      let five = none_found (cells_of s) 5 (bad_fluid 18 (grid_of s) S.flag) _ four.1 in
-      let six = none_found (suc (cells_of s)) 6 (bad_rule d3q19 (cells_of s) S) Done five.1 in
+      let four = none_found (cells_of s) BadFlag (bad_flag (grid_of s) S.flag) _ fit.good in
+      let five = none_found (cells_of s) BadLayer (bad_fluid 18 (grid_of s) S.flag) _ four.1 in
+      let six = none_found (suc (cells_of s)) BadState (bad_rule d3q19 (cells_of s) S) Done five.1 in
       (four.0, five.0, six.0)
 
   cells-good : (c : ℕ) → c < n → cell_good d3q19 S c ≡ true
@@ -401,9 +401,9 @@ module _ (s : Sides) (g : Settings) (t : Site) (a : Lent) (fit : Fit s g t a) wh
       let kept : suc m ≤ rules =
       subst (λ (k : ℕ). suc k ≤ bad_rule d3q19 k (state_in rec)) (sym cells-so) (le_trans tests.2 (le_of_eq (sym (bad-rule-same d3q19 n (state_in rec) S same)))) in
       let totals = totals_good (poured_in rec) (taken_in rec) in
-      let last = or_refuse totals 6 m Done in
-      or-pass 3 0 _ (ap₂ site_good settings-so site-so ∙ no_mode g t ∙ fit.site) ∙ skip m 5 place (if_none (suc m) 6 rules last) shut ∙ skip (suc m) 6 rules last kept
-      ∙ or-pass 6 m Done (ap₂ totals_good poured-so taken-so ∙ fit.totals)
+      let last = or_refuse totals (BadState m) Done in
+      or-pass (BadSetting 0) _ (ap₂ site_good settings-so site-so ∙ no_mode g t ∙ fit.site) ∙ skip m BadLayer place (if_none (suc m) BadState rules last) shut ∙ skip (suc m) BadState rules last kept
+      ∙ or-pass (BadState m) Done (ap₂ totals_good poured-so taken-so ∙ fit.totals)
     where
       same : Same d3q19.q n (state_in rec) S
       same = lattice-same

@@ -3,12 +3,12 @@
 use mathlib.Core.Path.{◌≡◌, ◌∙◌}
 use mathlib.Core.Bool.{Bool, true}
 use mathlib.Core.List.{List}
-use Prim.Native.Nat.{ℕ, ◌≤◌}
+use Prim.Native.Nat.{ℕ}
 use lib.Dec.{leb}
 use lib.ListN.{length}
 use borrow.Author.Tests.{leb-true, le-leb}
-use Rattle.grid.specs.declared.Answer.{Answer}
-use Rattle.grid.specs.declared.Answer.TheVariants.{Done}
+use Rattle.grid.specs.Answer.{Answer}
+use Rattle.grid.specs.Answer.{Done}
 use Rattle.grid.specs.Outcome.{accepted, or_refuse, if_none}
 use Rattle.record.specs.declared.Counts.{Counts}
 use Rattle.record.specs.Places.{past, settings_from, origin_from, totals_from, cells_from, masses_from}
@@ -16,13 +16,14 @@ use Rattle.record.specs.Reading.{whole, opens_on, fronts_on, ends_on, shapes_on}
 use Rattle.record.specs.Bytes.{Held}
 use Rattle.record.specs.inner.Passes.{Shaped}
 use Rattle.record.proofs.Answers.{whole-held, Chain, chain-or, chain-whole, chain-both, chain-then, or-true, or-pass, whole-there}
+use Rattle.grid.specs.declared.refusals.Refusal.TheVariants.{BadEnd, BadFlag, BadLength, BadSides}
 
 -- ---- each group passes the rest on, or answers itself
 module _ (r : List ℕ) (K : Counts) where
   pub chain-opens-on : (good fit : Bool) → Chain (opens_on r K good fit)
   chain-opens-on good fit =
-      chain-then (whole r 1 0 K.sides 4) (λ rest. or_refuse good 1 0 (or_refuse fit 2 0 rest)) (chain-whole r 1 0 K.sides 4)
-      (chain-then (or_refuse good 1 0) (or_refuse fit 2 0) (chain-or good 1 0) (chain-or fit 2 0))
+      chain-then (whole r 1 0 K.sides 4) (λ rest. or_refuse good BadSides (or_refuse fit BadLength rest)) (chain-whole r 1 0 K.sides 4)
+      (chain-then (or_refuse good BadSides) (or_refuse fit BadLength) (chain-or good BadSides) (chain-or fit BadLength))
 
   pub chain-fronts-on : (k n : ℕ) → Chain (fronts_on r K k n)
   chain-fronts-on k n =
@@ -37,9 +38,9 @@ module _ (r : List ℕ) (K : Counts) where
   -- what the first two show when they pass
   pub opened-on : (good fit : Bool) → accepted (opens_on r K good fit Done) ≡ true → Held r 0 K.sides 4 × (good ≡ true) × (fit ≡ true)
   opened-on good fit e =
-      let one = chain-both (whole r 1 0 K.sides 4) (λ rest. or_refuse good 1 0 (or_refuse fit 2 0 rest)) (chain-whole r 1 0 K.sides 4) e in
-      let tests = chain-both (or_refuse good 1 0) (or_refuse fit 2 0) (chain-or good 1 0) one.1 in
-      (whole-held r 1 0 K.sides 4 one.0, or-true good 1 0 tests.0, or-true fit 2 0 tests.1)
+      let one = chain-both (whole r 1 0 K.sides 4) (λ rest. or_refuse good BadSides (or_refuse fit BadLength rest)) (chain-whole r 1 0 K.sides 4) e in
+      let tests = chain-both (or_refuse good BadSides) (or_refuse fit BadLength) (chain-or good BadSides) one.1 in
+      (whole-held r 1 0 K.sides 4 one.0, or-true good BadSides tests.0, or-true fit BadLength tests.1)
 
   pub fronted-on : (k n : ℕ) → accepted (fronts_on r K k n Done) ≡ true
       → Held r (settings_from K) K.settings 4 × Held r (origin_from K) K.origin 8 × Held r (totals_from K) k 8 × Held r (cells_from K k) n 1
@@ -61,16 +62,16 @@ pub chain-ends-on : (r : List ℕ) (from i m : ℕ) → Chain (ends_on r from i 
 chain-ends-on r from i m =
     let parts = past from 4 i in
     let end = past parts 4 m in
-    chain-then (whole r 6 from i 4) (λ rest. whole r 7 parts m 4 (or_refuse (leb (length r) end) 10 end rest)) (chain-whole r 6 from i 4)
-    (chain-then (whole r 7 parts m 4) (or_refuse (leb (length r) end) 10 end) (chain-whole r 7 parts m 4) (chain-or (leb (length r) end) 10 end))
+    chain-then (whole r 6 from i 4) (λ rest. whole r 7 parts m 4 (or_refuse (leb (length r) end) (BadEnd end) rest)) (chain-whole r 6 from i 4)
+    (chain-then (whole r 7 parts m 4) (or_refuse (leb (length r) end) (BadEnd end)) (chain-whole r 7 parts m 4) (chain-or (leb (length r) end) (BadEnd end)))
 
 -- ---- all of them
 module _ (r : List ℕ) (K : Counts) (k n i m : ℕ) (good fit : Bool) (bad : ℕ) where
   abbrev back : Answer → Answer
-  back rest = if_none n 4 bad (ends_on r (masses_from K k n) i m rest)
+  back rest = if_none n BadFlag bad (ends_on r (masses_from K k n) i m rest)
 
   chain_back : Chain back
-  chain_back = chain-then (if_none n 4 bad) (ends_on r (masses_from K k n) i m) (chain-or (leb n bad) 4 bad) (chain-ends-on r (masses_from K k n) i m)
+  chain_back = chain-then (if_none n BadFlag bad) (ends_on r (masses_from K k n) i m) (chain-or (leb n bad) (BadFlag bad)) (chain-ends-on r (masses_from K k n) i m)
 
   pub chain-shapes : Chain (shapes_on r K k n i m good fit bad)
   chain-shapes =
@@ -89,9 +90,9 @@ module _ (r : List ℕ) (K : Counts) (k n i m : ℕ) (good fit : Bool) (bad : �
         let one = opened-on r K good fit all.0 in
         let later = chain-both (fronts_on r K k n) back (chain-fronts-on r K k n) all.1 in
         let two = fronted-on r K k n later.0 in
-        let tested = chain-both (if_none n 4 bad) (ends_on r from i m) (chain-or (leb n bad) 4 bad) later.1 in
-        let six = chain-both (whole r 6 from i 4) (λ rest. whole r 7 parts m 4 (or_refuse end 10 last rest)) (chain-whole r 6 from i 4) tested.1 in
-        let seven = chain-both (whole r 7 parts m 4) (or_refuse end 10 last) (chain-whole r 7 parts m 4) six.1 in
+        let tested = chain-both (if_none n BadFlag bad) (ends_on r from i m) (chain-or (leb n bad) (BadFlag bad)) later.1 in
+        let six = chain-both (whole r 6 from i 4) (λ rest. whole r 7 parts m 4 (or_refuse end (BadEnd last) rest)) (chain-whole r 6 from i 4) tested.1 in
+        let seven = chain-both (whole r 7 parts m 4) (or_refuse end (BadEnd last)) (chain-whole r 7 parts m 4) six.1 in
         record {
           first = one.0;
           sides = one.1;
@@ -99,10 +100,10 @@ module _ (r : List ℕ) (K : Counts) (k n i m : ℕ) (good fit : Bool) (bad : �
           origin = two.1;
           totals = two.2;
           flags = two.3;
-          tested = leb-true n bad (or-true (leb n bad) 4 bad tested.0);
+          tested = leb-true n bad (or-true (leb n bad) (BadFlag bad) tested.0);
           masses = whole-held r 6 from i 4 six.0;
           parts = whole-held r 7 parts m 4 seven.0;
-          end = leb-true (length r) last (or-true end 10 last seven.1);
+          end = leb-true (length r) last (or-true end (BadEnd last) seven.1);
         }
 
     -- and the slices fit it
@@ -116,13 +117,13 @@ module _ (r : List ℕ) (K : Counts) (k n i m : ℕ) (good fit : Bool) (bad : �
       let parts = past from 4 i in
       let end = past parts 4 m in
       whole-there r 1 0 K.sides 4 _ s.first
-      ∙ or-pass 1 0 _ s.sides
-      ∙ or-pass 2 0 (fronts_on r K k n (back rest)) fits
+      ∙ or-pass BadSides _ s.sides
+      ∙ or-pass BadLength (fronts_on r K k n (back rest)) fits
       ∙ whole-there r 2 (settings_from K) K.settings 4 _ s.settings
       ∙ whole-there r 3 (origin_from K) K.origin 8 _ s.origin
       ∙ whole-there r 4 (totals_from K) k 8 _ s.totals
       ∙ whole-there r 5 (cells_from K k) n 1 (back rest) s.flags
-      ∙ or-pass 4 bad (ends_on r from i m rest) (le-leb n bad s.tested)
+      ∙ or-pass (BadFlag bad) (ends_on r from i m rest) (le-leb n bad s.tested)
       ∙ whole-there r 6 from i 4 _ s.masses
-      ∙ whole-there r 7 parts m 4 (or_refuse (leb (length r) end) 10 end rest) s.parts
-      ∙ or-pass 10 end rest (le-leb (length r) end s.end)
+      ∙ whole-there r 7 parts m 4 (or_refuse (leb (length r) end) (BadEnd end) rest) s.parts
+      ∙ or-pass (BadEnd end) rest (le-leb (length r) end s.end)

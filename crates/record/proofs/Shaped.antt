@@ -5,8 +5,8 @@ use mathlib.Core.Bool.{Bool, true}
 use mathlib.Core.List.{List}
 use Prim.Native.Nat.{ℕ, ◌*◌}
 use lib.ListN.{length}
-use Rattle.grid.specs.declared.Answer.{Answer}
-use Rattle.grid.specs.declared.Answer.TheVariants.{Done}
+use Rattle.grid.specs.Answer.{Answer}
+use Rattle.grid.specs.Answer.{Done}
 use Rattle.grid.specs.Grid.{sides_good, grid_of}
 use Rattle.grid.specs.State.{Lent}
 use Rattle.grid.specs.Good.{bad_flag}
@@ -19,6 +19,7 @@ use Rattle.record.specs.Bytes.{Held}
 use Rattle.record.specs.inner.Passes.{Sound}
 use Rattle.record.proofs.Answers.{Chain, chain-both}
 use Rattle.record.proofs.Sections.{chain-opens-on, chain-fronts-on, opened-on, fronted-on, chain-shapes, shaped, fitted, shapes-pass}
+use Rattle.grid.specs.declared.refusals.Refusal.TheVariants.{BadFlag}
 
 -- ---- the groups
 abbrev pub opens : List ℕ → ℕ → ℕ → ℕ → ℕ → Answer → Answer
@@ -28,7 +29,7 @@ abbrev pub fronts : List ℕ → ℕ → Answer → Answer
 fronts r n rest = fronts_on r counts (totals_in r) n rest
 
 abbrev pub flagged : List ℕ → Answer → Answer
-flagged r rest = if_none (cells_in r) 4 (bad_flag (grid_of (sides_in r)) (flag_in r)) rest
+flagged r rest = if_none (cells_in r) BadFlag (bad_flag (grid_of (sides_in r)) (flag_in r)) rest
 
 pub chain-opens : (r : List ℕ) (p m f k : ℕ) → Chain (opens r p m f k)
 chain-opens r p m f k = chain-opens-on r counts (sides_good (sides_in r)) (slices_fit (cells_in r) p m f k)

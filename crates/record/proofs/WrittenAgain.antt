@@ -3,7 +3,7 @@
 use mathlib.Core.Path.{◌≡◌, refl, sym, ap, ap₂, ◌∙◌, subst}
 use mathlib.Core.Bool.{Bool, true, ◌&&◌, cond}
 use mathlib.Core.List.{List, ◌++◌}
-use Prim.Native.Nat.{ℕ, suc, ◌+◌, ◌*◌, ◌≤◌}
+use Prim.Native.Nat.{ℕ, suc, ◌*◌, ◌≤◌}
 use native.Mathlib.Omega.{arith}
 use lib.Dec.{eqb}
 use lib.ListN.{length, drop}
@@ -11,8 +11,8 @@ use borrow.Author.Tests.{eq-eqb, le-leb}
 use Rattle.whole.specs.laws.Bools.{and_left}
 use Rattle.whole.specs.laws.Tab.{length-tab}
 use Rattle.lattice.specs.Lattice.{d3q19}
-use Rattle.grid.specs.declared.Answer.{Answer}
-use Rattle.grid.specs.declared.Answer.TheVariants.{Done}
+use Rattle.grid.specs.Answer.{Answer}
+use Rattle.grid.specs.Answer.{Done}
 use Rattle.grid.specs.Grid.{cells_of, grid_of, box}
 use Rattle.grid.specs.Demands.{Same}
 use Rattle.grid.specs.Outcome.{accepted, or_refuse, good_answer, lengths_good}
@@ -33,6 +33,7 @@ use Rattle.record.proofs.Assembled.{length-record}
 use Rattle.record.proofs.FlagPart.{length-flags}
 use Rattle.record.proofs.Shaped.{sound, shape-accepted, content-accepted}
 use Rattle.record.proofs.SameBytes.{grid_read, same_bytes}
+use Rattle.grid.specs.declared.refusals.Refusal.TheVariants.{BadFlag, BadLayer, BadLength, BadRoom, BadSetting, BadSides, BadState}
 
 -- the claim
 abbrev pub Claim : Type 0
@@ -66,13 +67,13 @@ module _ (r : List ℕ) (k : Sound r) (content : content_answer r ≡ Done) wher
   unfolding content_answer good_answer grid_of box cells_in cells_of state_of flag_in d3q19
   tests =
       let n = cells_in r in
-      let a = passed (site_good (settings_in r) (site_in r)) 3 0 _ content in
-      let b = none_found n 5 _ _ a.1 in
-      let d = none_found (suc n) 6 _ _ b.1 in
-      let e = passed (totals_good (poured_in r) (taken_in r)) 6 n Done d.1 in
+      let a = passed (site_good (settings_in r) (site_in r)) (BadSetting 0) _ content in
+      let b = none_found n BadLayer _ _ a.1 in
+      let d = none_found (suc n) BadState _ _ b.1 in
+      let e = passed (totals_good (poured_in r) (taken_in r)) (BadState n) Done d.1 in
       let good : (rest : Answer) → good_answer d3q19 (grid_of (sides_in r)) (state_of 18 (taken r)) rest ≡ rest =
-      λ rest. skip n 4 _ _ k.tested ∙ skip n 5 _ _ b.0 ∙ skip (suc n) 6 _ rest (subst (λ (m : ℕ). suc n ≤ m) (bad-rule-same d3q19 n (state_in r) (state_of 18 (taken r)) same) d.0) in
-      (a.0, λ rest. good (or_refuse (totals_good (poured_in r) (taken_in r)) 6 n rest) ∙ or-pass 6 n rest e.0)
+      λ rest. skip n BadFlag _ _ k.tested ∙ skip n BadLayer _ _ b.0 ∙ skip (suc n) BadState _ rest (subst (λ (m : ℕ). suc n ≤ m) (bad-rule-same d3q19 n (state_in r) (state_of 18 (taken r)) same) d.0) in
+      (a.0, λ rest. good (or_refuse (totals_good (poured_in r) (taken_in r)) (BadState n) rest) ∙ or-pass (BadState n) rest e.0)
 
   length-same : record_of (sides_in r) (settings_in r) (site_in r) (taken r) ≡ written_back r → record_length (sides_in r) (taken r) ≡ length (written_back r)
   unfolding cells_in
@@ -81,7 +82,7 @@ module _ (r : List ℕ) (k : Sound r) (content : content_answer r ≡ Done) wher
   accepts : (room : List ℕ) → record_length (sides_in r) (taken r) ≤ length room → write_answer (sides_in r) (settings_in r) (site_in r) (taken r) room ≡ Done
   unfolding write_answer cells_in
   accepts room fits =
-      or-pass 1 0 _ k.sides ∙ or-pass 2 0 _ lengths-pass ∙ or-pass 3 0 _ tests.0 ∙ tests.1 _ ∙ or-pass 12 (record_length (sides_in r) (taken r)) Done (le-leb (record_length (sides_in r) (taken r)) (length room) fits)
+      or-pass BadSides _ k.sides ∙ or-pass BadLength _ lengths-pass ∙ or-pass (BadSetting 0) _ tests.0 ∙ tests.1 _ ∙ or-pass (BadRoom (record_length (sides_in r) (taken r))) Done (le-leb (record_length (sides_in r) (taken r)) (length room) fits)
 
   writes : (room : List ℕ) → record_of (sides_in r) (settings_in r) (site_in r) (taken r) ≡ written_back r → length (written_back r) ≤ length room
       → (write_answer (sides_in r) (settings_in r) (site_in r) (taken r) room ≡ Done)

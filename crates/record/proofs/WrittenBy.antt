@@ -19,8 +19,8 @@ use Rattle.lattice.specs.Cell.{relaxation_good, gravity_good, edge_good, coordin
 use Rattle.lattice.specs.declared.Settings.{Settings}
 use Rattle.lattice.proofs.Ranges.{weak-x, weak-y, weak-z}
 use Rattle.grid.specs.declared.Sides.{Sides}
-use Rattle.grid.specs.declared.Answer.{Answer}
-use Rattle.grid.specs.declared.Answer.TheVariants.{Done, Refused}
+use Rattle.grid.specs.Answer.{Answer}
+use Rattle.grid.specs.Answer.{Done}
 use Rattle.grid.specs.Grid.{Grid, sides_good, cells_of, grid_of}
 use Rattle.grid.specs.State.{Lent, State, state_of}
 use Rattle.grid.specs.Good.{bad_flag, bad_fluid, bad_rule}
@@ -37,6 +37,8 @@ use Rattle.record.specs.Writing.{room_test, written_on, room_on, write_answer, w
 use Rattle.record.specs.Promise.{Wrote}
 use Rattle.record.proofs.Answers.{Chain, chain-or, chain-both, chain-then, or-true, or-pass, or-fail}
 use Rattle.record.proofs.Assembled.{length-record, front-put}
+use Rattle.grid.specs.declared.refusals.Refusal.TheVariants.{BadFlag, BadLayer, BadLength, BadRoom, BadSetting, BadSides, BadState}
+use Rattle.std.specs.Prelude.{Err}
 
 -- ---- settings in their ranges
 low : (k : ℕ) (z : ℤ) → (le_z (pos 1) z && le_z z (pos k)) ≡ true → k ≤ 2147483647 → Within z 2147483647
@@ -84,16 +86,16 @@ module _ (F : Answer → Answer) (chain : Chain F) (rec : List ℕ) (long : ℕ)
   pub refused-on : (x : Answer) → x ≡ F Done → accepted x ≡ false → WroteOn (F (room_test long room)) rec long room (record { answer = x; bytes = 0 }) room
   refused-on x e f = refused x (e ∙ sym (chain.refuses (sym (ap accepted e) ∙ f) (room_test long room))) f
 
-  pub short_on : (n : ℕ) → n ≡ long → accepted (F Done) ≡ true → length room < n → WroteOn (F (room_test long room)) rec long room (record { answer = Refused 12 n; bytes = 0 }) room
+  pub short_on : (n : ℕ) → n ≡ long → accepted (F Done) ≡ true → length room < n → WroteOn (F (room_test long room)) rec long room (record { answer = Err (BadRoom n); bytes = 0 }) room
   short_on n is ok h =
-      refused (Refused 12 n)
-      (ap (Refused 12) is ∙ sym (chain.passes ok (room_test long room) ∙ or-fail 12 long Done (lt-leb long (length room) (omega arith))))
+      refused (Err (BadRoom n))
+      (ap (λ (p : ℕ). Err (BadRoom p)) is ∙ sym (chain.passes ok (room_test long room) ∙ or-fail (BadRoom long) Done (lt-leb long (length room) (omega arith))))
       refl
 
   pub done_on : (n : ℕ) (after : List ℕ) → n ≡ long → length rec ≡ long → accepted (F Done) ≡ true → n ≤ length room → after ≡ sets room 0 rec
       → WroteOn (F (room_test long room)) rec long room (record { answer = Done; bytes = n }) after
   done_on n after is size ok h e =
-      let done : F (room_test long room) ≡ Done = chain.passes ok (room_test long room) ∙ or-pass 12 long Done (le-leb long (length room) (omega arith)) in
+      let done : F (room_test long room) ≡ Done = chain.passes ok (room_test long room) ∙ or-pass (BadRoom long) Done (le-leb long (length room) (omega arith)) in
       record {
         answer-so = rw done (ap (λ (k : ℕ). record { answer = Done; bytes = k }) is);
         room-so = rw done (e ∙ front-put room rec (omega arith) ∙ ap (λ (k : ℕ). rec ++ drop k room) size);
@@ -107,18 +109,18 @@ chain-good L G s =
     let four = bad_flag G s.flag in
     let five = bad_fluid L.q G s.flag in
     let six = bad_rule L n s in
-    chain-then (if_none n 4 four) (λ rest. if_none n 5 five (if_none (suc n) 6 six rest)) (chain-or (leb n four) 4 four)
-    (chain-then (if_none n 5 five) (if_none (suc n) 6 six) (chain-or (leb n five) 5 five) (chain-or (leb (suc n) six) 6 six))
+    chain-then (if_none n BadFlag four) (λ rest. if_none n BadLayer five (if_none (suc n) BadState six rest)) (chain-or (leb n four) (BadFlag four))
+    (chain-then (if_none n BadLayer five) (if_none (suc n) BadState six) (chain-or (leb n five) (BadLayer five)) (chain-or (leb (suc n) six) (BadState six)))
 
 -- tests 4 to 6, poured and taken with them
 pub chain-three : (s : Sides) (a : Lent) → Chain (three_good s a)
 chain-three s a =
     let T = totals_good (number_in a 1) (number_in a 2) in
-    chain-then (good_answer d3q19 (grid_of s) (state_of 18 a)) (or_refuse T 6 (cells_of s)) (chain-good d3q19 (grid_of s) (state_of 18 a)) (chain-or T 6 (cells_of s))
+    chain-then (good_answer d3q19 (grid_of s) (state_of 18 a)) (or_refuse T (BadState (cells_of s))) (chain-good d3q19 (grid_of s) (state_of 18 a)) (chain-or T (BadState (cells_of s)))
 
 module _ (s : Sides) (g : Settings) (t : Site) (a : Lent) where
   abbrev pub fits : Answer → Answer
-  fits rest = or_refuse (sides_good s) 1 0 (or_refuse (three_lengths (cells_of s) a) 2 0 (or_refuse (site_good g t) 3 0 (three_good s a rest)))
+  fits rest = or_refuse (sides_good s) BadSides (or_refuse (three_lengths (cells_of s) a) BadLength (or_refuse (site_good g t) (BadSetting 0) (three_good s a rest)))
 
   pub chain_fits : Chain fits
   chain_fits =
@@ -126,9 +128,9 @@ module _ (s : Sides) (g : Settings) (t : Site) (a : Lent) where
       let A = three_lengths (cells_of s) a in
       let T = site_good g t in
       let G = three_good s a in
-      chain-then (or_refuse S 1 0) (λ rest. or_refuse A 2 0 (or_refuse T 3 0 (G rest))) (chain-or S 1 0)
-      (chain-then (or_refuse A 2 0) (λ rest. or_refuse T 3 0 (G rest)) (chain-or A 2 0)
-      (chain-then (or_refuse T 3 0) G (chain-or T 3 0) (chain-three s a)))
+      chain-then (or_refuse S BadSides) (λ rest. or_refuse A BadLength (or_refuse T (BadSetting 0) (G rest))) (chain-or S BadSides)
+      (chain-then (or_refuse A BadLength) (λ rest. or_refuse T (BadSetting 0) (G rest)) (chain-or A BadLength)
+      (chain-then (or_refuse T (BadSetting 0)) G (chain-or T (BadSetting 0)) (chain-three s a)))
 
   -- a grid that passed them
   pub record Fit : Type 0 where
@@ -147,17 +149,17 @@ module _ (s : Sides) (g : Settings) (t : Site) (a : Lent) where
       let G = three_good s a in
       let K = good_answer d3q19 (grid_of s) (state_of 18 a) in
       let P = totals_good (number_in a 1) (number_in a 2) in
-      let one = chain-both (or_refuse S 1 0) (λ rest. or_refuse A 2 0 (or_refuse T 3 0 (G rest))) (chain-or S 1 0) e in
-      let two = chain-both (or_refuse A 2 0) (λ rest. or_refuse T 3 0 (G rest)) (chain-or A 2 0) one.1 in
-      let three = chain-both (or_refuse T 3 0) G (chain-or T 3 0) two.1 in
-      let four = chain-both K (or_refuse P 6 (cells_of s)) (chain-good d3q19 (grid_of s) (state_of 18 a)) three.1 in
+      let one = chain-both (or_refuse S BadSides) (λ rest. or_refuse A BadLength (or_refuse T (BadSetting 0) (G rest))) (chain-or S BadSides) e in
+      let two = chain-both (or_refuse A BadLength) (λ rest. or_refuse T (BadSetting 0) (G rest)) (chain-or A BadLength) one.1 in
+      let three = chain-both (or_refuse T (BadSetting 0)) G (chain-or T (BadSetting 0)) two.1 in
+      let four = chain-both K (or_refuse P (BadState (cells_of s))) (chain-good d3q19 (grid_of s) (state_of 18 a)) three.1 in
       record {
-        sides = or-true S 1 0 one.0;
-        lengths = head-sized s a (or-true A 2 0 two.0);
-        numbers = carry-three s a (or-true A 2 0 two.0);
-        site = or-true T 3 0 three.0;
+        sides = or-true S BadSides one.0;
+        lengths = head-sized s a (or-true A BadLength two.0);
+        numbers = carry-three s a (or-true A BadLength two.0);
+        site = or-true T (BadSetting 0) three.0;
         good = accepted-done (K Done) four.0;
-        totals = or-true P 6 (cells_of s) four.1;
+        totals = or-true P (BadState (cells_of s)) four.1;
       }
 
   module _ (room : List ℕ) where
@@ -176,7 +178,7 @@ module _ (s : Sides) (g : Settings) (t : Site) (a : Lent) where
     pub write-refused : (x : Answer) → x ≡ fits Done → accepted x ≡ false → Wrote s g t a room (record { answer = x; bytes = 0 }) room
     write-refused x e f = wrote (refused-on fits chain_fits (record_of s g t a) (record_length s a) room x e f)
 
-    pub write-short : (n : ℕ) → n ≡ record_length s a → accepted (fits Done) ≡ true → length room < n → Wrote s g t a room (record { answer = Refused 12 n; bytes = 0 }) room
+    pub write-short : (n : ℕ) → n ≡ record_length s a → accepted (fits Done) ≡ true → length room < n → Wrote s g t a room (record { answer = Err (BadRoom n); bytes = 0 }) room
     write-short n is ok h = wrote (short_on fits chain_fits (record_of s g t a) (record_length s a) room n is ok h)
 
     pub write_done : (n : ℕ) (after : List ℕ) → n ≡ record_length s a → accepted (fits Done) ≡ true → n ≤ length room → after ≡ sets room 0 (record_of s g t a)

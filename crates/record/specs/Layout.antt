@@ -1,5 +1,5 @@
 -- The grid record: seven sections in fixed order, each after its count of numbers. Assumes nothing.
-use Rattle.std.specs.Prelude.{ℕ, ◌+◌, ◌*◌, Bool, false, ◌&&◌, List, [], ◌∷◌, ◌++◌, ℤ, eqb}
+use Rattle.std.specs.Prelude.{ℕ, ◌*◌, Bool, false, ◌&&◌, List, [], ◌∷◌, ◌++◌, ℤ, eqb}
 use Rattle.whole.specs.Fold.{count}
 use Rattle.lattice.specs.Cell.{edge_good, coordinate_good}
 use Rattle.lattice.specs.declared.Settings.{Settings}

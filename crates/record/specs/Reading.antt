@@ -1,10 +1,10 @@
 -- What the reader answers, and what each lent slice then holds, for every input. Assumes nothing.
-use Rattle.std.specs.Prelude.{ℕ, suc, ◌+◌, ◌*◌, Bool, false, ◌&&◌, cond, List, [], ◌∷◌, ℤ, pos, leb, eqb, length}
+use Rattle.std.specs.Prelude.{ℕ, suc, ◌+◌, ◌*◌, Bool, false, ◌&&◌, cond, List, [], ℤ, pos, leb, eqb, length}
 use Rattle.lattice.specs.Lattice.{Lattice, density, d3q19}
 use Rattle.lattice.specs.declared.Settings.{Settings}
 use Rattle.grid.specs.declared.Sides.{Sides}
-use Rattle.grid.specs.declared.Answer.{Answer}
-use Rattle.grid.specs.declared.Answer.TheVariants.{Done}
+use Rattle.grid.specs.Answer.{Answer}
+use Rattle.grid.specs.Answer.{Done}
 use Rattle.grid.specs.Grid.{cells_of, sides_good, grid_of}
 use Rattle.grid.specs.State.{State, Lent, lent_of, by_flag, flag_of}
 use Rattle.grid.specs.Step.{fill_for}
@@ -17,6 +17,7 @@ use Rattle.record.specs.Bytes.{part, u32_at, i32_at, i64_at}
 use Rattle.record.specs.declared.Counts.{Counts}
 use Rattle.record.specs.Places.{past, counts, settings_from, origin_from, totals_from, cells_from, masses_from, parts_from}
 use Rattle.record.specs.Layout.{site_good, interfaces, liquids}
+use Rattle.grid.specs.declared.refusals.Refusal.TheVariants.{BadCount, BadEnd, BadFlag, BadLayer, BadLength, BadSetting, BadSides, BadState}
 
 -- ---- over any counts: what sections 6 and 7 hold, were they whole, of n cells with these flags behind k numbers in section 4
 module _ (K : Counts) (k n : ℕ) (flag : ℕ → ℕ) (r : List ℕ) where
@@ -142,9 +143,9 @@ set_in r = with_totals (lent_of 18 (cells_in r) (state_in r)) (poured_in r) (tak
 -- a section of n numbers of some size: not whole is 10 at its beginning, and its count is tested as soon as it is read, 11
 unfoldable pub whole : List ℕ → ℕ → ℕ → ℕ → ℕ → Answer → Answer
 whole r number from n size rest =
-    or_refuse (leb (from + 4) (length r)) 10 from
-    (or_refuse (eqb (u32_at r from) n) 11 number
-    (or_refuse (leb (from + 4 + size * n) (length r)) 10 from rest))
+    or_refuse (leb (from + 4) (length r)) (BadEnd from)
+    (or_refuse (eqb (u32_at r from) n) (BadCount number)
+    (or_refuse (leb (from + 4 + size * n) (length r)) (BadEnd from) rest))
 
 -- sections 6 and 7 of i masses and m parts, from the byte where section 6 begins, and that nothing follows
 abbrev pub ends_on : List ℕ → ℕ → ℕ → ℕ → Answer → Answer
@@ -153,12 +154,12 @@ ends_on r from i m rest =
     let end = past parts 4 m in
     whole r 6 from i 4
     (whole r 7 parts m 4
-    (or_refuse (leb (length r) end) 10 end rest))
+    (or_refuse (leb (length r) end) (BadEnd end) rest))
 
 -- all sections over any counts, of k numbers in section 4, n flags, i masses and m parts: after section 1 test 1 of the sides and 2 of the slices, after
 -- section 5 test 4, the lowest bad flag at `bad`, and left-over bytes after section 7
 abbrev pub opens_on : List ℕ → Counts → Bool → Bool → Answer → Answer
-opens_on r K sides fit rest = whole r 1 0 K.sides 4 (or_refuse sides 1 0 (or_refuse fit 2 0 rest))
+opens_on r K sides fit rest = whole r 1 0 K.sides 4 (or_refuse sides BadSides (or_refuse fit BadLength rest))
 
 abbrev pub fronts_on : List ℕ → Counts → ℕ → ℕ → Answer → Answer
 fronts_on r K k n rest =
@@ -168,7 +169,7 @@ fronts_on r K k n rest =
     (whole r 5 (cells_from K k) n 1 rest)))
 
 abbrev pub shapes_on : List ℕ → Counts → ℕ → ℕ → ℕ → ℕ → Bool → Bool → ℕ → Answer → Answer
-shapes_on r K k n i m sides fit bad rest = opens_on r K sides fit (fronts_on r K k n (if_none n 4 bad (ends_on r (masses_from K k n) i m rest)))
+shapes_on r K k n i m sides fit bad rest = opens_on r K sides fit (fronts_on r K k n (if_none n BadFlag bad (ends_on r (masses_from K k n) i m rest)))
 
 -- test 2, by the lengths of parts, masses, fills and carry: the reader's set lacks the flags
 abbrev pub slices_of : ℕ → ℕ → ℕ → ℕ → ℕ → ℕ → ℕ → Bool
@@ -188,10 +189,10 @@ shape_answer r parts masses fills carry rest =
 unfoldable pub content_answer : List ℕ → Answer
 content_answer r =
     let n = cells_in r in
-    or_refuse (site_good (settings_in r) (site_in r)) 3 0
-    (if_none n 5 (bad_fluid 18 (grid_of (sides_in r)) (flag_in r))
-    (if_none (suc n) 6 (bad_rule d3q19 n (state_in r))
-    (or_refuse (totals_good (poured_in r) (taken_in r)) 6 n Done)))
+    or_refuse (site_good (settings_in r) (site_in r)) (BadSetting 0)
+    (if_none n BadLayer (bad_fluid 18 (grid_of (sides_in r)) (flag_in r))
+    (if_none (suc n) BadState (bad_rule d3q19 n (state_in r))
+    (or_refuse (totals_good (poured_in r) (taken_in r)) (BadState n) Done)))
 
 unfoldable pub read_answer : List ℕ → Lent → Answer
 read_answer r a = shape_answer r (length a.parts) (length a.masses) (length a.fills) (length a.carry) (content_answer r)

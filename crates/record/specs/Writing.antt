@@ -1,9 +1,9 @@
 -- What the writer answers, and what the room then holds, for every input. Assumes nothing.
-use Rattle.std.specs.Prelude.{ℕ, cond, List, [], ◌∷◌, ◌++◌, leb, length, drop}
+use Rattle.std.specs.Prelude.{ℕ, cond, List, ◌++◌, leb, length, drop}
 use Rattle.lattice.specs.declared.Settings.{Settings}
 use Rattle.grid.specs.declared.Sides.{Sides}
-use Rattle.grid.specs.declared.Answer.{Answer}
-use Rattle.grid.specs.declared.Answer.TheVariants.{Done}
+use Rattle.grid.specs.Answer.{Answer}
+use Rattle.grid.specs.Answer.{Done}
 use Rattle.grid.specs.Grid.{cells_of, sides_good}
 use Rattle.grid.specs.State.{Lent}
 use Rattle.grid.specs.Outcome.{accepted, or_refuse}
@@ -11,11 +11,12 @@ use Rattle.pumps.specs.Three.{three_lengths, three_good}
 use Rattle.record.specs.declared.Site.{Site}
 use Rattle.record.specs.declared.Written.{Written}
 use Rattle.record.specs.Layout.{site_good, record_of, record_length}
+use Rattle.grid.specs.declared.refusals.Refusal.TheVariants.{BadLength, BadRoom, BadSetting, BadSides}
 
 -- ---- over any record: test 12 last, its place the bytes needed; the answer with the record's length, 0 beside a refusal; the record, with room past it
 -- untouched, where a refusal writes nothing
 abbrev pub room_test : ℕ → List ℕ → Answer
-room_test long room = or_refuse (leb long (length room)) 12 long Done
+room_test long room = or_refuse (leb long (length room)) (BadRoom long) Done
 
 abbrev pub written_on : Answer → ℕ → Written
 written_on answer long = record { answer = answer; bytes = cond (accepted answer) long 0 }
@@ -26,9 +27,9 @@ room_on answer rec long room = cond (accepted answer) (rec ++ drop long room) ro
 -- ---- the grid record: tests 1 to 6, and 12
 unfoldable pub write_answer : Sides → Settings → Site → Lent → List ℕ → Answer
 write_answer s g t a room =
-    or_refuse (sides_good s) 1 0
-    (or_refuse (three_lengths (cells_of s) a) 2 0
-    (or_refuse (site_good g t) 3 0
+    or_refuse (sides_good s) BadSides
+    (or_refuse (three_lengths (cells_of s) a) BadLength
+    (or_refuse (site_good g t) (BadSetting 0)
     (three_good s a
     (room_test (record_length s a) room))))
 

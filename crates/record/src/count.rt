@@ -28,10 +28,8 @@ pub fn interface_cells(flags: &[u8]) -> usize
     ensures { result ≡ interfaces (length flags.now) (flag_of flags.now) }
 {
     let mut found = 0;
-    let mut c = 0;
-    while c < flags.len() {
-        found += one_interface(flags[c]);
-        c += 1;
+    for flag in flags {
+        found += one_interface(*flag);
     }
     found
 }
@@ -40,10 +38,8 @@ pub fn liquid_cells(flags: &[u8]) -> usize
     ensures { result ≡ liquids (length flags.now) (flag_of flags.now) }
 {
     let mut found = 0;
-    let mut c = 0;
-    while c < flags.len() {
-        found += one_liquid(flags[c]);
-        c += 1;
+    for flag in flags {
+        found += one_liquid(*flag);
     }
     found
 }

@@ -3,16 +3,18 @@ ghost use Rattle.std.specs.Prelude.{◌≡◌, ◌+◌, ◌≤◌, length};
 ghost use Rattle.lattice.specs.Cell.{edge_good, coordinate_good};
 ghost use Rattle.grid.specs.Grid.{sides_good};
 ghost use Rattle.grid.specs.Outcome.{or_refuse};
-ghost use Rattle.grid.specs.declared.Answer.TheVariants.{Done};
+ghost use Rattle.grid.specs.Answer.{Done};
+ghost use Rattle.grid.specs.declared.refusals.Refusal.TheVariants.{BadSides, BadLength};
 ghost use Rattle.record.specs.Bytes.{u32_at, i32_at};
 ghost use Rattle.record.specs.Layout.{site_good};
 ghost use Rattle.record.specs.Reading.{sides_in, settings_in, site_in, cells_in, whole, slices_of, slices_fit};
 
 use crate::Site;
 use crate::number::{i32_at, i64_at, u32_at};
-use crate::section::{passed, section};
+use crate::section::section;
+use grid::Sides;
 use grid::extent::{cells, good_sides};
-use grid::{Answer, Sides};
+use grid::refusals::{Answer, Refusal};
 use lattice::Settings;
 use lattice::limits::good_settings;
 use whole::wide;
@@ -120,18 +122,15 @@ pub fn slices_fit(
 
 // Section 1, then tests 1 and 2.
 pub fn opening(rec: &[u8], parts: usize, masses: usize, fills: usize, carry: usize) -> Answer
-    ensures { result ≡ whole rec.now 1 0 3 4 (or_refuse (sides_good (sides_in rec.now)) 1 0 (or_refuse (slices_fit (cells_in rec.now) parts masses fills carry) 2 0 Done)) }
+    ensures { result ≡ whole rec.now 1 0 3 4 (or_refuse (sides_good (sides_in rec.now)) BadSides (or_refuse (slices_fit (cells_in rec.now) parts masses fills carry) BadLength Done)) }
 {
-    let sides = section(rec, 1, 0, 3, 4);
-    if !passed(sides) {
-        return sides;
-    }
+    section(rec, 1, 0, 3, 4)?;
     let s = sides_in(rec);
     if !good_sides(s) {
-        return Answer::Refused(1, 0);
+        return Err(Refusal::BadSides);
     }
     if !slices_fit(19, 3, cells(s), parts, masses, fills, carry) {
-        return Answer::Refused(2, 0);
+        return Err(Refusal::BadLength);
     }
-    Answer::Done
+    Ok(())
 }

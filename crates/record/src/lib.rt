@@ -8,7 +8,8 @@ pub mod number;
 pub mod places;
 pub mod section;
 
-use grid::{Answer, Sides};
+use grid::Sides;
+use grid::refusals::Answer;
 use lattice::Settings;
 
 // How many numbers sections 1 to 3 hold, and how many of section 7 a liquid cell has.

@@ -1,7 +1,7 @@
 // The reader's tests of a section, and of the sections in a row.
 ghost use Rattle.std.specs.Prelude.{◌≡◌, ◌≤◌};
 ghost use Rattle.grid.specs.Outcome.{accepted};
-ghost use Rattle.grid.specs.declared.Answer.TheVariants.{Done};
+ghost use Rattle.grid.specs.Answer.{Done};
 ghost use Rattle.record.specs.Places.{counts, settings_from, origin_from, totals_from, cells_from};
 ghost use Rattle.record.specs.Reading.{totals_in, whole, fronts_on, ends_on};
 ghost use Rattle.record.specs.inner.Behind.{ends};
@@ -9,14 +9,14 @@ ghost use Rattle.record.specs.inner.Behind.{ends};
 use crate::Counts;
 use crate::number::u32_at;
 use crate::places::totals_in;
-use grid::Answer;
+use grid::refusals::{Answer, Refusal};
 
 pub fn passed(a: Answer) -> bool
     ensures { result ≡ accepted a }
 {
     match a {
-        Answer::Done => true,
-        Answer::Refused(_, _) => false,
+        Ok(()) => true,
+        Err(_) => false,
     }
 }
 
@@ -28,15 +28,15 @@ pub fn section(rec: &[u8], number: usize, from: usize, n: usize, size: usize) ->
     ensures { result ≡ whole rec.now number from n size Done }
 {
     if rec.len() < from + 4 {
-        return Answer::Refused(10, from);
+        return Err(Refusal::BadEnd(from));
     }
     if u32_at(rec, from) as usize != n {
-        return Answer::Refused(11, number);
+        return Err(Refusal::BadCount(number));
     }
     if rec.len() < from + 4 + size * n {
-        return Answer::Refused(10, from);
+        return Err(Refusal::BadEnd(from));
     }
-    Answer::Done
+    Ok(())
 }
 
 // Sections 2 to 5 over any counts: settings, origin, k totals and n flags.
@@ -49,20 +49,11 @@ pub fn sections_behind(rec: &[u8], held: Counts, k: usize, n: usize) -> Answer
     ensures { result ≡ fronts_on rec.now held k n Done }
 {
     let second = 4 + 4 * held.sides;
-    let settings = section(rec, 2, second, held.settings, 4);
-    if !passed(settings) {
-        return settings;
-    }
+    section(rec, 2, second, held.settings, 4)?;
     let third = second + 4 + 4 * held.settings;
-    let origin = section(rec, 3, third, held.origin, 8);
-    if !passed(origin) {
-        return origin;
-    }
+    section(rec, 3, third, held.origin, 8)?;
     let fourth = third + 4 + 8 * held.origin;
-    let totals = section(rec, 4, fourth, k, 8);
-    if !passed(totals) {
-        return totals;
-    }
+    section(rec, 4, fourth, k, 8)?;
     section(rec, 5, fourth + 4 + 8 * k, n, 1)
 }
 
@@ -87,20 +78,14 @@ pub fn sections_to_end(rec: &[u8], from: usize, i: usize, m: usize) -> Answer
     requires m_bound { m ≤ 4980736 }
     ensures { result ≡ ends_on rec.now from i m Done }
 {
-    let masses = section(rec, 6, from, i, 4);
-    if !passed(masses) {
-        return masses;
-    }
+    section(rec, 6, from, i, 4)?;
     let behind = from + 4 + 4 * i;
-    let parts = section(rec, 7, behind, m, 4);
-    if !passed(parts) {
-        return parts;
-    }
+    section(rec, 7, behind, m, 4)?;
     let end = behind + 4 + 4 * m;
     if rec.len() > end {
-        return Answer::Refused(10, end);
+        return Err(Refusal::BadEnd(end));
     }
-    Answer::Done
+    Ok(())
 }
 
 // The same of the grid record, 19 parts a cell.

@@ -8,12 +8,15 @@ use lib.Dec.{leb}
 use lib.ListN.{replicate}
 use borrow.Author.Tests.{le-leb, lt-leb}
 use Rattle.lattice.specs.declared.Settings.{Settings}
-use Rattle.grid.specs.declared.Answer.{Answer}
-use Rattle.grid.specs.declared.Answer.TheVariants.{Done, Refused}
+use Rattle.grid.specs.Answer.{Answer}
+use Rattle.grid.specs.Answer.{Done}
 use Rattle.grid.specs.State.{Lent}
 use Rattle.grid.specs.Outcome.{accepted}
 use Rattle.grid.specs.Ground.{Ground, entry_on, ran_on, run_entry_on, run_count_on, run_answer_on, run_first_on, run_second_on, run_marks_on}
 use Rattle.grid.proofs.Accepted.{passed}
+use Rattle.grid.specs.declared.refusals.Refusal.TheVariants.{BadSteps}
+use Rattle.std.specs.Prelude.{Err}
+use Rattle.grid.specs.declared.refusals.Refusal.{Refusal}
 
 module _ (G : Ground) (steps : ℕ) (g : Settings) (a b : Lent) (marks : List ℕ) where
   -- the run's own outcome
@@ -24,16 +27,16 @@ module _ (G : Ground) (steps : ℕ) (g : Settings) (a b : Lent) (marks : List �
     pub second_is : second ≡ run_second_on G steps g a b marks
     pub marks-are : after ≡ run_marks_on G steps g a b marks
 
-  pub refuses-on : 1000 < steps → Refused 9 0 ≡ run_entry_on G steps g a b marks
+  pub refuses-on : 1000 < steps → Err BadSteps ≡ run_entry_on G steps g a b marks
   refuses-on h = rw (lt-leb steps 1000 h) refl
 
   pub entered_on : steps ≤ 1000 → entry_on G g a b marks Done ≡ run_entry_on G steps g a b marks
   entered_on h = rw (le-leb steps 1000 h) refl
 
   pub admits : run_entry_on G steps g a b marks ≡ Done → entry_on G g a b marks Done ≡ Done
-  admits e = (passed (leb steps 1000) 9 0 _ e).1
+  admits e = (passed (leb steps 1000) BadSteps _ e).1
 
-  pub not-admitted-on : {n p : ℕ} → Refused n p ≡ run_entry_on G steps g a b marks → RanOn 0 (Refused n p) a b marks
+  pub not-admitted-on : {refusal : Refusal} → Err refusal ≡ run_entry_on G steps g a b marks → RanOn 0 (Err refusal) a b marks
   not-admitted-on e = record {
     count-is = ap (λ (t : Answer). cond (accepted t) (ran_on G g marks steps a).count 0) e;
     answer-is = ap (λ (t : Answer). cond (accepted t) (ran_on G g marks steps a).stop t) e;

@@ -7,12 +7,14 @@ use Prim.Native.Nat.{ℕ, suc, ◌+◌, ◌-◌, ◌≤◌, ◌<◌}
 use native.Mathlib.Nat.{add-zero}
 use native.Mathlib.Omega.{arith}
 use lib.ListN.{length, replicate, length-replicate}
-use Rattle.grid.specs.declared.Answer.{Answer}
-use Rattle.grid.specs.declared.Answer.TheVariants.{Done, Refused}
+use Rattle.grid.specs.Answer.{Answer}
+use Rattle.grid.specs.Answer.{Done}
 use Rattle.grid.specs.State.{Lent}
 use Rattle.grid.specs.Outcome.{accepted, Ran, ran_by}
 use Rattle.grid.specs.inner.Halfway.{Alike}
 use Rattle.run.specs.inner.Turns.{here, there, Evened}
+use Rattle.std.specs.Prelude.{Err}
+use Rattle.grid.specs.declared.refusals.Refusal.{Refusal}
 
 -- what a run goes by: how many cells, the definition's step with all its tests, tests 7 and 8 alone, and the next set; Fit says that tests 1 to 6 pass, Sized
 -- that the slices are of their lengths
@@ -158,11 +160,11 @@ module _ (C : Course) where
           }
 
       -- one that is refused: both sets hold what was reached
-      pub going-stops : (back : Bool) {a b first second : Lent} {after : List ℕ} {answer : Answer} {n p : ℕ} → answer ≡ Refused n p → Going steps start k back a b marks
-          → Passed back a b answer first second after → Ended steps start k (Refused n p) first second after
-      going-stops back {a} {b} {first} {second} {n = n} {p = p} q i t =
+      pub going-stops : (back : Bool) {a b first second : Lent} {after : List ℕ} {answer : Answer} {refusal : Refusal} → answer ≡ Err refusal → Going steps start k back a b marks
+          → Passed back a b answer first second after → Ended steps start k (Err refusal) first second after
+      going-stops back {a} {b} {first} {second} {refusal = refusal} q i t =
           let x = here back a b in
-          let e : C.move x ≡ Refused n p = sym t.answer-is ∙ q in
+          let e : C.move x ≡ Err refusal = sym t.answer-is ∙ q in
           let r = i.lawful.agrees x i.ready in
           let l = left-stopped steps k start x h i.left (ap accepted (r ∙ e)) in
           let w : there back first second ≡ x = t.second_is ∙ ap (λ (t : Answer). cond (accepted t) (C.onward x) x) e in

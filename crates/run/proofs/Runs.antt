@@ -4,14 +4,15 @@ use mathlib.Core.Path.{◌≡◌, refl, sym, ◌∙◌, subst}
 use mathlib.Core.Bool.{Bool, true, false, ◌&&◌, not}
 use mathlib.Core.List.{List}
 use Prim.Native.Nat.{ℕ, ◌+◌, ◌≤◌, ◌<◌}
+use native.Mathlib.Omega.{arith}
 use lib.ListN.{length, replicate}
 use borrow.Author.Tests.{eq-eqb}
 use Rattle.lattice.specs.Lattice.{d3q19}
 use Rattle.lattice.specs.declared.Settings.{Settings}
 use Rattle.lattice.proofs.Paired.{paired19}
 use Rattle.grid.specs.declared.Sides.{Sides}
-use Rattle.grid.specs.declared.Answer.{Answer}
-use Rattle.grid.specs.declared.Answer.TheVariants.{Done, Refused}
+use Rattle.grid.specs.Answer.{Answer}
+use Rattle.grid.specs.Answer.{Done}
 use Rattle.grid.specs.Grid.{cells_of, box, grid_of}
 use Rattle.grid.specs.State.{Lent, state_of}
 use Rattle.grid.specs.Step.{next}
@@ -32,6 +33,9 @@ use Rattle.run.specs.inner.Turns.{here, there, Crossed, Evened, Went}
 use Rattle.run.proofs.Admitted.{RanOn, refuses-on, entered_on, admits, not-admitted-on, ended-on}
 use Rattle.run.proofs.Courses
 use Rattle.run.proofs.Courses.{Course, Lawful, Passed, Ended}
+use Rattle.grid.specs.declared.refusals.Refusal.TheVariants.{BadSteps}
+use Rattle.std.specs.Prelude.{Err}
+use Rattle.grid.specs.declared.refusals.Refusal.{Refusal}
 
 -- ---- an accepted step of a set that is ready
 module _ (s : Sides) (g : Settings) (a : Lent) where
@@ -157,13 +161,15 @@ module _ (steps : ℕ) (s : Sides) (g : Settings) (start : Lent) (marks₀ : Lis
         → Crossed s g back a b answer first second after → Going steps s g start marks₀ (k + 1) (not back) first second after
     going_on back a b first second marks after answer e i t = Courses.going_on (course s g marks₀) h back e i (crossed s g marks₀ back t)
 
-    pub going-stops : (back : Bool) (a b first second : Lent) (marks after : List ℕ) (answer : Answer) (n p : ℕ) → answer ≡ Refused n p → Going steps s g start marks₀ k back a b marks
-        → Crossed s g back a b answer first second after → Went steps s g start marks₀ k (Refused n p) first second after
-    going-stops back a b first second marks after answer n p q i t = went (Courses.going-stops (course s g marks₀) h back q i (crossed s g marks₀ back t))
+    pub going-stops : (back : Bool) (a b first second : Lent) (marks after : List ℕ) (answer : Answer) (refusal : Refusal) → answer ≡ Err refusal → Going steps s g start marks₀ k back a b marks
+        → Crossed s g back a b answer first second after → Went steps s g start marks₀ k (Err refusal) first second after
+    going-stops back a b first second marks after answer refusal q i t = went (Courses.going-stops (course s g marks₀) h back q i (crossed s g marks₀ back t))
 
   pub going-ends : (back : Bool) (a b first second : Lent) (marks after : List ℕ) → steps ≤ k → Going steps s g start marks₀ k back a b marks
-      → Evened back a b first second → after ≡ replicate (length marks) 0 → Went steps s g start marks₀ k Done first second after
-  going-ends back a b first second marks after h i t e = went (Courses.going-ends (course s g marks₀) back h i t e)
+      → Evened back a b first second → after ≡ replicate (length marks) 0 → Went steps s g start marks₀ steps Done first second after
+  going-ends back a b first second marks after h i t e =
+      let made : k ≡ steps = omega (arith, h, i.most) in
+      subst (λ (n : ℕ). Went steps s g start marks₀ n Done first second after) made (went (Courses.going-ends (course s g marks₀) back h i t e))
 
 -- ---- the run itself, by what admitted it
 module _ (steps : ℕ) (s : Sides) (g : Settings) (a b : Lent) (marks : List ℕ) where
@@ -173,7 +179,7 @@ module _ (steps : ℕ) (s : Sides) (g : Settings) (a b : Lent) (marks : List ℕ
   unfolding open-outcome
   on-ground w = record { count-is = w.count-is; answer-is = w.answer-is; first-is = w.first-is; second_is = w.second_is; marks-are = w.marks-are }
 
-  pub refuses-steps : 1000 < steps → Refused 9 0 ≡ run_entry steps s g a b marks
+  pub refuses-steps : 1000 < steps → Err BadSteps ≡ run_entry steps s g a b marks
   unfolding open-outcome
   refuses-steps h = refuses-on (box_ground s) steps g a b marks h
 
@@ -185,9 +191,9 @@ module _ (steps : ℕ) (s : Sides) (g : Settings) (a b : Lent) (marks : List ℕ
   unfolding open-outcome
   run-stepping e = may-step s g a b marks (admits (box_ground s) steps g a b marks e)
 
-  pub not-admitted : (n p : ℕ) → Refused n p ≡ run_entry steps s g a b marks → RanTo steps s g a b marks 0 (Refused n p) a b marks
+  pub not-admitted : (refusal : Refusal) → Err refusal ≡ run_entry steps s g a b marks → RanTo steps s g a b marks 0 (Err refusal) a b marks
   unfolding open-outcome
-  not-admitted n p e = on-ground (not-admitted-on (box_ground s) steps g a b marks e)
+  not-admitted refusal e = on-ground (not-admitted-on (box_ground s) steps g a b marks e)
 
   pub admitted-went : (count : ℕ) (answer : Answer) (first second : Lent) (after : List ℕ) → Done ≡ run_entry steps s g a b marks
       → Went steps s g a marks count answer first second after → RanTo steps s g a b marks count answer first second after

@@ -6,7 +6,8 @@ ghost use Rattle.grid.specs.inner.Halfway.{Alike, Stepping, Resuming};
 ghost use Rattle.grid.specs.State.{lent};
 ghost use Rattle.run.specs.inner.Turns.{here, there, Crossed, Evened, Went};
 
-use grid::{Answer, Sides};
+use grid::Sides;
+use grid::refusals::{Answer, Refusal};
 use lattice::Settings;
 use step::{entry, sets, stepping};
 use walks::copying;
@@ -100,28 +101,26 @@ pub fn going(
     // Of the second set nothing is known yet: any cell of it may hold water.
     copying::put_all(flags2, 1);
     let mut back = false;
-    let mut k = 0;
-    while k < steps {
+    for k in 0..steps {
         let a = turn(
             flags, parts, masses, fills, carry, flags2, parts2, masses2, fills2, carry2, marks,
             back, s, g,
         );
-        if let Answer::Refused(no, at) = a {
+        if let Err(refusal) = a {
             return Ran {
                 count: k,
-                answer: Answer::Refused(no, at),
+                answer: Err(refusal),
             };
         }
         back = !back;
-        k += 1;
     }
     evened(
         flags, parts, masses, fills, carry, flags2, parts2, masses2, fills2, carry2, back,
     );
     copying::clear(marks);
     Ran {
-        count: k,
-        answer: Answer::Done,
+        count: steps,
+        answer: Ok(()),
     }
 }
 
@@ -145,7 +144,7 @@ fn admitted(
     ensures { result ≡ run_entry steps s g (lent flags.now parts.now masses.now fills.now carry.now) (lent flags2.now parts2.now masses2.now fills2.now carry2.now) marks.now }
 {
     if steps > 1000 {
-        return Answer::Refused(9, 0);
+        return Err(Refusal::BadSteps);
     }
     entry::entered(
         flags, parts, masses, fills, carry, flags2, parts2, masses2, fills2, carry2, marks, s, g,
@@ -175,10 +174,10 @@ pub fn run(
         steps, flags, parts, masses, fills, carry, flags2, parts2, masses2, fills2, carry2, marks,
         s, g,
     );
-    if let Answer::Refused(no, at) = a {
+    if let Err(refusal) = a {
         return Ran {
             count: 0,
-            answer: Answer::Refused(no, at),
+            answer: Err(refusal),
         };
     }
     going(

@@ -7,7 +7,7 @@ use lib.IntN.{ℤ}
 use Rattle.whole.specs.laws.Bools.{cond_yes}
 use Rattle.lattice.specs.declared.Settings.{Settings}
 use Rattle.grid.specs.declared.Sides.{Sides}
-use Rattle.grid.specs.declared.Answer.TheVariants.{Done}
+use Rattle.grid.specs.Answer.{Done}
 use Rattle.grid.specs.Grid.{cells_of}
 use Rattle.grid.specs.Outcome.{accepted, ran}
 use Rattle.pumps.specs.Three.{head_of}

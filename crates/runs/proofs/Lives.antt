@@ -10,8 +10,8 @@ use lib.ListN.{length, get_or}
 use Rattle.whole.specs.laws.Bools.{cond_yes}
 use Rattle.lattice.specs.declared.Settings.{Settings}
 use Rattle.grid.specs.declared.Sides.{Sides}
-use Rattle.grid.specs.declared.Answer.{Answer}
-use Rattle.grid.specs.declared.Answer.TheVariants.{Done}
+use Rattle.grid.specs.Answer.{Answer}
+use Rattle.grid.specs.Answer.{Done}
 use Rattle.grid.specs.State.{Lent, lent, lent_of}
 use Rattle.grid.specs.Outcome.{accepted, next_of, by_answer, ran_by, ran}
 use Rattle.grid.specs.Outcome as base

@@ -12,8 +12,8 @@ use borrow.Author.Tests.{le-leb, lt-leb}
 use Rattle.whole.specs.laws.Bools.{cond_no}
 use Rattle.lattice.specs.declared.Settings.{Settings}
 use Rattle.grid.specs.declared.Sides.{Sides}
-use Rattle.grid.specs.declared.Answer.{Answer}
-use Rattle.grid.specs.declared.Answer.TheVariants.{Done, Refused}
+use Rattle.grid.specs.Answer.{Answer}
+use Rattle.grid.specs.Answer.{Done}
 use Rattle.grid.specs.Grid.{cells_of}
 use Rattle.grid.specs.State.{Lent, lent}
 use Rattle.grid.specs.Outcome.{accepted, or_refuse, ran}
@@ -28,6 +28,9 @@ use Rattle.calls.specs.inner.Totals.{carried_with}
 use Rattle.calls.proofs.Outcomes.{may-alone, made_held}
 use Rattle.runs.specs.Outcome.{run_entry, run_count, run_answer, run_first, run_second, run_marks}
 use Rattle.runs.specs.Promise.{RanTo}
+use Rattle.grid.specs.declared.refusals.Refusal.TheVariants.{BadSteps}
+use Rattle.std.specs.Prelude.{Err}
+use Rattle.grid.specs.declared.refusals.Refusal.{Refusal}
 
 -- ---- the first carry alone is a copy of the slice's first number
 head-one : (l : List ℤ) → length l ≡ 3 → {z : ℤ} → z ≡ get_or l 0 (pos 0) → take 1 l ≡ (z ∷ [])
@@ -49,19 +52,19 @@ module _ (s : Sides) (g : Settings) (a b : Held) (marks : List ℕ) (steps : ℕ
   abbrev reached : Held
   reached = kept s a (ran s g marks steps (head_of a.set)).reached
 
-  pub refuses-steps : 1000 < steps → Refused 9 0 ≡ run_entry steps s g a b marks
+  pub refuses-steps : 1000 < steps → Err BadSteps ≡ run_entry steps s g a b marks
   unfolding run_entry
-  refuses-steps h = ap (λ (t : Bool). or_refuse t 9 0 (entry_answer s g a b marks Done)) (sym (lt-leb steps 1000 h))
+  refuses-steps h = ap (λ (t : Bool). or_refuse t BadSteps (entry_answer s g a b marks Done)) (sym (lt-leb steps 1000 h))
 
   pub then-entered : steps ≤ 1000 → entry_answer s g a b marks Done ≡ run_entry steps s g a b marks
   unfolding run_entry
-  then-entered h = ap (λ (t : Bool). or_refuse t 9 0 (entry_answer s g a b marks Done)) (sym (le-leb steps 1000 h))
+  then-entered h = ap (λ (t : Bool). or_refuse t BadSteps (entry_answer s g a b marks Done)) (sym (le-leb steps 1000 h))
 
   pub entry-passed : run_entry steps s g a b marks ≡ Done → entry_answer s g a b marks Done ≡ Done
   unfolding run_entry
-  entry-passed e = (passed (leb steps 1000) 9 0 _ e).1
+  entry-passed e = (passed (leb steps 1000) BadSteps _ e).1
 
-  pub not-admitted : {n p : ℕ} → Refused n p ≡ run_entry steps s g a b marks → RanTo steps s g a b marks 0 (Refused n p) a b marks
+  pub not-admitted : {refusal : Refusal} → Err refusal ≡ run_entry steps s g a b marks → RanTo steps s g a b marks 0 (Err refusal) a b marks
   unfolding run_count run_answer run_first run_second run_marks
   not-admitted e = record {
     count-is = ap (λ (t : Answer). cond (accepted t) (ran s g marks steps (head_of a.set)).count 0) e;

@@ -3,17 +3,18 @@
 use Rattle.std.specs.Prelude.{cond, List, ℕ, leb, replicate}
 use Rattle.lattice.specs.declared.Settings.{Settings}
 use Rattle.grid.specs.declared.Sides.{Sides}
-use Rattle.grid.specs.declared.Answer.{Answer}
-use Rattle.grid.specs.declared.Answer.TheVariants.{Done}
+use Rattle.grid.specs.Answer.{Answer}
+use Rattle.grid.specs.Answer.{Done}
 use Rattle.grid.specs.Grid.{cells_of}
 use Rattle.grid.specs.Outcome.{accepted, or_refuse, ran}
 use Rattle.pumps.specs.Three.{head_of}
 use Rattle.index.specs.Held.{Held}
 use Rattle.calls.specs.Outcome.{kept, entry_answer}
+use Rattle.grid.specs.declared.refusals.Refusal.TheVariants.{BadSteps}
 
 -- 9 first, then 1 to 6 and 14, also of a run of no steps
 unfoldable pub run_entry : ℕ → Sides → Settings → Held → Held → List ℕ → Answer
-run_entry steps s g a b marks = or_refuse (leb steps 1000) 9 0 (entry_answer s g a b marks Done)
+run_entry steps s g a b marks = or_refuse (leb steps 1000) BadSteps (entry_answer s g a b marks Done)
 
 unfoldable pub run_count : ℕ → Sides → Settings → Held → Held → List ℕ → ℕ
 run_count steps s g a b marks = cond (accepted (run_entry steps s g a b marks)) (ran s g marks steps (head_of a.set)).count 0

@@ -18,7 +18,7 @@ use Rattle.whole.specs.laws.Tab.{get_or-tab}
 use Rattle.lattice.specs.Lattice.{d3q19, density}
 use Rattle.lattice.specs.Cell.{carry_good}
 use Rattle.grid.specs.declared.Sides.{Sides}
-use Rattle.grid.specs.declared.Answer.TheVariants.{Done}
+use Rattle.grid.specs.Answer.{Done}
 use Rattle.grid.specs.Grid.{cells_of, sides_good, grid_of, box}
 use Rattle.grid.specs.State.{Lent, by_flag, state_of}
 use Rattle.grid.specs.Step.{fill_for}
@@ -28,6 +28,7 @@ use Rattle.grid.specs.Demands.{Walled}
 use Rattle.grid.proofs.Accepted.{passed, none_found, skip}
 use Rattle.pumps.specs.Three.{number_in, totals_good, three_lengths}
 use Rattle.schemes.specs.Scheme.{wall_at, own_at, joined_flag, joined_flags, joined, mark_good, bad_mark, bad_open, wet_wall, bad_own, ruled, tested}
+use Rattle.grid.specs.declared.refusals.Refusal.TheVariants.{BadFlag, BadLayer, BadLength, BadSides, BadState}
 
 -- ---- one cell
 
@@ -182,13 +183,13 @@ module _ (s : Sides) (map : List ℕ) (a : Lent) where
   pub tells : (more : Bool) → tested s map a more ≡ Done → Scheme × (more ≡ true)
   unfolding tested ruled bad_mark bad_open good_answer grid_of box cells_of d3q19
   tells more e =
-      let x = passed (sides_good s) 1 0 _ e in
-      let y = passed (three_lengths (cells_of s) a && eqb (length map) (cells_of s) && more) 2 0 _ x.1 in
+      let x = passed (sides_good s) BadSides _ e in
+      let y = passed (three_lengths (cells_of s) a && eqb (length map) (cells_of s) && more) BadLength _ x.1 in
       let l = and_left (three_lengths (cells_of s) a && eqb (length map) (cells_of s)) more y.0 in
-      let m = none_found (cells_of s) 4 _ _ y.1 in
-      let f = none_found (cells_of s) 5 _ _ m.1 in
-      let r = none_found (suc (cells_of s)) 6 _ _ f.1 in
-      let t = passed (totals_good (number_in a 1) (number_in a 2)) 6 (cells_of s) Done r.1 in
+      let m = none_found (cells_of s) BadFlag _ _ y.1 in
+      let f = none_found (cells_of s) BadLayer _ _ m.1 in
+      let r = none_found (suc (cells_of s)) BadState _ _ f.1 in
+      let t = passed (totals_good (number_in a 1) (number_in a 2)) (BadState (cells_of s)) Done r.1 in
       let marks : (c : ℕ) → c < cells_of s → mark_good s map a.flags c ≡ true = λ c k. not-false _ (first-none (cells_of s) (λ c. not (mark_good s map a.flags c)) m.0 c k) in (
         record {
           sides = x.0;
@@ -196,7 +197,7 @@ module _ (s : Sides) (map : List ℕ) (a : Lent) where
           map-size = eqb-true (length map) (cells_of s) (and_right (three_lengths (cells_of s) a) (eqb (length map) (cells_of s)) l);
           marks = marks;
           dry = rules-dry r.0;
-          grid = skip (cells_of s) 4 _ _ (marks-flags marks) ∙ skip (cells_of s) 5 _ _ f.0 ∙ skip (suc (cells_of s)) 6 _ Done (rules-grid r.0);
+          grid = skip (cells_of s) BadFlag _ _ (marks-flags marks) ∙ skip (cells_of s) BadLayer _ _ f.0 ∙ skip (suc (cells_of s)) BadState _ Done (rules-grid r.0);
           totals = t.0;
         },
         and_right (three_lengths (cells_of s) a && eqb (length map) (cells_of s)) more y.0,
@@ -205,15 +206,15 @@ module _ (s : Sides) (map : List ℕ) (a : Lent) where
   pub passes : Scheme → tested s map a true ≡ Done
   unfolding tested ruled bad_mark bad_open good_answer grid_of box cells_of d3q19
   passes h =
-      let x = none_found (cells_of s) 4 _ _ h.grid in
-      let y = none_found (cells_of s) 5 _ _ x.1 in
-      let z = none_found (suc (cells_of s)) 6 _ _ y.1 in
+      let x = none_found (cells_of s) BadFlag _ _ h.grid in
+      let y = none_found (cells_of s) BadLayer _ _ x.1 in
+      let z = none_found (suc (cells_of s)) BadState _ _ y.1 in
       let l = and-true (three_lengths (cells_of s) a && eqb (length map) (cells_of s)) true (and-true (three_lengths (cells_of s) a) (eqb (length map) (cells_of s)) h.sized (eq-eqb (length map) (cells_of s) h.map-size)) refl in
       rw (h.sides, l)
-      (skip (cells_of s) 4 _ _ (le_of_eq (sym (first-all (cells_of s) (λ c. not (mark_good s map a.flags c)) (λ c k. ap not (h.marks c k)))))
-      ∙ skip (cells_of s) 5 _ _ y.0
-      ∙ skip (suc (cells_of s)) 6 _ _ (grid-rules h.dry z.0)
-      ∙ ap (λ (b : Bool). or_refuse b 6 (cells_of s) Done) h.totals)
+      (skip (cells_of s) BadFlag _ _ (le_of_eq (sym (first-all (cells_of s) (λ c. not (mark_good s map a.flags c)) (λ c k. ap not (h.marks c k)))))
+      ∙ skip (cells_of s) BadLayer _ _ y.0
+      ∙ skip (suc (cells_of s)) BadState _ _ (grid-rules h.dry z.0)
+      ∙ ap (λ (b : Bool). or_refuse b (BadState (cells_of s)) Done) h.totals)
 
   -- ---- marks, read
   module _ (c : ℕ) (e : mark_good s map a.flags c ≡ true) where

@@ -1,19 +1,21 @@
 -- What join and part answer, and what the slice that each may write then holds, for every input. Assumes nothing.
 use Rattle.std.specs.Prelude.{ℕ, ◌&&◌, List, eqb, length}
 use Rattle.grid.specs.declared.Sides.{Sides}
-use Rattle.grid.specs.declared.Answer.{Answer}
-use Rattle.grid.specs.declared.Answer.TheVariants.{Done, Refused}
+use Rattle.grid.specs.Answer.{Answer}
+use Rattle.grid.specs.Answer.{Done}
 use Rattle.grid.specs.Grid.{cells_of, sides_good, grid_of}
 use Rattle.grid.specs.State.{Lent, flag_of}
 use Rattle.grid.specs.Good.{bad_flag}
 use Rattle.grid.specs.Outcome.{or_refuse, if_none}
 use Rattle.schemes.specs.Scheme.{joined_flags, parted_flags, tested}
+use Rattle.grid.specs.declared.refusals.Refusal.TheVariants.{BadFlag, BadLength, BadSides}
+use Rattle.std.specs.Prelude.{Ok, Err}
 
 -- by an answer: accepted, or refused
 module _ {ℓ} {A : Type ℓ} where
   abbrev pub if_done : Answer → A → A → A
-  if_done Done moved untouched = moved
-  if_done (Refused n p) moved untouched = untouched
+  if_done (Ok _) moved untouched = moved
+  if_done (Err refusal) moved untouched = untouched
 
 -- ---- join: the tests of a scheme, then the grid's flags; a refusal writes nothing
 
@@ -27,9 +29,9 @@ join_grid s map a grid = if_done (join_answer s map a grid) (joined_flags s map 
 
 unfoldable pub part_answer : Sides → List ℕ → List ℕ → Answer
 part_answer s grid own =
-    or_refuse (sides_good s) 1 0
-    (or_refuse (eqb (length grid) (cells_of s) && eqb (length own) (cells_of s)) 2 0
-    (if_none (cells_of s) 4 (bad_flag (grid_of s) (flag_of grid)) Done))
+    or_refuse (sides_good s) BadSides
+    (or_refuse (eqb (length grid) (cells_of s) && eqb (length own) (cells_of s)) BadLength
+    (if_none (cells_of s) BadFlag (bad_flag (grid_of s) (flag_of grid)) Done))
 
 unfoldable pub part_own : Sides → List ℕ → List ℕ → List ℕ
 part_own s grid own = if_done (part_answer s grid own) (parted_flags s grid) own

@@ -1,7 +1,7 @@
 -- What join and part promise of their answer and of the slice that each may write, refused or not. Assumes nothing.
 use Rattle.std.specs.Prelude.{◌≡◌, List, ℕ}
 use Rattle.grid.specs.declared.Sides.{Sides}
-use Rattle.grid.specs.declared.Answer.{Answer}
+use Rattle.grid.specs.Answer.{Answer}
 use Rattle.grid.specs.State.{Lent}
 use Rattle.schemes.specs.Outcome.{join_answer, join_grid, part_answer, part_own}
 

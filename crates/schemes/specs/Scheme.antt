@@ -5,13 +5,14 @@ use Rattle.whole.specs.Fold.{first, tab}
 use Rattle.lattice.specs.Lattice.{d3q19}
 use Rattle.lattice.specs.Cell.{carry_good}
 use Rattle.grid.specs.declared.Sides.{Sides}
-use Rattle.grid.specs.declared.Answer.{Answer}
-use Rattle.grid.specs.declared.Answer.TheVariants.{Done}
+use Rattle.grid.specs.Answer.{Answer}
+use Rattle.grid.specs.Answer.{Done}
 use Rattle.grid.specs.Grid.{cells_of, sides_good, grid_of}
 use Rattle.grid.specs.State.{Lent, lent, state_of}
 use Rattle.grid.specs.Good.{bad_fluid, cell_good}
 use Rattle.grid.specs.Outcome.{or_refuse, if_none}
 use Rattle.pumps.specs.Three.{number_in, totals_good, three_lengths}
+use Rattle.grid.specs.declared.refusals.Refusal.TheVariants.{BadFlag, BadLayer, BadLength, BadSides, BadState}
 
 -- ---- the map and the own flags
 
@@ -68,16 +69,16 @@ bad_own s map a =
 -- 4, 5 and 6; N for poured or taken alone, too
 unfoldable pub ruled : Sides → List ℕ → Lent → Answer
 ruled s map a =
-    if_none (cells_of s) 4 (bad_mark s map a.flags)
-    (if_none (cells_of s) 5 (bad_open s map a)
-    (if_none (suc (cells_of s)) 6 (bad_own s map a)
-    (or_refuse (totals_good (number_in a 1) (number_in a 2)) 6 (cells_of s) Done)))
+    if_none (cells_of s) BadFlag (bad_mark s map a.flags)
+    (if_none (cells_of s) BadLayer (bad_open s map a)
+    (if_none (suc (cells_of s)) BadState (bad_own s map a)
+    (or_refuse (totals_good (number_in a 1) (number_in a 2)) (BadState (cells_of s)) Done)))
 
 -- 1, 2, 4, 5 and 6; `more` is what a call asks of its further lengths
 unfoldable pub tested : Sides → List ℕ → Lent → Bool → Answer
 tested s map a more =
-    or_refuse (sides_good s) 1 0
-    (or_refuse (three_lengths (cells_of s) a && eqb (length map) (cells_of s) && more) 2 0
+    or_refuse (sides_good s) BadSides
+    (or_refuse (three_lengths (cells_of s) a && eqb (length map) (cells_of s) && more) BadLength
     (ruled s map a))
 
 -- names every definition of this file: whoever unfolds this computes with all of them

@@ -10,7 +10,8 @@ ghost use Rattle.schemes.specs.Scheme.{joined_flags, bad_mark, wet_wall, bad_own
 ghost use Rattle.schemes.specs.inner.Between.{Measured, Marked, Looking, empty_at, Within, opened};
 
 use checks::checking;
-use grid::{Answer, Sides, extent, neighbours};
+use grid::refusals::{Answer, Refusal};
+use grid::{Sides, extent, neighbours};
 use pumps::entry;
 
 // Whether cell c is in the outer layer.
@@ -46,14 +47,12 @@ fn first_bad_mark(map: &[u8], own: &[u8], s: Sides) -> usize
     requires { Measured s map.now own.now }
     ensures { result ≡ bad_mark s map.now own.now }
 {
-    let mut c = 0;
-    while c < map.len() {
+    for c in 0..map.len() {
         if bad_mark(map[c], own[c], c, s) {
             return c;
         }
-        c += 1;
     }
-    c
+    map.len()
 }
 
 // Whether a neighbour is empty in the grid: neither wall in the map nor liquid in the scheme; k is c - low.
@@ -62,11 +61,9 @@ fn empty_beside(map: &[u8], own: &[u8], off: &[usize; 19], k: usize) -> bool
     ensures { result ≡ empty_at map.now own.now off.now k }
 {
     let mut found = false;
-    let mut i = 1;
-    while i < 19 {
+    for i in 1..19 {
         let d = k + off[i];
         found = found | (map[d] != 1) & (own[d] == 0);
-        i += 1;
     }
     found
 }
@@ -92,14 +89,12 @@ fn first_open(map: &[u8], own: &[u8], s: Sides) -> usize
 {
     let off = neighbours::offsets(s);
     let low = neighbours::low_of(s);
-    let mut c = 0;
-    while c < own.len() {
+    for c in 0..own.len() {
         if open_at(map, own, &off, low, c, s) {
             return c;
         }
-        c += 1;
     }
-    c
+    own.len()
 }
 
 fn wet(m: u8, f: u8) -> bool
@@ -113,14 +108,12 @@ fn first_wet(map: &[u8], own: &[u8]) -> usize
     requires { length own.now ≡ length map.now }
     ensures { result ≡ first (length map.now) (wet_wall map.now own.now) }
 {
-    let mut c = 0;
-    while c < map.len() {
+    for c in 0..map.len() {
         if wet(map[c], own[c]) {
             return c;
         }
-        c += 1;
     }
-    c
+    map.len()
 }
 
 // Test 6: the lowest cell that breaks a rule, or is a wall that is not dry; N for the carry alone, N + 1 if nothing is broken.
@@ -162,20 +155,20 @@ fn checked(
     let n = map.len();
     let marked = first_bad_mark(map, own, s);
     if marked < n {
-        return Answer::Refused(4, marked);
+        return Err(Refusal::BadFlag(marked));
     }
     let open = first_open(map, own, s);
     if open < n {
-        return Answer::Refused(5, open);
+        return Err(Refusal::BadLayer(open));
     }
     let broken = first_broken(map, own, parts, masses, fills, carry, s);
     if broken <= n {
-        return Answer::Refused(6, broken);
+        return Err(Refusal::BadState(broken));
     }
     if !entry::good_totals(carry[1], carry[2]) {
-        return Answer::Refused(6, n);
+        return Err(Refusal::BadState(n));
     }
-    Answer::Done
+    Ok(())
 }
 
 // The tests of a scheme; `more` is what the caller asks of further lengths.
@@ -192,7 +185,7 @@ pub fn entered(
     ensures { result ≡ tested s map.now (lent own.now parts.now masses.now fills.now carry.now) more }
 {
     if !extent::good_sides(s) {
-        return Answer::Refused(1, 0);
+        return Err(Refusal::BadSides);
     }
     let n = extent::cells(s);
     let set = entry::three_lengths(
@@ -204,7 +197,7 @@ pub fn entered(
         n,
     );
     if !(set & (map.len() == n) & more) {
-        return Answer::Refused(2, 0);
+        return Err(Refusal::BadLength);
     }
     checked(map, own, parts, masses, fills, carry, s)
 }

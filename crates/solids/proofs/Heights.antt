@@ -1,14 +1,13 @@
 -- Heights and walls: the code's comparison, the walls of a column, of a row and of the layer. Assumes nothing.
 use mathlib.Core.Path.{◌≡◌, refl, sym, ap, ap₂, ◌∙◌, subst}
-use mathlib.Core.Bool.{Bool, true, false, not, ◌||◌, true≢false}
+use mathlib.Core.Bool.{Bool, true, false, not, ◌||◌}
 use mathlib.Core.List.{List, [], ◌∷◌, ◌++◌, append_assoc}
 use Prim.Native.Nat.{ℕ, zero, suc, ◌+◌, ◌-◌, ◌*◌, ◌≤◌, ◌<◌}
-use native.Mathlib.Nat.{mul-le-mul, le_refl}
+use native.Mathlib.Nat.{mul-le-mul}
 use native.Mathlib.Omega.{arith}
-use borrow.Author.Count.{below_more}
 use lib.IntN.{ℤ, pos, ◌*ℤ◌}
 use lib.ListN.{length, take, drop, get_or, set, length-append, take-append-drop, drop_of_length-le}
-use lib.Seq.{sets, length-sets, get_or-drop, drop-drop, take_all, take-take, take_at, drop_at}
+use lib.Seq.{sets, get_or-drop, drop-drop, take_all, take-take, take_at, drop_at}
 use lib.Signed.{quot_z, lt_z, nat_abs-le}
 use mir.Syntax.{w64}
 use mir.Val.{SFits}
@@ -47,18 +46,13 @@ pub record Rising (v : ℤ) (edge nz z : ℕ) : Type 0 where
   pub few : z ≤ nz
   pub walls : (k : ℕ) → k < z → not (solid_at v edge k) ≡ false
 
-pub rise-more : {v : ℤ} {edge nz z : ℕ} → Rising v edge nz z → z < nz → solid_at v edge z ≡ true → Rising v edge nz (z + 1)
-rise-more {v} {edge} {nz} {z} r h e = record { few = omega arith; walls = below_more (λ (k : ℕ). not (solid_at v edge k) ≡ false) z r.walls (ap not e) }
-
 pub rise-stop : {v : ℤ} {edge nz z : ℕ} → Rising v edge nz z → z < nz → solid_at v edge z ≡ false → z ≡ height_of edge nz v
 unfolding height_of
 rise-stop {v} {edge} {nz} {z} r h e = sym (first-is nz (λ k. not (solid_at v edge k)) z h r.walls (ap not e))
 
-pub rise-end : {v : ℤ} {edge nz z : ℕ} → Rising v edge nz z → nz ≤ z → z ≡ height_of edge nz v
+pub rise-end : {v : ℤ} {edge nz z : ℕ} → Rising v edge nz z → nz ≤ z → nz ≡ height_of edge nz v
 unfolding height_of
-rise-end {v} {edge} {nz} {z} r h =
-    let e : z ≡ nz = omega (arith, r.few) in
-    e ∙ sym (first-all nz (λ k. not (solid_at v edge k)) (λ k l. r.walls k (omega arith)))
+rise-end {v} {edge} {nz} {z} r h = sym (first-all nz (λ k. not (solid_at v edge k)) (λ k l. r.walls k (omega arith)))
 
 first-le : (n i : ℕ) (f : ℕ → Bool) → first_from n i f ≤ i + n
 unfolding first_from
@@ -84,14 +78,6 @@ pub record Laying (s : List ℕ) (at : ℕ) (before after : List ℕ) (base n ed
   pub inside : p ≤ length s
   pub left : row_heights edge nz (n - i) (drop p s) ≡ drop i (row_heights edge nz n (drop at s))
   pub done : after ≡ sets before base (take i (row_heights edge nz n (drop at s)))
-
-pub lay-begin : (s : List ℕ) (at : ℕ) (flags : List ℕ) (base n edge nz : ℕ) → at ≤ length s → Laying s at flags flags base n edge nz at 0
-lay-begin s at flags base n edge nz h =
-    let e : n - 0 ≡ n = omega arith in
-    record { few = omega arith; inside = h; left = ap (λ (k : ℕ). row_heights edge nz k (drop at s)) e; done = refl }
-
-pub lay-long : {s : List ℕ} {at : ℕ} {before after : List ℕ} {base n edge nz p i : ℕ} → Laying s at before after base n edge nz p i → length after ≡ length before
-lay-long {s} {at} {before} {after} {base} {n} {edge} {nz} {p} {i} r = ap length r.done ∙ length-sets before base (take i (row_heights edge nz n (drop at s)))
 
 pub lay-more : {s : List ℕ} {at : ℕ} {before after : List ℕ} {base n edge nz p i k : ℕ} {w : Span} → Laying s at before after base n edge nz p i → i < n → Found s p w
     → k ≡ height_of edge nz (or_zero (number_of (take (w.to - w.from) (drop w.from s)))) → Laying s at before (set after (base + i) k) base n edge nz w.to (i + 1)
@@ -147,9 +133,6 @@ stack-begin s at flags n m edge nz h =
       done = sym (ap (sets flags (m * n)) (drop_of_length-le L {i = m * n} (omega (arith, l))));
     }
 
-pub stack-long : {s : List ℕ} {at : ℕ} {before after : List ℕ} {n m edge nz p i : ℕ} → Stacking s at before after n m edge nz p i → length after ≡ length before
-stack-long {s} {at} {before} {after} {n} {m} {edge} {nz} {p} {i} r = ap length r.done ∙ length-sets before (i * n) (drop (i * n) (layer_of edge nz n m (drop at s)))
-
 stack-one : {s : List ℕ} {at : ℕ} {before mid after : List ℕ} {n m edge nz p j q : ℕ} → Stacking s at before mid n m edge nz p (suc j)
     → after ≡ sets mid (j * n) (row_heights edge nz n (drop p s)) → Next s p q → Stacking s at before after n m edge nz q j
 unfolding layer_of
@@ -189,10 +172,3 @@ pub stack-end : {s : List ℕ} {at : ℕ} {before after : List ℕ} {n m edge nz
 stack-end {s} {at} {before} {after} {n} {m} {edge} {nz} zero h r =
     r.done ∙ ap (λ (y : ℕ). sets before y (drop y (layer_of edge nz n m (drop at s)))) (let e : 0 * n ≡ 0 = omega arith in e)
 stack-end (suc j) h r = absurd (omega arith)
-
-pub base-fits : (i n m l : ℕ) → 0 < i → i ≤ m → m * n ≤ l → (i - 1) * n + n ≤ l
-base-fits zero n m l h g k = absurd (omega arith)
-base-fits (suc j) n m l h g k =
-    let e : suc j - 1 ≡ j = omega arith in
-    let p : suc j * n ≤ m * n = mul-le-mul g (le_refl n) in
-    rw e (omega arith)

@@ -1,4 +1,3 @@
 pub mod Heights
 pub mod Spread
 pub mod Inverts
-pub mod Cleared

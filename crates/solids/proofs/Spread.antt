@@ -1,8 +1,8 @@
 -- From the layer to all cells: the flags from the last cell down, and that they are the invert's. Assumes nothing.
-use mathlib.Core.Path.{◌≡◌, refl, sym, ap, ◌∙◌, subst}
+use mathlib.Core.Path.{◌≡◌, sym, ap, ◌∙◌, subst}
 use mathlib.Core.Logic.{◌⊎◌, ⊎_elim}
-use mathlib.Core.Bool.{Bool, true, false, ◌||◌, cond, true≢false, false≢true}
-use mathlib.Core.List.{List, [], ◌∷◌, ◌++◌}
+use mathlib.Core.Bool.{Bool, true, false, cond}
+use mathlib.Core.List.{List}
 use Prim.Native.Nat.{ℕ, zero, suc, ◌+◌, ◌-◌, ◌*◌, ◌/◌, ◌%◌, ◌≤◌, ◌<◌}
 use native.Mathlib.Nat.{mul-le-mul, mod-le, eq-or-lt_of_le}
 use native.Mathlib.Numerals.{add-one}
@@ -57,9 +57,6 @@ pub record Spreading (s : Sides) (before after : List ℕ) (i : ℕ) : Type 0 wh
   pub long : length after ≡ length before
   pub kept : (j : ℕ) → j < i → get_or after j 0 ≡ get_or before j 0
   pub done : (j : ℕ) → i ≤ j → j < length before → get_or after j 0 ≡ wall_by s before j
-
-pub spread-begin : (s : Sides) (flags : List ℕ) → Spreading s flags flags (length flags)
-spread-begin s flags = record { few = omega arith; long = refl; kept = λ j h. refl; done = λ j h g. absurd (omega arith) }
 
 spread-one : {s : Sides} {before after : List ℕ} {v : ℕ} (c : ℕ) → Spreading s before after (suc c) → v ≡ wall_of s c (get_or after (c % (s.nx * s.ny)) 0) → Spreading s before (set after c v) c
 unfolding wall_by

@@ -1,11 +1,9 @@
 -- The flags that an invert's rows give a grid: the height of each column, and the cells whose centres lie below it. Assumes nothing.
-use Rattle.std.specs.Prelude.{Bool, ◌||◌, cond, List, ℕ, zero, suc, ◌+◌, ◌-◌, ◌*◌, ◌/◌, ◌%◌, ℤ, pos, ◌*ℤ◌}
+use Rattle.std.specs.Prelude.{Bool, ◌||◌, cond, List, ℕ, zero, suc, ◌+◌, ◌-◌, ◌*◌, ◌/◌, ◌%◌, ℤ, pos, ◌*ℤ◌, Option, Some, None}
 use Rattle.std.specs.Int.Signed.{quot_z, lt_z}
 use Rattle.whole.specs.Fold.{tab}
 use Rattle.grid.specs.declared.Sides.{Sides}
 use Rattle.grid.specs.Grid.{cells_of, grid_of}
-use Rattle.numerals.specs.declared.number.Number.{Number}
-use Rattle.numerals.specs.declared.number.Number.TheVariants.{Thousandths, Unreadable}
 use Rattle.numerals.specs.Text.{word, after_word, from_line}
 use Rattle.numerals.specs.Number.{number_of}
 use Rattle.heights.specs.Header.{is_no_data}
@@ -15,9 +13,9 @@ unfoldable pub nth_word : ℕ → List ℕ → List ℕ
 nth_word zero t = word t
 nth_word (suc x) t = nth_word x (after_word t)
 
-abbrev pub or_zero : Number → ℤ
-or_zero (Thousandths z) = z
-or_zero Unreadable = pos 0
+abbrev pub or_zero : Option ℤ → ℤ
+or_zero (Some z) = z
+or_zero None = pos 0
 
 -- the value at (x, y) in thousandths: the rows begin at t, the first of the m rows is y = m − 1, the last y = 0
 unfoldable pub value_at : List ℕ → ℕ → ℕ → ℕ → ℤ

@@ -10,16 +10,13 @@ ghost use Rattle.grid.specs.Grid.{at_end, sides_good, cells_of};
 
 use grid::Sides;
 use heights::header::{is_no_data, units};
-use numerals::number::{Number, number_of};
+use numerals::number::number_of;
 use numerals::text::{next_line, next_word};
 
-fn value_or_zero(v: Number) -> i64
+fn value_or_zero(v: Option<i64>) -> i64
     ensures { result ≡ or_zero v }
 {
-    let Number::Thousandths(z) = v else {
-        return 0;
-    };
-    z
+    v.unwrap_or(0)
 }
 
 // Twice the height of a cell's centre, and of a value, above the origin.
@@ -55,14 +52,12 @@ fn walls_of(v: i64, edge: usize, nz: usize) -> usize
     requires nz_bound { nz ≤ 128 }
     ensures { result ≡ height_of edge nz v }
 {
-    let mut z = 0;
-    while z < nz {
+    for z in 0..nz {
         if !solid(v, edge, z) {
             return z;
         }
-        z += 1;
     }
-    z
+    nz
 }
 
 // The value that stands at a place, and what it makes of its column.
@@ -86,15 +81,13 @@ fn row_walls(s: &[u8], at: usize, flags: &mut [u8], base: usize, n: usize, edge:
     ensures { flags.new ≡ sets flags.old base (row_heights edge nz n (drop at s.now)) }
 {
     let mut p = at;
-    let mut i = 0;
-    while i < n {
+    for i in 0..n {
         let w = next_word(s, p);
         let from = w.from;
         let to = w.to;
         let k = walls_at(s, from, to, edge, nz);
         flags[base + i] = k as u8;
         p = to;
-        i += 1;
     }
 }
 
@@ -109,9 +102,7 @@ pub fn layer(s: &[u8], at: usize, flags: &mut [u8], n: usize, m: usize, edge: us
     ensures { flags.new ≡ sets flags.old 0 (layer_of edge nz n m (drop at s.now)) }
 {
     let mut p = at;
-    let mut i = m;
-    while 0 < i {
-        i -= 1;
+    for i in (0..m).rev() {
         row_walls(s, p, flags, i * n, n, edge, nz);
         p = next_line(s, p);
     }
@@ -158,9 +149,7 @@ pub fn spread(flags: &mut [u8], s: Sides)
     ensures { flags.new ≡ tab (cells_of s) (wall_by s flags.old) }
 {
     let plane = s.nx * s.ny;
-    let mut i = flags.len();
-    while 0 < i {
-        i -= 1;
+    for i in (0..flags.len()).rev() {
         let k = flags[i % plane];
         flags[i] = cell_wall(s, i, k);
     }

@@ -1,6 +1,5 @@
 -- Storing into a room: a number's width as the code counts it, its digits from the last on, and one storing behind another. Assumes nothing.
 use mathlib.Core.Path.{◌≡◌, refl, sym, ap, ◌∙◌, subst}
-use mathlib.Core.Logic.{◌≢◌}
 use mathlib.Core.Bool.{Bool, true, false, true≢false}
 use mathlib.Core.List.{List, [], ◌∷◌, ◌++◌}
 use Prim.Native.Nat.{ℕ, zero, suc, ◌+◌, ◌-◌, ◌*◌, ◌/◌, ◌%◌, ◌^◌, ◌≤◌, ◌<◌}
@@ -100,9 +99,6 @@ back_more {before} {after} {at} {k} {n} {m} (suc j) h r =
 pub back_end : {before after : List ℕ} {at k n m : ℕ} (i : ℕ) → i ≤ 0 → Backwards before after at k n i m → after ≡ sets before at (digits_of k n)
 back_end {before} {after} {at} {k} {n} {m} zero h r = r.done ∙ ap (λ (x : ℕ). sets before x (digits_of k n)) (let e : at + 0 ≡ at = omega arith in e)
 back_end (suc j) h r = absurd (omega arith)
-
-pub back_long : {before after : List ℕ} {at k n i m : ℕ} → Backwards before after at k n i m → length after ≡ length before
-back_long {before} {after} {at} {k} {n} {i} r = ap length r.done ∙ length-sets before (at + i) (drop i (digits_of k n))
 
 -- ---- one storing behind another
 pub put-none : (room : List ℕ) (at : ℕ) → Put room at [] room at

@@ -31,13 +31,9 @@ pub fn put_bytes(room: &mut [u8], at: usize, bytes: &[u8]) -> usize
     requires { at + length bytes.now ≤ length room.old }
     ensures { Put room.old at bytes.now room.new result }
 {
-    let mut c = 0;
-    while c < bytes.len() {
-        let b = bytes[c];
-        room[at + c] = b;
-        c += 1;
-    }
-    at + bytes.len()
+    let end = at + bytes.len();
+    room[at..end].copy_from_slice(bytes);
+    end
 }
 
 // The k lowest digits of n, from the last on.
@@ -45,10 +41,8 @@ fn put_digits(room: &mut [u8], at: usize, k: usize, n: u64) -> usize
     requires { at + k ≤ length room.old }
     ensures { Put room.old at (digits_of k n) room.new result }
 {
-    let mut i = k;
     let mut m = n;
-    while 0 < i {
-        i -= 1;
+    for i in (0..k).rev() {
         room[at + i] = (48 + m % 10) as u8;
         m /= 10;
     }

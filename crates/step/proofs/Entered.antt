@@ -10,35 +10,39 @@ use lib.ListN.{length, replicate}
 use borrow.Author.Tests.{ne_eqb}
 use Rattle.whole.specs.Fold.{first}
 use Rattle.lattice.specs.declared.Settings.{Settings}
-use Rattle.grid.specs.declared.Answer.{Answer}
-use Rattle.grid.specs.declared.Answer.TheVariants.{Done, Refused}
+use Rattle.grid.specs.Answer.{Answer, Done, late}
 use Rattle.grid.specs.State.{Lent}
 use Rattle.grid.specs.Step.{unsteady, next}
 use Rattle.grid.specs.Good.{bad_flag, bad_fluid, bad_rule}
-use Rattle.grid.specs.Outcome.{number_of, accepted, or_refuse, good_answer, move_answer, settings_good, by_answer}
+use Rattle.grid.specs.Outcome.{accepted, or_refuse, good_answer, move_answer, settings_good, by_answer}
 use Rattle.grid.specs.Ground.{Ground, lengths_on, state_on, scene_on, entry_on, step_on, next_on, second_on, marks_on}
 use Rattle.grid.proofs.Accepted.{passed}
 use Rattle.grid.proofs.Conserved.{good-any-on}
+use Rattle.grid.specs.declared.refusals.Refusal.TheVariants.{BadFlag, BadFlow, BadLayer, BadLength, BadNext, BadSetting, BadSides, BadState}
+use Rattle.std.specs.Prelude.{Ok, Err}
+use Rattle.grid.specs.declared.refusals.Refusal.{Refusal}
 
 -- ---- a chain of tests that refuses does so whatever comes after it
 
-Early : Answer → Answer → Type 0
-Early x y = (n p : ℕ) → x ≡ Refused n p → (y ≡ Refused n p) × (n ≤ 6)
+late_in : Answer → Bool
+late_in (Ok _) = false
+late_in (Err refusal) = late refusal
 
-early-test : (b : Bool) (k q : ℕ) (x y : Answer) → k ≤ 6 → Early x y → Early (or_refuse b k q x) (or_refuse b k q y)
-unfolding Early
-early-test true k q x y h r n p e = r n p e
-early-test false k q x y h r n p e = (e, subst (λ (m : ℕ). m ≤ 6) (ap number_of e) h)
+Early : Answer → Answer → Type 0
+Early x y = (refusal : Refusal) → x ≡ Err refusal → (y ≡ Err refusal) × (late refusal ≡ false)
+
+early-test : (b : Bool) (here : Refusal) (x y : Answer) → late here ≡ false → Early x y → Early (or_refuse b here x) (or_refuse b here y)
+unfolding Early late_in
+early-test true here x y h r refusal e = r refusal e
+early-test false here x y h r refusal e = (e, sym (ap late_in e) ∙ h)
 
 early-done : (y : Answer) → Early Done y
 unfolding Early
-early-done y n p e = absurd (true≢false (ap accepted e))
+early-done y refusal e = absurd (true≢false (ap accepted e))
 
 -- 7 and 8 alone write
-untouched {ℓ} : {A : Type ℓ} (n p : ℕ) (x y z : A) → n ≤ 6 → by_answer (Refused n p) x y z ≡ z
-untouched n p x y z h =
-    ap (λ (b : Bool). cond b y (cond (eqb n 8) y z)) (ne_eqb n 7 (λ e. absurd (omega arith)))
-    ∙ ap (λ (b : Bool). cond b y z) (ne_eqb n 8 (λ e. absurd (omega arith)))
+untouched {ℓ} : {A : Type ℓ} (refusal : Refusal) (x y z : A) → late refusal ≡ false → by_answer (Err refusal) x y z ≡ z
+untouched refusal x y z h = ap (λ (b : Bool). cond b y z) h
 
 module _ (G : Ground) (g : Settings) (a b : Lent) (marks : List ℕ) where
   -- the step's own outcome
@@ -50,45 +54,45 @@ module _ (G : Ground) (g : Settings) (a b : Lent) (marks : List ℕ) where
   early-good : (rest : Answer) → Early (good_answer G.lat G.grid (state_on G a) Done) (good_answer G.lat G.grid (state_on G a) rest)
   unfolding good_answer
   early-good rest =
-      early-test (leb G.grid.cells (bad_flag G.grid (state_on G a).flag)) 4 _ _ _ (omega arith)
-      (early-test (leb G.grid.cells (bad_fluid G.lat.q G.grid (state_on G a).flag)) 5 _ _ _ (omega arith)
-      (early-test (leb (suc G.grid.cells) (bad_rule G.lat G.grid.cells (state_on G a))) 6 _ _ _ (omega arith) (early-done rest)))
+      early-test (leb G.grid.cells (bad_flag G.grid (state_on G a).flag)) (BadFlag _) _ _ refl
+      (early-test (leb G.grid.cells (bad_fluid G.lat.q G.grid (state_on G a).flag)) (BadLayer _) _ _ refl
+      (early-test (leb (suc G.grid.cells) (bad_rule G.lat G.grid.cells (state_on G a))) (BadState _) _ _ refl (early-done rest)))
 
   abbrev lengths : Bool
   lengths = lengths_on G a && lengths_on G b && eqb (length marks) G.cells
 
   early-entry : (rest : Answer) → Early (entry_on G g a b marks Done) (entry_on G g a b marks rest)
   early-entry rest =
-      early-test G.fits 1 0 _ _ (omega arith) (early-test lengths 2 0 _ _ (omega arith) (early-test (settings_good g) 3 0 _ _ (omega arith) (early-good rest)))
+      early-test G.fits BadSides _ _ refl (early-test lengths BadLength _ _ refl (early-test (settings_good g) (BadSetting 0) _ _ refl (early-good rest)))
 
   -- a step that one of them refuses
-  pub refused-on : {n p : ℕ} → Refused n p ≡ entry_on G g a b marks Done → SteppedOn (Refused n p) b marks
+  pub refused-on : {refusal : Refusal} → Err refusal ≡ entry_on G g a b marks Done → SteppedOn (Err refusal) b marks
   unfolding Early
-  refused-on {n} {p} e =
-      let r = early-entry (move_answer (scene_on G g a)) n p (sym e) in
+  refused-on {refusal} e =
+      let r = early-entry (move_answer (scene_on G g a)) refusal (sym e) in
       record {
         answer-is = sym r.0;
-        second_is = sym (ap (λ (x : Answer). by_answer x (next_on G g a) a b) r.0 ∙ untouched n p (next_on G g a) a b r.1);
+        second_is = sym (ap (λ (x : Answer). by_answer x (next_on G g a) a b) r.0 ∙ untouched refusal (next_on G g a) a b r.1);
         marks-are = sym (ap (λ (x : Answer). by_answer x (replicate G.cells 0) (replicate G.cells 0) marks) r.0
-            ∙ untouched n p (replicate G.cells 0) (replicate G.cells 0) marks r.1);
+            ∙ untouched refusal (replicate G.cells 0) (replicate G.cells 0) marks r.1);
       }
 
   -- ---- a step that passes them
   module _ (e : entry_on G g a b marks Done ≡ Done) where
-    sides : (G.fits ≡ true) × (or_refuse lengths 2 0 (or_refuse (settings_good g) 3 0 (good_answer G.lat G.grid (state_on G a) Done)) ≡ Done)
-    sides = passed G.fits 1 0 _ e
+    sides : (G.fits ≡ true) × (or_refuse lengths BadLength (or_refuse (settings_good g) (BadSetting 0) (good_answer G.lat G.grid (state_on G a) Done)) ≡ Done)
+    sides = passed G.fits BadSides _ e
 
-    sizes : (lengths ≡ true) × (or_refuse (settings_good g) 3 0 (good_answer G.lat G.grid (state_on G a) Done) ≡ Done)
-    sizes = passed lengths 2 0 _ sides.1
+    sizes : (lengths ≡ true) × (or_refuse (settings_good g) (BadSetting 0) (good_answer G.lat G.grid (state_on G a) Done) ≡ Done)
+    sizes = passed lengths BadLength _ sides.1
 
     settings : (settings_good g ≡ true) × (good_answer G.lat G.grid (state_on G a) Done ≡ Done)
-    settings = passed (settings_good g) 3 0 _ sizes.1
+    settings = passed (settings_good g) (BadSetting 0) _ sizes.1
 
     pub entry-any : (rest : Answer) → entry_on G g a b marks rest ≡ rest
     entry-any rest =
-        ap (λ (t : Bool). or_refuse t 1 0 (or_refuse lengths 2 0 (or_refuse (settings_good g) 3 0 (good_answer G.lat G.grid (state_on G a) rest)))) sides.0
-        ∙ ap (λ (t : Bool). or_refuse t 2 0 (or_refuse (settings_good g) 3 0 (good_answer G.lat G.grid (state_on G a) rest))) sizes.0
-        ∙ ap (λ (t : Bool). or_refuse t 3 0 (good_answer G.lat G.grid (state_on G a) rest)) settings.0
+        ap (λ (t : Bool). or_refuse t BadSides (or_refuse lengths BadLength (or_refuse (settings_good g) (BadSetting 0) (good_answer G.lat G.grid (state_on G a) rest)))) sides.0
+        ∙ ap (λ (t : Bool). or_refuse t BadLength (or_refuse (settings_good g) (BadSetting 0) (good_answer G.lat G.grid (state_on G a) rest))) sizes.0
+        ∙ ap (λ (t : Bool). or_refuse t (BadSetting 0) (good_answer G.lat G.grid (state_on G a) rest)) settings.0
         ∙ good-any-on G.lat G.grid (state_on G a) rest settings.1
 
     -- tests 7 and 8 answer with no other number
@@ -99,7 +103,7 @@ module _ (G : Ground) (g : Settings) (a b : Lent) (marks : List ℕ) where
         go (leb S.grid.cells (first S.grid.cells (unsteady S))) (leb (suc S.grid.cells) (bad_rule S.lat S.grid.cells (next S)))
         (first S.grid.cells (unsteady S)) (bad_rule S.lat S.grid.cells (next S))
       where
-        go : (t u : Bool) (p q : ℕ) → by_answer (or_refuse t 7 p (or_refuse u 8 q Done)) x y z ≡ cond (accepted (or_refuse t 7 p (or_refuse u 8 q Done))) x y
+        go : (t u : Bool) (p q : ℕ) → by_answer (or_refuse t (BadFlow p) (or_refuse u (BadNext q) Done)) x y z ≡ cond (accepted (or_refuse t (BadFlow p) (or_refuse u (BadNext q) Done))) x y
         go true true p q = refl
         go true false p q = refl
         go false u p q = refl

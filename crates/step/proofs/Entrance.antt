@@ -11,8 +11,8 @@ use Rattle.lattice.specs.Lattice.{d3q19}
 use Rattle.lattice.specs.Cell.{relaxation_good, gravity_good}
 use Rattle.lattice.specs.declared.Settings.{Settings}
 use Rattle.grid.specs.declared.Sides.{Sides}
-use Rattle.grid.specs.declared.Answer.{Answer}
-use Rattle.grid.specs.declared.Answer.TheVariants.{Done, Refused}
+use Rattle.grid.specs.Answer.{Answer}
+use Rattle.grid.specs.Answer.{Done}
 use Rattle.grid.specs.Grid.{cells_of, sides_good, grid_of}
 use Rattle.grid.specs.State.{Lent, state_of}
 use Rattle.grid.specs.Outcome.{or_refuse, good_answer, lengths_good, settings_good, entry_answer, open-outcome}
@@ -24,6 +24,9 @@ use Rattle.grid.proofs.Accepted.{passed}
 use Rattle.grid.proofs.Prepared.{sized}
 use Rattle.step.proofs.Entered.{SteppedOn, refused-on, stepped-on}
 use Rattle.step.proofs.Finishes.{alike-sized}
+use Rattle.grid.specs.declared.refusals.Refusal.TheVariants.{BadLength, BadSetting, BadSides}
+use Rattle.std.specs.Prelude.{Err}
+use Rattle.grid.specs.declared.refusals.Refusal.{Refusal}
 
 module _ (s : Sides) (g : Settings) (a b : Lent) (marks : List ℕ) where
   -- the box is one ground
@@ -32,23 +35,23 @@ module _ (s : Sides) (g : Settings) (a b : Lent) (marks : List ℕ) where
   on-ground w = record { answer-is = w.answer-is; second_is = w.second_is; marks-are = w.marks-are }
 
   -- a step that one of them refuses
-  pub refused : {n p : ℕ} → Refused n p ≡ entry_answer s g a b marks Done → Stepped s g a b marks (Refused n p) b marks
+  pub refused : {refusal : Refusal} → Err refusal ≡ entry_answer s g a b marks Done → Stepped s g a b marks (Err refusal) b marks
   unfolding entry_answer lengths_good
   refused e = on-ground (refused-on (box_ground s) g a b marks e)
 
   -- ---- a step that passes them
   module _ (e : entry_answer s g a b marks Done ≡ Done) where
-    sides : (sides_good s ≡ true) × (or_refuse (lengths_good (cells_of s) a && lengths_good (cells_of s) b && eqb (length marks) (cells_of s)) 2 0
-        (or_refuse (settings_good g) 3 0 (good_answer d3q19 (grid_of s) (state_of 18 a) Done)) ≡ Done)
+    sides : (sides_good s ≡ true) × (or_refuse (lengths_good (cells_of s) a && lengths_good (cells_of s) b && eqb (length marks) (cells_of s)) BadLength
+        (or_refuse (settings_good g) (BadSetting 0) (good_answer d3q19 (grid_of s) (state_of 18 a) Done)) ≡ Done)
     unfolding entry_answer
-    sides = passed (sides_good s) 1 0 _ e
+    sides = passed (sides_good s) BadSides _ e
 
     lengths : ((lengths_good (cells_of s) a && lengths_good (cells_of s) b && eqb (length marks) (cells_of s)) ≡ true)
-        × (or_refuse (settings_good g) 3 0 (good_answer d3q19 (grid_of s) (state_of 18 a) Done) ≡ Done)
-    lengths = passed (lengths_good (cells_of s) a && lengths_good (cells_of s) b && eqb (length marks) (cells_of s)) 2 0 _ sides.1
+        × (or_refuse (settings_good g) (BadSetting 0) (good_answer d3q19 (grid_of s) (state_of 18 a) Done) ≡ Done)
+    lengths = passed (lengths_good (cells_of s) a && lengths_good (cells_of s) b && eqb (length marks) (cells_of s)) BadLength _ sides.1
 
     settings : (settings_good g ≡ true) × (good_answer d3q19 (grid_of s) (state_of 18 a) Done ≡ Done)
-    settings = passed (settings_good g) 3 0 _ lengths.1
+    settings = passed (settings_good g) (BadSetting 0) _ lengths.1
 
     both : (lengths_good (cells_of s) a && lengths_good (cells_of s) b) ≡ true
     both = and_left (lengths_good (cells_of s) a && lengths_good (cells_of s) b) (eqb (length marks) (cells_of s)) lengths.0
@@ -79,17 +82,17 @@ module _ (s : Sides) (g : Settings) (a b : Lent) (marks : List ℕ) where
   unfolding settings_good
   settings-told e = e
 
-  pub refuses-sides : sides_good s ≡ false → Refused 1 0 ≡ entry_answer s g a b marks Done
+  pub refuses-sides : sides_good s ≡ false → Err BadSides ≡ entry_answer s g a b marks Done
   unfolding entry_answer
   refuses-sides e = rw e refl
 
   module _ (es : sides_good s ≡ true) where
-    pub refuses-lengths : (lengths_good (cells_of s) a && lengths_good (cells_of s) b && eqb (length marks) (cells_of s)) ≡ false → Refused 2 0 ≡ entry_answer s g a b marks Done
+    pub refuses-lengths : (lengths_good (cells_of s) a && lengths_good (cells_of s) b && eqb (length marks) (cells_of s)) ≡ false → Err BadLength ≡ entry_answer s g a b marks Done
     unfolding entry_answer
     refuses-lengths e = rw (es, e) refl
 
     module _ (el : (lengths_good (cells_of s) a && lengths_good (cells_of s) b && eqb (length marks) (cells_of s)) ≡ true) where
-      pub refuses-settings : settings_good g ≡ false → Refused 3 0 ≡ entry_answer s g a b marks Done
+      pub refuses-settings : settings_good g ≡ false → Err (BadSetting 0) ≡ entry_answer s g a b marks Done
       unfolding entry_answer
       refuses-settings e = rw (es, el, e) refl
 

@@ -12,8 +12,8 @@ use Rattle.lattice.specs.Lattice.{d3q19}
 use Rattle.lattice.specs.Body.{body_good}
 use Rattle.lattice.specs.declared.Settings.{Settings}
 use Rattle.grid.specs.declared.Sides.{Sides}
-use Rattle.grid.specs.declared.Answer.{Answer}
-use Rattle.grid.specs.declared.Answer.TheVariants.{Done, Refused}
+use Rattle.grid.specs.Answer.{Answer}
+use Rattle.grid.specs.Answer.{Done}
 use Rattle.grid.specs.State.{part_of, Lent, lent, Scene, liquid, state_of, lent_of}
 use Rattle.grid.specs.Grid.{cells_of}
 use Rattle.grid.specs.Step.{flag_at, unsteady, collided, new_flag, new_part, new_mass, new_fill, next}
@@ -25,8 +25,8 @@ use Rattle.grid.specs.inner.Passes.{low_of, offset_of, opened_by, opened_mark}
 use Rattle.grid.proofs.Beside.{Offsets}
 use Rattle.grid.proofs.Listed.{same-lent, lengths-listed}
 use Rattle.grid.proofs.Prepared.{sized}
-use Rattle.passes.specs.declared.passing.Passed.{Passed}
-use Rattle.passes.specs.declared.passing.Passed.TheVariants.{Stopped, Through}
+use Rattle.passes.specs.declared.passing.Found.{Found}
+use Rattle.std.specs.Prelude.{Ok, Err}
 use Rattle.passes.specs.inner.Flowed.{Flowable, Went, stopped, through, Flowed}
 use Rattle.passes.proofs.Marking.{opened-box}
 use Rattle.flow.proofs.Poise.{poised}
@@ -39,23 +39,8 @@ use Rattle.step.proofs.Opened.{open-fluid, open-near}
 use Rattle.step.proofs.Refills.{fills-weighty}
 use Rattle.step.proofs.Tests
 use Rattle.step.proofs.Uncarried
-
--- what pass 1 answered
-abbrev is-stopped : Passed → Bool
-is-stopped (Stopped c) = true
-is-stopped (Through u v) = false
-
-abbrev stopped-at : Passed → ℕ
-stopped-at (Stopped c) = c
-stopped-at (Through u v) = 0
-
-abbrev was-fair : Passed → Bool
-was-fair (Stopped c) = false
-was-fair (Through u v) = u
-
-abbrev was-calm : Passed → Bool
-was-calm (Stopped c) = false
-was-calm (Through u v) = v
+use Rattle.grid.specs.declared.refusals.Refusal.TheVariants.{BadFlow, BadNext}
+use Rattle.grid.specs.declared.refusals.Refusal.{Refusal}
 
 -- ---- two sets of the right lengths are alike
 pub alike-sized : {n : ℕ} {a b : Lent} → Sized n a → Sized n b → Alike a b
@@ -95,7 +80,7 @@ module _ (s : Sides) (g : Settings) (a : Lent) where
     field = ready-field s g a r
 
     -- a cell that is unsteady: refusal 7 there
-    pub stopped-answer : {c : ℕ} → c < cells_of s → first (cells_of s) (unsteady U) ≡ c → Refused 7 c ≡ move_answer S
+    pub stopped-answer : {c : ℕ} → c < cells_of s → first (cells_of s) (unsteady U) ≡ c → Err (BadFlow c) ≡ move_answer S
     unfolding scene_of state_of
     stopped-answer h e = Tests.stopped-answer (field_of s g a) field.stands h (sym (ap (first (cells_of s)) fast-carried) ∙ e)
 
@@ -153,7 +138,7 @@ module _ (s : Sides) (g : Settings) (a : Lent) where
         fair-answer = Tests.fair-answer (field_of s g a) field.stands t (turned-parts w) f
 
         -- test 8 by the scan
-        pub judged-answer : {n : ℕ} {answer : Answer} → n ≡ cells_of s → answer ≡ if_none (suc n) 8 (bad_rule d3q19 n (state_of 18 second)) Done → answer ≡ move_answer S
+        pub judged-answer : {n : ℕ} {answer : Answer} → n ≡ cells_of s → answer ≡ if_none (suc n) BadNext (bad_rule d3q19 n (state_of 18 second)) Done → answer ≡ move_answer S
         unfolding scene_of state_of
         judged-answer = Tests.judged-answer (field_of s g a) field.stands t (turned-parts w) f
 
@@ -189,14 +174,12 @@ soiled {b = b} {flags = flags} e h = record {
 pub cleared : (n : ℕ) {marks : List ℕ} → marks ≡ replicate n 0 → length marks ≡ n
 cleared n e = ap length e ∙ length-replicate n 0
 
-went-stopped : {S : Scene} {n : ℕ} {o : Passed} {parts masses : List ℤ} {marks : List ℕ} (c : ℕ) → o ≡ Stopped c → Went S n o parts masses marks → (c < n) × (first n (unsteady S) ≡ c)
-went-stopped {S} {n} c e (stopped {c = d} h f) = let k : d ≡ c = ap stopped-at e in (subst (λ (m : ℕ). m < n) k h, f ∙ k)
-went-stopped c e (through m) = absurd (false≢true (ap is-stopped e))
+-- what pass 1 answered
+went-stopped : {S : Scene} {n c : ℕ} {parts masses : List ℤ} {marks : List ℕ} → Went S n (Err c) parts masses marks → (c < n) × (first n (unsteady S) ≡ c)
+went-stopped (stopped h f) = (h, f)
 
-went-through : {S : Scene} {n : ℕ} {o : Passed} {parts masses : List ℤ} {marks : List ℕ} (u v : Bool) → o ≡ Through u v → Went S n o parts masses marks → Moved S n parts masses marks u v
-went-through u v e (stopped h f) = absurd (false≢true (sym (ap is-stopped e)))
-went-through {S} {n} {o} {parts} {masses} {marks} u v e (through {fair = x} {calm = y} m) =
-    subst (λ (z : Bool). Moved S n parts masses marks z v) (ap was-fair e) (subst (λ (z : Bool). Moved S n parts masses marks x z) (ap was-calm e) m)
+went-through : {S : Scene} {n : ℕ} {found : Found} {parts masses : List ℤ} {marks : List ℕ} → Went S n (Ok found) parts masses marks → Moved S n parts masses marks found.fair found.calm
+went-through (through m) = m
 
 module _ {s : Sides} {g : Settings} {a : Lent} where
   pub advanced-lengths : {answer : Answer} {second : Lent} {after : List ℕ} → Ready s g a → Advanced s g a answer second after → Sized (cells_of s) second
@@ -249,7 +232,7 @@ module _ {s : Sides} {g : Settings} {a : Lent} where
             marks-are = w.marks-are;
           }
 
-      pub finished-judged : {answer : Answer} → answer ≡ if_none (suc (length flags2)) 8 (bad_rule d3q19 (length flags2) (state_of 18 set)) Done → Finished s g a answer set marks
+      pub finished-judged : {answer : Answer} → answer ≡ if_none (suc (length flags2)) BadNext (bad_rule d3q19 (length flags2) (state_of 18 set)) Done → Finished s g a answer set marks
       finished-judged e = record { answer-is = judged-answer s g a f.ready f.moved.steady w r flags-count e; second_is = set_next; marks-are = w.marks-are }
 
   -- advanced
@@ -257,13 +240,10 @@ module _ {s : Sides} {g : Settings} {a : Lent} where
     second-sized : Sized (cells_of s) b
     second-sized = like-sized f.ready.sized f.alike
 
-    module _ {o : Passed} {parts2 masses2 : List ℤ} {marks2 : List ℕ} (w : Flowed s g a.flags a.parts a.masses a.fills o parts2 masses2 marks2) where
-      abbrev flowed : Lent
-      flowed = lent b.flags parts2 masses2 b.fills b.carry
-
-      pub stopped-tried : (c : ℕ) → o ≡ Stopped c → Tried s g a (Refused 7 c) flowed marks2
-      stopped-tried c e =
-          let h = went-stopped c e w.went in
+    module _ {parts2 masses2 : List ℤ} {marks2 : List ℕ} where
+      pub stopped-tried : {c : ℕ} → Flowed s g a.flags a.parts a.masses a.fills (Err c) parts2 masses2 marks2 → Tried s g a (Err (BadFlow c)) (lent b.flags parts2 masses2 b.fills b.carry) marks2
+      stopped-tried w =
+          let h = went-stopped w.went in
           record {
             answer-is = stopped-answer s g a f.ready h.0 h.1;
             alike = alike-sized f.ready.sized (record { flags = second-sized.flags; parts = w.parts-kept; masses = w.masses-kept; fills = second-sized.fills; carry = second-sized.carry });
@@ -272,10 +252,10 @@ module _ {s : Sides} {g : Settings} {a : Lent} where
             marks-are = λ k. absurd (false≢true (ap accepted k));
           }
 
-      pub finishing : (fair calm : Bool) → o ≡ Through fair calm → Finishing s g a flowed marks2 fair calm
-      finishing fair calm e = record {
+      pub finishing : {found : Found} → Flowed s g a.flags a.parts a.masses a.fills (Ok found) parts2 masses2 marks2 → Finishing s g a (lent b.flags parts2 masses2 b.fills b.carry) marks2 found.fair found.calm
+      finishing w = record {
         ready = f.ready;
-        moved = moved-carried s g a (went-through fair calm e w.went);
+        moved = moved-carried s g a (went-through w.went);
         flags-room = second-sized.flags;
         fills-room = second-sized.fills;
         carry-room = second-sized.carry;
@@ -291,8 +271,8 @@ module _ {s : Sides} {g : Settings} {a : Lent} where
   }
 
   -- stepped
-  pub refused-advanced : {n p : ℕ} {answer : Answer} {between second : Lent} {after marks : List ℕ} → answer ≡ Refused n p → Tried s g a answer between after → second ≡ a
-      → marks ≡ replicate (length after) 0 → Advanced s g a (Refused n p) second marks
+  pub refused-advanced : {refusal : Refusal} {answer : Answer} {between second : Lent} {after marks : List ℕ} → answer ≡ Err refusal → Tried s g a answer between after → second ≡ a
+      → marks ≡ replicate (length after) 0 → Advanced s g a (Err refusal) second marks
   refused-advanced e t k m = record {
     answer-is = sym e ∙ t.answer-is;
     second_is = k ∙ ap (λ (x : Answer). cond (accepted x) (next_of s g a) a) (sym e ∙ t.answer-is);

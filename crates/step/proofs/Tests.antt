@@ -13,8 +13,8 @@ use Rattle.whole.specs.laws.Tab.{get_or-tab}
 use Rattle.lattice.specs.Lattice.{dot, density, momentum, d3q19}
 use Rattle.lattice.specs.Body.{body_good}
 use Rattle.lattice.specs.Cell.{part_good, dense, slow}
-use Rattle.grid.specs.declared.Answer.{Answer}
-use Rattle.grid.specs.declared.Answer.TheVariants.{Done, Refused}
+use Rattle.grid.specs.Answer.{Answer}
+use Rattle.grid.specs.Answer.{Done}
 use Rattle.grid.specs.State.{State, Scene, liquid}
 use Rattle.grid.specs.Step.{streamed_density, unsteady, collided, filled, emptied, beside_filled, beside_emptied, new_flag, new_part, new_mass, new_fill, next}
 use Rattle.grid.specs.Good.{bad_rule}
@@ -31,6 +31,8 @@ use Rattle.conversion.specs.inner.Turned.{TurnedTo}
 use Rattle.conversion.proofs.Amounts.{new-dense}
 use Rattle.conversion.proofs.Field.{Field, scene_in, Standing, laid, walled}
 use Rattle.step.proofs.Refills.{fills-next, masses-fair}
+use Rattle.grid.specs.declared.refusals.Refusal.TheVariants.{BadFlow, BadNext}
+use Rattle.std.specs.Prelude.{Err}
 
 module _ (F : Field) (r : Standing F) where
   abbrev S : Scene
@@ -46,12 +48,12 @@ module _ (F : Field) (r : Standing F) where
   listed {c} h = subst (λ (k : ℕ). c < k) r.cells_are h
 
   abbrev last : Answer
-  last = if_none (suc N) 8 (bad_rule S.lat N (next S)) Done
+  last = if_none (suc N) BadNext (bad_rule S.lat N (next S)) Done
 
   -- a cell that is unsteady: refusal 7 there
-  pub stopped-answer : {c : ℕ} → c < n → first n (unsteady S) ≡ c → Refused 7 c ≡ move_answer S
+  pub stopped-answer : {c : ℕ} → c < n → first n (unsteady S) ≡ c → Err (BadFlow c) ≡ move_answer S
   unfolding move_answer
-  stopped-answer {c} h e = sym (stop N 7 (first N (unsteady S)) last (subst (λ (k : ℕ). first k (unsteady S) < k) (sym r.cells_are) (subst (λ (m : ℕ). m < n) (sym e) h)) ∙ ap (Refused 7) found)
+  stopped-answer {c} h e = sym (stop N BadFlow (first N (unsteady S)) last (subst (λ (k : ℕ). first k (unsteady S) < k) (sym r.cells_are) (subst (λ (m : ℕ). m < n) (sym e) h)) ∙ ap (λ (p : ℕ). Err (BadFlow p)) found)
     where
       found : first N (unsteady S) ≡ c
       found = ap (λ (k : ℕ). first k (unsteady S)) r.cells_are ∙ e
@@ -98,8 +100,8 @@ module _ (F : Field) (r : Standing F) where
         pub fair-answer : Done ≡ move_answer S
         unfolding move_answer
         fair-answer =
-            sym (skip N 7 (first N (unsteady S)) last steady
-            ∙ skip (suc N) 8 (bad_rule S.lat N (next S)) Done (fair-holds S (laid F r) (walled F r) dense-now fair))
+            sym (skip N BadFlow (first N (unsteady S)) last steady
+            ∙ skip (suc N) BadNext (bad_rule S.lat N (next S)) Done (fair-holds S (laid F r) (walled F r) dense-now fair))
 
       -- ---- test 8 by the scan
       -- the next state, as the passes hold it
@@ -116,10 +118,10 @@ module _ (F : Field) (r : Standing F) where
         carries = sym (ap (λ (l : List ℤ). get_or l 0 (pos 0)) w.carry-is);
       }
 
-      pub judged-answer : {k : ℕ} {answer : Answer} → k ≡ n → answer ≡ if_none (suc k) 8 (bad_rule S.lat k held) Done → answer ≡ move_answer S
+      pub judged-answer : {k : ℕ} {answer : Answer} → k ≡ n → answer ≡ if_none (suc k) BadNext (bad_rule S.lat k held) Done → answer ≡ move_answer S
       unfolding move_answer d3q19
       judged-answer e a =
-          a ∙ ap (λ (m : ℕ). if_none (suc m) 8 (bad_rule S.lat m held) Done) e
-          ∙ ap (λ (d : ℕ). if_none (suc n) 8 d Done) (sym (bad-rule-same S.lat n (next S) held same_next))
-          ∙ ap (λ (m : ℕ). if_none (suc m) 8 (bad_rule S.lat m (next S)) Done) (sym r.cells_are)
-          ∙ sym (skip N 7 (first N (unsteady S)) last steady)
+          a ∙ ap (λ (m : ℕ). if_none (suc m) BadNext (bad_rule S.lat m held) Done) e
+          ∙ ap (λ (d : ℕ). if_none (suc n) BadNext d Done) (sym (bad-rule-same S.lat n (next S) held same_next))
+          ∙ ap (λ (m : ℕ). if_none (suc m) BadNext (bad_rule S.lat m (next S)) Done) (sym r.cells_are)
+          ∙ sym (skip N BadFlow (first N (unsteady S)) last steady)

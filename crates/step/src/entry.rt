@@ -4,7 +4,8 @@ ghost use Rattle.grid.specs.State.{lent};
 ghost use Rattle.grid.specs.Outcome.{entry_answer};
 
 use checks::checking;
-use grid::{Answer, Sides, extent, lengths};
+use grid::refusals::{Answer, Refusal};
+use grid::{Sides, extent, lengths};
 use lattice::{Settings, limits};
 
 // What a step is refused for before it begins.
@@ -23,10 +24,10 @@ pub fn entered(
     s: Sides,
     g: Settings,
 ) -> Answer
-    ensures { result ≡ entry_answer s g (lent flags.now parts.now masses.now fills.now carry.now) (lent flags2.now parts2.now masses2.now fills2.now carry2.now) marks.now Answer.Done }
+    ensures { result ≡ entry_answer s g (lent flags.now parts.now masses.now fills.now carry.now) (lent flags2.now parts2.now masses2.now fills2.now carry2.now) marks.now (Ok tt) }
 {
     if !extent::good_sides(s) {
-        return Answer::Refused(1, 0);
+        return Err(Refusal::BadSides);
     }
     let n = extent::cells(s);
     let first = lengths::good_lengths(
@@ -46,10 +47,10 @@ pub fn entered(
         n,
     );
     if !(first & second & (marks.len() == n)) {
-        return Answer::Refused(2, 0);
+        return Err(Refusal::BadLength);
     }
     if !limits::good_settings(g) {
-        return Answer::Refused(3, 0);
+        return Err(Refusal::BadSetting(0));
     }
     checking::checked(flags, parts, masses, fills, carry, s)
 }

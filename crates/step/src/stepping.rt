@@ -13,22 +13,22 @@ use crate::{entry, sets};
 use checks::checking;
 use conversion::turning;
 use fills::filling;
-use grid::{Answer, Sides};
+use grid::Sides;
+use grid::refusals::{Answer, Refusal};
 use lattice::Settings;
-use passes::passing::Passed;
 use passes::{marks, passing};
 use walks::copying;
 
 // Test 8 where something is not fair: test 6's own scan of the second set.
 fn judged(flags2: &[u8], parts2: &[i32], masses2: &[i32], fills2: &[u32], carry2: &[i64]) -> Answer
     requires { Sized (length flags2.now) (lent flags2.now parts2.now masses2.now fills2.now carry2.now) }
-    ensures { result ≡ if_none (suc (length flags2.now)) 8 (bad_rule d3q19 (length flags2.now) (state_of 18 (lent flags2.now parts2.now masses2.now fills2.now carry2.now))) Answer.Done }
+    ensures { result ≡ if_none (suc (length flags2.now)) Refusal.BadNext (bad_rule d3q19 (length flags2.now) (state_of 18 (lent flags2.now parts2.now masses2.now fills2.now carry2.now))) (Ok tt) }
 {
     let d = checking::first_bad(flags2, parts2, masses2, fills2, carry2[0]);
     if d <= flags2.len() {
-        return Answer::Refused(8, d);
+        return Err(Refusal::BadNext(d));
     }
-    Answer::Done
+    Ok(())
 }
 
 // Stage 7, and test 8 by what the passes found fair.
@@ -57,7 +57,7 @@ fn finished(
     );
     let b = filling::new_fills(flags2, parts2, masses2, fills2);
     if fair & a & b {
-        return Answer::Done;
+        return Ok(());
     }
     judged(flags2, parts2, masses2, fills2, carry2)
 }
@@ -86,10 +86,10 @@ fn tried(
         flags, parts, masses, fills, flags2, parts2, masses2, marks, s, g,
     );
     match a {
-        Passed::Stopped(c) => Answer::Refused(7, c),
-        Passed::Through(fair, calm) => finished(
+        Err(c) => Err(Refusal::BadFlow(c)),
+        Ok(found) => finished(
             flags, parts, masses, fills, carry, flags2, parts2, masses2, fills2, carry2, marks,
-            fair, calm, s, g,
+            found.fair, found.calm, s, g,
         ),
     }
 }
@@ -116,14 +116,14 @@ pub fn resumed(
     let a = tried(
         flags, parts, masses, fills, carry, flags2, parts2, masses2, fills2, carry2, marks, s, g,
     );
-    if let Answer::Refused(no, at) = a {
+    if let Err(refusal) = a {
         sets::copied(
             flags, parts, masses, fills, carry, flags2, parts2, masses2, fills2, carry2,
         );
         copying::clear(marks);
-        return Answer::Refused(no, at);
+        return Err(refusal);
     }
-    Answer::Done
+    Ok(())
 }
 
 // The step of a set that is ready. Nothing is known of the second set, so every cell of it may hold water.
@@ -169,12 +169,9 @@ pub fn step(
 ) -> Answer
     ensures { Stepped s g (lent flags.now parts.now masses.now fills.now carry.now) (lent flags2.old parts2.old masses2.old fills2.old carry2.old) marks.old result (lent flags2.new parts2.new masses2.new fills2.new carry2.new) marks.new }
 {
-    let a = entry::entered(
+    entry::entered(
         flags, parts, masses, fills, carry, flags2, parts2, masses2, fills2, carry2, marks, s, g,
-    );
-    if let Answer::Refused(no, at) = a {
-        return Answer::Refused(no, at);
-    }
+    )?;
     advanced(
         flags, parts, masses, fills, carry, flags2, parts2, masses2, fills2, carry2, marks, s, g,
     )

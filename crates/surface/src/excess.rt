@@ -34,10 +34,8 @@ pub fn total(w: [i64; 19]) -> i64
     ensures { result ≡ dirs 18 (parts_of w) }
 {
     let mut t: i64 = 0;
-    let mut i = 1;
-    while i < 19 {
+    for i in 1..19 {
         t += w[i];
-        i += 1;
     }
     t
 }
@@ -46,12 +44,10 @@ pub fn total(w: [i64; 19]) -> i64
 fn first(w: [i64; 19]) -> usize
     ensures { result ≡ lowest_dir 18 (parts_of w) }
 {
-    let mut i = 1;
-    while i < 19 {
+    for i in 1..19 {
         if w[i] > 0 {
             return i;
         }
-        i += 1;
     }
     19
 }
@@ -68,10 +64,8 @@ fn remainder(e: i64, w: [i64; 19], t: i64) -> i64
     ensures { (result ≡ remainder 18 e (parts_of w)) × Within result 100000000000000000 }
 {
     let mut r = e;
-    let mut i = 1;
-    while i < 19 {
+    for i in 1..19 {
         r -= cut_share(e, w[i], t);
-        i += 1;
     }
     r
 }

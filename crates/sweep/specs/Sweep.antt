@@ -3,14 +3,13 @@ use Rattle.std.specs.Prelude.{◌≡◌, Bool, true, false, List, [], ◌∷◌,
 use Rattle.grid.specs.declared.Sides.{Sides}
 use Rattle.grid.specs.Grid.{cells_of}
 use Rattle.grid.specs.State.{Lent}
-use Rattle.index.specs.declared.Next.TheVariants as next
 use Rattle.index.specs.Index.{words_of, interface, is_set, how_many, surface_cells}
-use Rattle.index.specs.Outcome.{next_answer}
+use Rattle.index.specs.Outcome.{found_at, none_left, next_answer}
 
 -- from a start: the cells found, each next question from the cell after the last found, until there is none; and the words read in all
 pub data Sweep (s : Sides) (words : List ℕ) : ℕ → List ℕ → ℕ → Type 0 where
-  over : {start read : ℕ} → next_answer s words start ≡ next.Nothing read → Sweep s words start [] read
-  found : {start cell read more : ℕ} {cells : List ℕ} → next_answer s words start ≡ next.Found cell read → Sweep s words (suc cell) cells more → Sweep s words start (cell ∷ cells) (read + more)
+  over : {start read : ℕ} → next_answer s words start ≡ none_left read → Sweep s words start [] read
+  found : {start cell read more : ℕ} {cells : List ℕ} → next_answer s words start ≡ found_at cell read → Sweep s words (suc cell) cells more → Sweep s words start (cell ∷ cells) (read + more)
 
 -- those of the n numbers from i on that pass, in rising order
 unfoldable pub list_from : ℕ → ℕ → (ℕ → Bool) → List ℕ

@@ -2,82 +2,84 @@
 ghost use Rattle.std.specs.Prelude.{◌≡◌};
 ghost use Rattle.index.specs.Outcome.{count_number, count_place, count_cells, next_number, next_place, next_kind, next_cell, next_words};
 
-use index::{Counted, Next};
+use grid::refusals::Refusal;
+use index::Next;
 
-pub fn count_number(a: Counted) -> u8
+pub fn count_number(a: Result<usize, Refusal>) -> u8
     ensures { result ≡ count_number a }
 {
     match a {
-        Counted::Cells(_) => 0,
-        Counted::Refused(number, _) => number,
+        Ok(_) => 0,
+        Err(refusal) => refusal.number(),
     }
 }
 
-pub fn count_place(a: Counted) -> usize
+pub fn count_place(a: Result<usize, Refusal>) -> usize
     ensures { result ≡ count_place a }
 {
     match a {
-        Counted::Cells(_) => 0,
-        Counted::Refused(_, place) => place,
+        Ok(_) => 0,
+        Err(refusal) => refusal.place(),
     }
 }
 
-pub fn count_cells(a: Counted) -> usize
+pub fn count_cells(a: Result<usize, Refusal>) -> usize
     ensures { result ≡ count_cells a }
 {
     match a {
-        Counted::Cells(cells) => cells,
-        Counted::Refused(_, _) => 0,
+        Ok(cells) => cells,
+        Err(_) => 0,
     }
 }
 
-pub fn next_number(a: Next) -> u8
+pub fn next_number(a: Result<Next, Refusal>) -> u8
     ensures { result ≡ next_number a }
 {
     match a {
-        Next::Found(_, _) => 0,
-        Next::Nothing(_) => 0,
-        Next::Refused(number, _) => number,
+        Ok(_) => 0,
+        Err(refusal) => refusal.number(),
     }
 }
 
-pub fn next_place(a: Next) -> usize
+pub fn next_place(a: Result<Next, Refusal>) -> usize
     ensures { result ≡ next_place a }
 {
     match a {
-        Next::Found(_, _) => 0,
-        Next::Nothing(_) => 0,
-        Next::Refused(_, place) => place,
+        Ok(_) => 0,
+        Err(refusal) => refusal.place(),
     }
 }
 
 // 1 found, 2 none.
-pub fn next_kind(a: Next) -> u8
+pub fn next_kind(a: Result<Next, Refusal>) -> u8
     ensures { result ≡ next_kind a }
 {
     match a {
-        Next::Found(_, _) => 1,
-        Next::Nothing(_) => 2,
-        Next::Refused(_, _) => 0,
+        Ok(seen) => match seen.cell {
+            Some(_) => 1,
+            None => 2,
+        },
+        Err(_) => 0,
     }
 }
 
-pub fn next_cell(a: Next) -> usize
+pub fn next_cell(a: Result<Next, Refusal>) -> usize
     ensures { result ≡ next_cell a }
 {
     match a {
-        Next::Found(cell, _) => cell,
-        Next::Nothing(_) => 0,
-        Next::Refused(_, _) => 0,
+        Ok(seen) => match seen.cell {
+            Some(cell) => cell,
+            None => 0,
+        },
+        Err(_) => 0,
     }
 }
 
-pub fn next_words(a: Next) -> usize
+pub fn next_words(a: Result<Next, Refusal>) -> usize
     ensures { result ≡ next_words a }
 {
     match a {
-        Next::Found(_, words) => words,
-        Next::Nothing(words) => words,
-        Next::Refused(_, _) => 0,
+        Ok(seen) => seen.words,
+        Err(_) => 0,
     }
 }

@@ -2,31 +2,31 @@
 ghost use Rattle.std.specs.Prelude.{◌≡◌};
 ghost use Rattle.pools.specs.Outcome.{told_number, told_place, told_pools};
 
-use pools::Told;
+use grid::refusals::Refusal;
 
-pub fn number(a: Told) -> u8
+pub fn number(a: Result<usize, Refusal>) -> u8
     ensures { result ≡ told_number a }
 {
     match a {
-        Told::Pools(_) => 0,
-        Told::Refused(number, _) => number,
+        Ok(_) => 0,
+        Err(refusal) => refusal.number(),
     }
 }
 
-pub fn place(a: Told) -> usize
+pub fn place(a: Result<usize, Refusal>) -> usize
     ensures { result ≡ told_place a }
 {
     match a {
-        Told::Pools(_) => 0,
-        Told::Refused(_, place) => place,
+        Ok(_) => 0,
+        Err(refusal) => refusal.place(),
     }
 }
 
-pub fn pools(a: Told) -> usize
+pub fn pools(a: Result<usize, Refusal>) -> usize
     ensures { result ≡ told_pools a }
 {
     match a {
-        Told::Pools(pools) => pools,
-        Told::Refused(_, _) => 0,
+        Ok(pools) => pools,
+        Err(_) => 0,
     }
 }

@@ -4,8 +4,9 @@ ghost use Rattle.grid.specs.State.{lent};
 ghost use Rattle.pools.specs.Outcome.{room, tested, Asked};
 
 use crate::listing;
-use grid::{Answer, Sides, extent};
-use pools::{Told, flood};
+use grid::refusals::{Answer, Refusal};
+use grid::{Sides, extent};
+use pools::flood;
 use pumps::entry;
 
 // Tests 1, 2, 4, 5 and 6 of what is lent.
@@ -24,7 +25,7 @@ fn entered(
     ensures { result ≡ tested s (lent flags.now parts.now masses.now fills.now carry.now) (room marks.now work.now counts.now waters.now) }
 {
     if !extent::good_sides(s) {
-        return Answer::Refused(1, 0);
+        return Err(Refusal::BadSides);
     }
     let n = extent::cells(s);
     let set = entry::three_lengths(
@@ -36,7 +37,7 @@ fn entered(
         n,
     );
     if !(set & (marks.len() == n) & (work.len() == n) & (counts.len() == waters.len())) {
-        return Answer::Refused(2, 0);
+        return Err(Refusal::BadLength);
     }
     entry::checked(flags, parts, masses, fills, carry, s)
 }
@@ -45,11 +46,7 @@ fn entered(
 fn clear(work: &mut [u32])
     ensures { work.new ≡ replicate (length work.old) 0 }
 {
-    let mut i = 0;
-    while i < work.len() {
-        work[i] = 0;
-        i += 1;
-    }
+    work.fill(0);
 }
 
 // The pools of a lent set: each cell's mark, each pool's cells and water in the order of the lowest cells, and their number.
@@ -64,21 +61,18 @@ pub fn pools(
     counts: &mut [u32],
     waters: &mut [i64],
     s: Sides,
-) -> Told
+) -> Result<usize, Refusal>
     ensures { Asked s (lent flags.now parts.now masses.now fills.now carry.now) (room marks.old work.old counts.old waters.old) result (room marks.new work.new counts.new waters.new) }
 {
-    let a = entered(
+    entered(
         flags, parts, masses, fills, carry, marks, work, counts, waters, s,
-    );
-    if let Answer::Refused(no, at) = a {
-        return Told::Refused(no, at);
-    }
+    )?;
     let n = flood::flood(flags, marks, work, s);
     clear(work);
     if counts.len() < n {
         flood::clear(marks);
-        return Told::Refused(21, n);
+        return Err(Refusal::BadPools(n));
     }
     listing::tally(marks, masses, counts, waters, n);
-    Told::Pools(n)
+    Ok(n)
 }

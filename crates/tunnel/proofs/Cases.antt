@@ -1,38 +1,28 @@
--- The cases of the code's depth: each is its reading, and what is told of a depth tells its case. Assumes nothing.
-use mathlib.Core.Path.{◌≡◌, refl}
-use Prim.Native.Nat.{ℕ, zero, suc}
-use lib.Ieee.{Float}
+-- The cases of the code's depth: what is told of it in numbers, and the answer itself, are those of the reading that it stands for. Assumes nothing.
+use Rattle.std.specs.Prelude.{◌≡◌, Result, Ok, Err, Float}
+use Rattle.std.proofs.Common.{refl}
+use Rattle.grid.specs.declared.refusals.Refusal.{Refusal}
 use Rattle.tunnel.specs.declared.Depth.{Depth}
-use Rattle.tunnel.specs.declared.Depth.TheVariants.{Refused, Solid, Dry, Deep}
-use Rattle.tunnel.specs.Exact.{Exactly}
-use Rattle.tunnel.specs.Depth.{refused, solid, dry, deep, Told, told_of, DepthIs}
+use Rattle.tunnel.specs.declared.Depth.TheVariants.{Solid, Dry, Deep}
+use Rattle.tunnel.specs.Depth.{Reading, solid, dry, deep, DepthIs, is-refused, is-solid, is-dry, is-deep, told_of, Tells}
 use Rattle.tunnel.proofs.Floats.{zero-exact}
 
--- ---- each case
-pub is-refused : {number place : ℕ} → DepthIs (Refused number place) (refused number place)
-is-refused = record { told = record { number_is = refl; place_is = refl; kind-is = refl; value-is = zero-exact 65536 } }
+-- its numbers
+pub tells : {a : Result Depth Refusal} {w : Reading} → DepthIs a w → Tells (told_of a) w
+tells is-refused = record { number_is = refl; place_is = refl; kind-is = refl; value-is = zero-exact 65536 }
+tells is-solid = record { number_is = refl; place_is = refl; kind-is = refl; value-is = zero-exact 65536 }
+tells is-dry = record { number_is = refl; place_is = refl; kind-is = refl; value-is = zero-exact 65536 }
+tells (is-deep h) = record { number_is = refl; place_is = refl; kind-is = refl; value-is = h }
 
-pub is-solid : DepthIs Solid solid
-is-solid = record { told = record { number_is = refl; place_is = refl; kind-is = refl; value-is = zero-exact 65536 } }
+-- the answer, by the reading and the `f32` that is told
+abbrev pub answer_of : Reading → Float → Result Depth Refusal
+answer_of (Ok solid) value = Ok Solid
+answer_of (Ok dry) value = Ok Dry
+answer_of (Ok (deep sum)) value = Ok (Deep value)
+answer_of (Err refusal) value = Err refusal
 
-pub is-dry : DepthIs Dry dry
-is-dry = record { told = record { number_is = refl; place_is = refl; kind-is = refl; value-is = zero-exact 65536 } }
-
-pub is-deep : {depth : Float} {sum : ℕ} → Exactly depth sum 65536 → DepthIs (Deep depth) (deep sum)
-is-deep h = record { told = record { number_is = refl; place_is = refl; kind-is = refl; value-is = h } }
-
--- ---- and back
-abbrev by_kind : ℕ → Told → Depth
-by_kind zero t = Refused t.number t.place
-by_kind (suc zero) t = Solid
-by_kind (suc (suc zero)) t = Dry
-by_kind (suc (suc (suc k))) t = Deep t.value
-
-abbrev pub case_of : Told → Depth
-case_of t = by_kind t.kind t
-
-pub told_back : (a : Depth) → case_of (told_of a) ≡ a
-told_back (Refused number place) = refl
-told_back Solid = refl
-told_back Dry = refl
-told_back (Deep depth) = refl
+pub answer-is : {a : Result Depth Refusal} {w : Reading} → DepthIs a w → a ≡ answer_of w (told_of a).value
+answer-is is-refused = refl
+answer-is is-solid = refl
+answer-is is-dry = refl
+answer-is (is-deep h) = refl

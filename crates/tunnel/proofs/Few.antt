@@ -10,23 +10,25 @@ use lib.ListN.{length}
 use Rattle.whole.specs.Fold.{first, all, total}
 use Rattle.whole.specs.laws.Sums.{total-le}
 use Rattle.grid.specs.declared.Sides.{Sides}
-use Rattle.grid.specs.Grid.{sides_good, cells_of, cell_at}
+use Rattle.grid.specs.Grid.{sides_good, cells_of}
 use Rattle.grid.proofs.GoodSides.{good-sides}
 use Rattle.tunnel.specs.Refusal.{or_else}
-use Rattle.tunnel.specs.Depth.{Reading, refused, solid, dry, deep, flag_bad, fill_bad, is_wall, open_fill, reading_of, measured_of, depth_of}
+use Rattle.std.specs.Prelude.{Ok, Err}
+use Rattle.grid.specs.declared.refusals.Refusal.{Refusal}
+use Rattle.tunnel.specs.Depth.{Reading, reading_sum, solid, dry, deep, flag_bad, fill_bad, is_wall, open_fill, reading_of, measured_of, depth_of}
 use Rattle.tunnel.proofs.Columns.{open-le}
 
 abbrev Few : Reading → Type 0
-Few w = w.sum < 16777216
+Few w = reading_sum w < 16777216
 
-few-sum : (walls none : Bool) (n : ℕ) → n < 16777216 → Few (cond walls solid (cond none dry (deep n)))
+few-sum : (walls none : Bool) (n : ℕ) → n < 16777216 → Few (Ok (cond walls solid (cond none dry (deep n))))
 few-sum true none n h = omega arith
 few-sum false true n h = omega arith
 few-sum false false n h = h
 
-few-or : (t : Bool) (number place : ℕ) (w : Reading) → (t ≡ true → Few w) → Few (or_else t (refused number place) w)
-few-or true number place w f = f refl
-few-or false number place w f = omega arith
+few-or : (t : Bool) (refusal : Refusal) (w : Reading) → (t ≡ true → Few w) → Few (or_else t (Err refusal) w)
+few-or true refusal w f = f refl
+few-or false refusal w f = omega arith
 
 few-total : (s : Sides) (flags fills : List ℕ) (x y : ℕ) → sides_good s ≡ true → s.nz ≤ first s.nz (fill_bad s fills x y)
     → total s.nz (open_fill s flags fills x y) < 16777216
@@ -40,14 +42,14 @@ unfolding measured_of reading_of
 few-measured s flags fills x y g =
     let f = first s.nz (flag_bad s flags x y) in
     let b = first s.nz (fill_bad s fills x y) in
-    few-or (leb s.nz f) 4 (cell_at s.nx s.ny x y f) _
-    (λ p. few-or (leb s.nz b) 6 (cell_at s.nx s.ny x y b) _
+    few-or (leb s.nz f) _ _
+    (λ p. few-or (leb s.nz b) _ _
     (λ q. few-sum (all s.nz (is_wall s flags x y)) (eqb (total s.nz (open_fill s flags fills x y)) 0)
     (total s.nz (open_fill s flags fills x y)) (few-total s flags fills x y g (leb-true s.nz b q))))
 
-pub few-depth : (s : Sides) (flags fills : List ℕ) (x y : ℕ) → (depth_of s flags fills x y).sum < 16777216
+pub few-depth : (s : Sides) (flags fills : List ℕ) (x y : ℕ) → reading_sum (depth_of s flags fills x y) < 16777216
 unfolding depth_of
 few-depth s flags fills x y =
-    few-or (sides_good s) 1 0 _
-    (λ g. few-or (eqb (length flags) (cells_of s) && eqb (length fills) (cells_of s)) 2 0 _
-    (λ p. few-or (ltb x s.nx && ltb y s.ny) 13 0 _ (λ q. few-measured s flags fills x y g)))
+    few-or (sides_good s) _ _
+    (λ g. few-or (eqb (length flags) (cells_of s) && eqb (length fills) (cells_of s)) _ _
+    (λ p. few-or (ltb x s.nx && ltb y s.ny) _ _ (λ q. few-measured s flags fills x y g)))

@@ -47,7 +47,7 @@ axis-between point origin edge side q p h e = between (point -ℤ origin) edge s
 
 -- ---- the centre of cell (x, y, z)
 pub centre-at : (s : Sides) (x y z fill : ℕ) → x < s.nx → y < s.ny
-    → centre_of s (cell_at s.nx s.ny x y z) fill ≡ record { number = 0; place = 0; x = 2 * x + 1; y = 2 * y + 1; z = 2 * z + 1; fill = fill }
+    → centre_of s (cell_at s.nx s.ny x y z) fill ≡ record { x = 2 * x + 1; y = 2 * y + 1; z = 2 * z + 1; fill = fill }
 centre-at s x y z fill hx hy =
     let nx = s.nx in
     let ny = s.ny in
@@ -61,4 +61,4 @@ centre-at s x y z fill hx hy =
     ∙ add-mul-div_left y z (omega arith)
     ∙ ap (λ (n : ℕ). n + z) (div-eq_of_lt hy)
     ∙ zero-add z in
-    λ i. record { number = 0; place = 0; x = 2 * ex i + 1; y = 2 * ey i + 1; z = 2 * ez i + 1; fill = fill }
+    λ i. record { x = 2 * ex i + 1; y = 2 * ey i + 1; z = 2 * ez i + 1; fill = fill }

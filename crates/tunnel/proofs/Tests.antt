@@ -13,23 +13,23 @@ use Rattle.whole.specs.Fold.{first, all, total}
 use Rattle.grid.specs.declared.Sides.{Sides}
 use Rattle.grid.specs.Grid.{sides_good, cells_of, cell_at}
 use Rattle.tunnel.specs.declared.Point.{Point}
-use Rattle.tunnel.specs.declared.Placed.{Placed}
-use Rattle.tunnel.specs.declared.Placed.TheVariants.{Refused, Cell}
 use Rattle.tunnel.specs.Refusal.{or_else}
 use Rattle.lattice.specs.Cell.{edge_good}
-use Rattle.tunnel.specs.Place.{point_good, axis_of, found_of, placing_of, refusal_number}
-use Rattle.tunnel.specs.Depth.{Reading, refused, solid, dry, deep, flag_bad, fill_bad, is_wall, open_fill, reading_of, measured_of, depth_of}
+use Rattle.tunnel.specs.Place.{Placed, placed_number, point_good, axis_of, found_of, placing_of}
+use Rattle.tunnel.specs.Depth.{Reading, reading_number, solid, dry, deep, flag_bad, fill_bad, is_wall, open_fill, reading_of, measured_of, depth_of}
+use Rattle.grid.specs.declared.refusals.Refusal.TheVariants.{BadSides, BadLength, BadSetting, BadFlag, BadState, Outside}
+use Rattle.std.specs.Prelude.{Ok, Err}
 
 -- ---- depth
 
 -- what a column that passed its tests shows
 pub data Reads : Reading → Type 0 where
-  reads-solid : Reads solid
-  reads-dry : Reads dry
-  reads-deep : {n : ℕ} → 0 < n → Reads (deep n)
+  reads-solid : Reads (Ok solid)
+  reads-dry : Reads (Ok dry)
+  reads-deep : {n : ℕ} → 0 < n → Reads (Ok (deep n))
 
-shape-reads : (a b w t : Bool) (p q n : ℕ) → eqb n 0 ≡ t → (let r = or_else a (refused 4 p) (or_else b (refused 6 q) (cond w solid (cond t dry (deep n)))) in
-    (eqb r.number 4 || eqb r.number 6) ≡ false → Reads r)
+shape-reads : (a b w t : Bool) (p q n : ℕ) → eqb n 0 ≡ t → (let r = or_else a (Err (BadFlag p)) (or_else b (Err (BadState q)) (Ok (cond w solid (cond t dry (deep n))))) in
+    (eqb (reading_number r) 4 || eqb (reading_number r) 6) ≡ false → Reads r)
 shape-reads false b w t p q n z e = absurd (false≢true (sym e))
 shape-reads true false w t p q n z e = absurd (false≢true (sym e))
 shape-reads true true true t p q n z e = reads-solid
@@ -40,7 +40,7 @@ shape-reads true true false false p q n z e = reads-deep (pos_of n (eqb-false n 
     pos_of n h = omega (arith, h)
 
 shape-number : (a b w t : Bool) (p q n k : ℕ) → eqb 4 k ≡ false → eqb 6 k ≡ false → eqb 0 k ≡ false
-    → eqb (or_else a (refused 4 p) (or_else b (refused 6 q) (cond w solid (cond t dry (deep n))))).number k ≡ false
+    → eqb (reading_number (or_else a (Err (BadFlag p)) (or_else b (Err (BadState q)) (Ok (cond w solid (cond t dry (deep n))))))) k ≡ false
 shape-number false b w t p q n k x y z = x
 shape-number true false w t p q n k x y z = y
 shape-number true true true t p q n k x y z = z
@@ -48,7 +48,7 @@ shape-number true true false true p q n k x y z = z
 shape-number true true false false p q n k x y z = z
 
 module _ (s : Sides) (flags fills : List ℕ) (x y : ℕ) where
-  pub measured-reads : (eqb (measured_of s flags fills x y).number 4 || eqb (measured_of s flags fills x y).number 6) ≡ false → Reads (measured_of s flags fills x y)
+  pub measured-reads : (eqb (reading_number (measured_of s flags fills x y)) 4 || eqb (reading_number (measured_of s flags fills x y)) 6) ≡ false → Reads (measured_of s flags fills x y)
   unfolding measured_of reading_of
   measured-reads e =
       let f = first s.nz (flag_bad s flags x y) in
@@ -56,7 +56,7 @@ module _ (s : Sides) (flags fills : List ℕ) (x y : ℕ) where
       let n = total s.nz (open_fill s flags fills x y) in
       shape-reads (leb s.nz f) (leb s.nz g) (all s.nz (is_wall s flags x y)) (eqb n 0) (cell_at s.nx s.ny x y f) (cell_at s.nx s.ny x y g) n refl e
 
-  measured-number : (k : ℕ) → eqb 4 k ≡ false → eqb 6 k ≡ false → eqb 0 k ≡ false → eqb (measured_of s flags fills x y).number k ≡ false
+  measured-number : (k : ℕ) → eqb 4 k ≡ false → eqb 6 k ≡ false → eqb 0 k ≡ false → eqb (reading_number (measured_of s flags fills x y)) k ≡ false
   unfolding measured_of reading_of
   measured-number k a b d =
       let f = first s.nz (flag_bad s flags x y) in
@@ -74,31 +74,31 @@ module _ (s : Sides) (flags fills : List ℕ) (x y : ℕ) where
 
 module _ (s : Sides) (flags fills : List ℕ) where
   abbrev inner : Reading
-  inner = or_else (ltb 0 s.nx && ltb 0 s.ny) (refused 13 0) (measured_of s flags fills 0 0)
+  inner = or_else (ltb 0 s.nx && ltb 0 s.ny) (Err Outside) (measured_of s flags fills 0 0)
 
-  inner-number : (k : ℕ) → eqb 4 k ≡ false → eqb 6 k ≡ false → eqb 0 k ≡ false → eqb 13 k ≡ false → eqb inner.number k ≡ false
+  inner-number : (k : ℕ) → eqb 4 k ≡ false → eqb 6 k ≡ false → eqb 0 k ≡ false → eqb 13 k ≡ false → eqb (reading_number inner) k ≡ false
   inner-number k a b d e = go (ltb 0 s.nx && ltb 0 s.ny)
     where
-      go : (t : Bool) → eqb (or_else t (refused 13 0) (measured_of s flags fills 0 0)).number k ≡ false
+      go : (t : Bool) → eqb (reading_number (or_else t (Err Outside) (measured_of s flags fills 0 0))) k ≡ false
       go true = measured-number s flags fills 0 0 k a b d
       go false = e
 
   -- 1 exactly for bad sides
-  pub one-means : eqb (depth_of s flags fills 0 0).number 1 ≡ not (sides_good s)
+  pub one-means : eqb (reading_number (depth_of s flags fills 0 0)) 1 ≡ not (sides_good s)
   unfolding depth_of
   one-means = go (sides_good s) (lengths s flags fills 0 0)
     where
-      go : (a b : Bool) → eqb (or_else a (refused 1 0) (or_else b (refused 2 0) inner)).number 1 ≡ not a
+      go : (a b : Bool) → eqb (reading_number (or_else a (Err BadSides) (or_else b (Err BadLength) inner))) 1 ≡ not a
       go true true = inner-number 1 refl refl refl refl
       go true false = refl
       go false b = refl
 
   -- then 2 exactly for wrong lengths
-  pub two-means : sides_good s ≡ true → eqb (depth_of s flags fills 0 0).number 2 ≡ not (lengths s flags fills 0 0)
+  pub two-means : sides_good s ≡ true → eqb (reading_number (depth_of s flags fills 0 0)) 2 ≡ not (lengths s flags fills 0 0)
   unfolding depth_of
   two-means g = go (sides_good s) (lengths s flags fills 0 0) g
     where
-      go : (a b : Bool) → a ≡ true → eqb (or_else a (refused 1 0) (or_else b (refused 2 0) inner)).number 2 ≡ not b
+      go : (a b : Bool) → a ≡ true → eqb (reading_number (or_else a (Err BadSides) (or_else b (Err BadLength) inner))) 2 ≡ not b
       go true true e = inner-number 2 refl refl refl refl
       go true false e = refl
       go false b e = absurd (false≢true e)
@@ -107,16 +107,16 @@ module _ (s : Sides) (flags fills : List ℕ) where
 
 -- a point in range is in a cell or outside
 pub data Finds : Placed → Type 0 where
-  finds-none : Finds (Refused 13 0)
-  finds-cell : (c : ℕ) → Finds (Cell c)
+  finds-none : Finds (Err Outside)
+  finds-cell : (c : ℕ) → Finds (Ok c)
 
-shape-finds : (a b d : Bool) (c : ℕ) → a ≡ true → (let r = or_else a (Refused 1 0) (or_else b (Refused 3 0) (or_else d (Refused 13 0) (Cell c))) in eqb (refusal_number r) 3 ≡ false → Finds r)
+shape-finds : (a b d : Bool) (c : ℕ) → a ≡ true → (let r = or_else a (Err BadSides) (or_else b (Err (BadSetting 0)) (or_else d (Err Outside) (Ok c))) in eqb (placed_number r) 3 ≡ false → Finds r)
 shape-finds false b d c g e = absurd (false≢true g)
 shape-finds true false d c g e = absurd (false≢true (sym e))
 shape-finds true true false c g e = finds-none
 shape-finds true true true c g e = finds-cell c
 
-pub place-finds : (s : Sides) (edge : ℤ) (origin point : Point) → sides_good s ≡ true → eqb (refusal_number (placing_of s edge origin point)) 3 ≡ false → Finds (placing_of s edge origin point)
+pub place-finds : (s : Sides) (edge : ℤ) (origin point : Point) → sides_good s ≡ true → eqb (placed_number (placing_of s edge origin point)) 3 ≡ false → Finds (placing_of s edge origin point)
 unfolding placing_of found_of
 place-finds s edge origin point g e =
     let x = axis_of point.x origin.x (nat_abs edge) s.nx in
@@ -124,7 +124,7 @@ place-finds s edge origin point g e =
     let z = axis_of point.z origin.z (nat_abs edge) s.nz in
     shape-finds (sides_good s) (edge_good edge && point_good origin && point_good point) (ltb x s.nx && ltb y s.ny && ltb z s.nz) (cell_at s.nx s.ny x y z) g e
 
-shape-three : (a b d : Bool) (c : ℕ) → a ≡ true → eqb (refusal_number (or_else a (Refused 1 0) (or_else b (Refused 3 0) (or_else d (Refused 13 0) (Cell c))))) 3 ≡ not b
+shape-three : (a b d : Bool) (c : ℕ) → a ≡ true → eqb (placed_number (or_else a (Err BadSides) (or_else b (Err (BadSetting 0)) (or_else d (Err Outside) (Ok c))))) 3 ≡ not b
 shape-three false b d c g = absurd (false≢true g)
 shape-three true false d c g = refl
 shape-three true true false c g = refl
@@ -132,7 +132,7 @@ shape-three true true true c g = refl
 
 -- 3 exactly for an edge, an origin or a point out of range; of the origin itself: for edge or origin
 pub three-means : (s : Sides) (edge : ℤ) (origin point : Point) → sides_good s ≡ true
-    → eqb (refusal_number (placing_of s edge origin point)) 3 ≡ not (edge_good edge && point_good origin && point_good point)
+    → eqb (placed_number (placing_of s edge origin point)) 3 ≡ not (edge_good edge && point_good origin && point_good point)
 unfolding placing_of found_of
 three-means s edge origin point g =
     let x = axis_of point.x origin.x (nat_abs edge) s.nx in
@@ -146,5 +146,5 @@ twice true false = refl
 twice false b = refl
 
 pub origin-means : (s : Sides) (edge : ℤ) (origin : Point) → sides_good s ≡ true
-    → eqb (refusal_number (placing_of s edge origin origin)) 3 ≡ not (edge_good edge && point_good origin)
+    → eqb (placed_number (placing_of s edge origin origin)) 3 ≡ not (edge_good edge && point_good origin)
 origin-means s edge origin g = three-means s edge origin origin g ∙ ap not (twice (edge_good edge) (point_good origin))

@@ -1,33 +1,48 @@
 -- Depth of a column: what it answers for every input, in document 01's numbers. Assumes nothing.
-use Rattle.std.specs.Prelude.{◌≡◌, Bool, false, ◌&&◌, cond, List, ℕ, eqb, leb, ltb, pos, Float, length, get_or}
+use Rattle.std.specs.Prelude.{◌≡◌, Bool, false, ◌&&◌, cond, List, ℕ, eqb, leb, ltb, pos, Float, length, get_or, Result, Ok, Err}
 use Rattle.std.specs.Float.{fin}
 use Rattle.whole.specs.Fold.{first, all, total}
 use Rattle.grid.specs.declared.Sides.{Sides}
 use Rattle.grid.specs.Grid.{sides_good, cells_of, cell_at}
+use Rattle.grid.specs.Answer.{refusal_number, refusal_place}
+use Rattle.grid.specs.declared.refusals.Refusal.{Refusal}
+use Rattle.grid.specs.declared.refusals.Refusal.TheVariants.{BadSides, BadLength, BadFlag, BadState, Outside}
 use Rattle.tunnel.specs.declared.Depth.{Depth}
-use Rattle.tunnel.specs.declared.Depth.TheVariants.{Refused, Solid, Dry, Deep}
+use Rattle.tunnel.specs.declared.Depth.TheVariants.{Solid, Dry, Deep}
 use Rattle.tunnel.specs.Refusal.{or_else}
 use Rattle.tunnel.specs.Exact.{Exactly}
 
--- a depth in whole numbers: number and place of the refusal, 0 0 if accepted; the kind, 0 refused, 1 solid, 2 dry, 3 deep; and the depth in 65,536ths
--- of a cell, 0 unless deep
-pub record Reading : Type 0 where
-  pub number : ℕ
-  pub place : ℕ
-  pub kind : ℕ
-  pub sum : ℕ
+-- what a column shows: solid, dry, or deep, and then its depth in 65,536ths of a cell
+pub data Shown : Type 0 where
+  solid : Shown
+  dry : Shown
+  deep : ℕ → Shown
 
-abbrev pub refused : ℕ → ℕ → Reading
-refused number place = record { number = number; place = place; kind = 0; sum = 0 }
+-- a depth in whole numbers: what the column shows, or the refusal
+abbrev pub Reading : Type 0
+Reading = Result Shown Refusal
 
-abbrev pub solid : Reading
-solid = record { number = 0; place = 0; kind = 1; sum = 0 }
+-- the paper's number and place for each case, 0 0 if accepted; the kind, 0 refused, 1 solid, 2 dry, 3 deep; and the depth in 65,536ths of a cell, 0
+-- unless deep
+abbrev pub reading_number : Reading → ℕ
+reading_number (Ok shown) = 0
+reading_number (Err refusal) = refusal_number refusal
 
-abbrev pub dry : Reading
-dry = record { number = 0; place = 0; kind = 2; sum = 0 }
+abbrev pub reading_place : Reading → ℕ
+reading_place (Ok shown) = 0
+reading_place (Err refusal) = refusal_place refusal
 
-abbrev pub deep : ℕ → Reading
-deep sum = record { number = 0; place = 0; kind = 3; sum = sum }
+abbrev pub reading_kind : Reading → ℕ
+reading_kind (Ok solid) = 1
+reading_kind (Ok dry) = 2
+reading_kind (Ok (deep sum)) = 3
+reading_kind (Err refusal) = 0
+
+abbrev pub reading_sum : Reading → ℕ
+reading_sum (Ok solid) = 0
+reading_sum (Ok dry) = 0
+reading_sum (Ok (deep sum)) = sum
+reading_sum (Err refusal) = 0
 
 -- what the column (x, y) has at height z
 abbrev pub column_at : Sides → List ℕ → ℕ → ℕ → ℕ → ℕ
@@ -48,7 +63,7 @@ unfoldable pub open_fill : Sides → List ℕ → List ℕ → ℕ → ℕ → �
 open_fill s flags fills x y z = cond (is_wall s flags x y z) 0 (column_at s fills x y z)
 
 -- solid, if every cell is wall; dry, if the other cells' fills add to 0; else a depth
-unfoldable pub reading_of : Bool → ℕ → Reading
+unfoldable pub reading_of : Bool → ℕ → Shown
 reading_of walls sum = cond walls solid (cond (eqb sum 0) dry (deep sum))
 
 -- in its column flag above 3 (4), fill outside 0..65,536 (6), each at the lowest such cell; then the reading
@@ -56,19 +71,28 @@ unfoldable pub measured_of : Sides → List ℕ → List ℕ → ℕ → ℕ →
 measured_of s flags fills x y =
     let f = first s.nz (flag_bad s flags x y) in
     let g = first s.nz (fill_bad s fills x y) in
-    or_else (leb s.nz f) (refused 4 (cell_at s.nx s.ny x y f))
-    (or_else (leb s.nz g) (refused 6 (cell_at s.nx s.ny x y g))
-    (reading_of (all s.nz (is_wall s flags x y)) (total s.nz (open_fill s flags fills x y))))
+    or_else (leb s.nz f) (Err (BadFlag (cell_at s.nx s.ny x y f)))
+    (or_else (leb s.nz g) (Err (BadState (cell_at s.nx s.ny x y g)))
+    (Ok (reading_of (all s.nz (is_wall s flags x y)) (total s.nz (open_fill s flags fills x y)))))
 
 -- tests 1, 2, 13, then those of the column
 unfoldable pub depth_of : Sides → List ℕ → List ℕ → ℕ → ℕ → Reading
 depth_of s flags fills x y =
-    or_else (sides_good s) (refused 1 0)
-    (or_else (eqb (length flags) (cells_of s) && eqb (length fills) (cells_of s)) (refused 2 0)
-    (or_else (ltb x s.nx && ltb y s.ny) (refused 13 0)
+    or_else (sides_good s) (Err BadSides)
+    (or_else (eqb (length flags) (cells_of s) && eqb (length fills) (cells_of s)) (Err BadLength)
+    (or_else (ltb x s.nx && ltb y s.ny) (Err Outside)
     (measured_of s flags fills x y)))
 
--- ---- the code's enum
+-- ---- what the code answers
+
+-- the same refusal, solid, dry, or an `f32` that is the depth exactly
+pub data DepthIs : Result Depth Refusal → Reading → Type 0 where
+  is-refused : {refusal : Refusal} → DepthIs (Err refusal) (Err refusal)
+  is-solid : DepthIs (Ok Solid) (Ok solid)
+  is-dry : DepthIs (Ok Dry) (Ok dry)
+  is-deep : {depth : Float} {sum : ℕ} → Exactly depth sum 65536 → DepthIs (Ok (Deep depth)) (Ok (deep sum))
+
+-- ---- and in numbers
 
 -- what is told of a depth: number, place and kind as above, and the depth in cells as an `f32`
 pub record Told : Type 0 where
@@ -82,22 +106,18 @@ abbrev pub zero_float : Float
 zero_float = fin false 0 (pos 0)
 
 -- the paper's number, place, kind and value for each case
-abbrev pub told_of : Depth → Told
-told_of (Refused number place) = record { number = number; place = place; kind = 0; value = zero_float }
-told_of Solid = record { number = 0; place = 0; kind = 1; value = zero_float }
-told_of Dry = record { number = 0; place = 0; kind = 2; value = zero_float }
-told_of (Deep depth) = record { number = 0; place = 0; kind = 3; value = depth }
+abbrev pub told_of : Result Depth Refusal → Told
+told_of (Ok Solid) = record { number = 0; place = 0; kind = 1; value = zero_float }
+told_of (Ok Dry) = record { number = 0; place = 0; kind = 2; value = zero_float }
+told_of (Ok (Deep depth)) = record { number = 0; place = 0; kind = 3; value = depth }
+told_of (Err refusal) = record { number = refusal_number refusal; place = refusal_place refusal; kind = 0; value = zero_float }
 
 -- what is told is a reading: number, place and kind are its own, and the `f32` is exact
 pub record Tells (t : Told) (w : Reading) : Type 0 where
-  pub number_is : t.number ≡ w.number
-  pub place_is : t.place ≡ w.place
-  pub kind-is : t.kind ≡ w.kind
-  pub value-is : Exactly t.value w.sum 65536
-
--- what is told of the code's depth is that reading
-pub record DepthIs (a : Depth) (w : Reading) : Type 0 where
-  pub told : Tells (told_of a) w
+  pub number_is : t.number ≡ reading_number w
+  pub place_is : t.place ≡ reading_place w
+  pub kind-is : t.kind ≡ reading_kind w
+  pub value-is : Exactly t.value (reading_sum w) 65536
 
 -- names every definition of this file: whoever unfolds this computes with all of them
 unfoldable pub open-depth : Unit {0}

@@ -1,5 +1,5 @@
 -- When an `f32` is a fraction exactly. Assumes nothing.
-use Rattle.std.specs.Prelude.{false, ℕ, ◌<◌, T, Float}
+use Rattle.std.specs.Prelude.{false, ℕ, T, Float}
 use Rattle.std.specs.Float.{binary32}
 use Rattle.std.specs.Float.Ieee.{fits}
 use Rattle.std.specs.Float.Ieee.Exact.{HasValue}

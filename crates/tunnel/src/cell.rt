@@ -2,12 +2,13 @@
 ghost use Rattle.std.specs.Prelude.{◌≡◌, true, ◌≤◌, ◌<◌};
 ghost use Rattle.grid.specs.Grid.{sides_good, cells_of, cell_at};
 ghost use Rattle.tunnel.specs.inner.Asks.{Inside};
-ghost use Rattle.tunnel.specs.Point.{refused, centre_of, point_of, PointIs};
+ghost use Rattle.tunnel.specs.Point.{centre_of, point_of, CentreIs, PointIs};
 
 use crate::CellPoint;
 use crate::exact::{centre, share};
 use grid::Sides;
 use grid::extent::{cells, good_sides};
+use grid::refusals::Refusal;
 
 // The number of cell (x, y, z).
 pub fn number(s: Sides, x: usize, y: usize, z: usize) -> usize
@@ -17,31 +18,16 @@ pub fn number(s: Sides, x: usize, y: usize, z: usize) -> usize
     x + s.nx * (y + s.ny * z)
 }
 
-fn refusal(number: u8, place: usize) -> CellPoint
-    ensures { PointIs result (refused number place) }
-{
-    CellPoint {
-        number,
-        place,
-        x: 0.0,
-        y: 0.0,
-        z: 0.0,
-        fill: 0.0,
-    }
-}
-
 // The centre of cell c and its fill m.
 fn accepted(s: Sides, c: usize, m: u32) -> CellPoint
     requires s_value { sides_good s ≡ true }
     requires c_bound { c < cells_of s }
     requires m_bound { m ≤ 65536 }
-    ensures { PointIs result (centre_of s c m) }
+    ensures { CentreIs result (centre_of s c m) }
 {
     let nx = s.nx;
     let ny = s.ny;
     CellPoint {
-        number: 0,
-        place: 0,
         x: centre(c % nx),
         y: centre(c / nx % ny),
         z: centre(c / (nx * ny)),
@@ -50,22 +36,22 @@ fn accepted(s: Sides, c: usize, m: u32) -> CellPoint
 }
 
 // The point of cell c of a grid whose fills are lent.
-pub fn cell_point(s: Sides, fills: &[u32], c: usize) -> CellPoint
+pub fn cell_point(s: Sides, fills: &[u32], c: usize) -> Result<CellPoint, Refusal>
     ensures { PointIs result (point_of s fills.now c) }
 {
     if !good_sides(s) {
-        return refusal(1, 0);
+        return Err(Refusal::BadSides);
     }
     let n = cells(s);
     if fills.len() != n {
-        return refusal(2, 0);
+        return Err(Refusal::BadLength);
     }
     if n <= c {
-        return refusal(13, 0);
+        return Err(Refusal::Outside);
     }
     let m = fills[c];
     if 65536 < m {
-        return refusal(6, c);
+        return Err(Refusal::BadState(c));
     }
-    accepted(s, c, m)
+    Ok(accepted(s, c, m))
 }

@@ -8,6 +8,7 @@ use crate::cell::number;
 use crate::{Placed, Point};
 use grid::Sides;
 use grid::extent::good_sides;
+use grid::refusals::Refusal;
 
 fn good_edge(edge: i64) -> bool
     ensures { result ≡ edge_good edge }
@@ -58,15 +59,15 @@ fn found(s: Sides, edge: i64, origin: Point, point: Point) -> Placed
     let y = axis(point.y, origin.y, edge, s.ny);
     let z = axis(point.z, origin.z, edge, s.nz);
     if s.nx <= x {
-        return Placed::Refused(13, 0);
+        return Err(Refusal::Outside);
     }
     if s.ny <= y {
-        return Placed::Refused(13, 0);
+        return Err(Refusal::Outside);
     }
     if s.nz <= z {
-        return Placed::Refused(13, 0);
+        return Err(Refusal::Outside);
     }
-    Placed::Cell(number(s, x, y, z))
+    Ok(number(s, x, y, z))
 }
 
 // The cell that holds a survey point of a grid with this cell edge and origin. No difference is formed before the ranges are tested.
@@ -74,16 +75,16 @@ pub fn place(s: Sides, edge: i64, origin: Point, point: Point) -> Placed
     ensures { result ≡ placing_of s edge origin point }
 {
     if !good_sides(s) {
-        return Placed::Refused(1, 0);
+        return Err(Refusal::BadSides);
     }
     if !good_edge(edge) {
-        return Placed::Refused(3, 0);
+        return Err(Refusal::BadSetting(0));
     }
     if !good_point(origin) {
-        return Placed::Refused(3, 0);
+        return Err(Refusal::BadSetting(0));
     }
     if !good_point(point) {
-        return Placed::Refused(3, 0);
+        return Err(Refusal::BadSetting(0));
     }
     found(s, edge, origin, point)
 }

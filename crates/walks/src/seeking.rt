@@ -11,10 +11,8 @@ fn lacking(flags: &[u8], a: usize, n: usize, kind: u8) -> bool
     ensures { result ≡ all n (λ k. not (eqb (get_or flags.now (a + k) 0) kind)) }
 {
     let mut none = true;
-    let mut k = 0;
-    while k < n {
+    for k in 0..n {
         none = none & (flags[a + k] != kind);
-        k += 1;
     }
     none
 }
@@ -25,6 +23,7 @@ fn past_lacking(flags: &[u8], a: usize, n: usize, kind: u8) -> usize
     ensures { Lacking flags.now a kind result }
 {
     let mut c = a;
+    // n at a time from wherever the last search ended: no range says that.
     while flags.len() - c >= n {
         if !lacking(flags, c, n, kind) {
             return c;
@@ -39,14 +38,12 @@ pub fn next_of(flags: &[u8], a: usize, kind: u8) -> usize
     requires { a ≤ length flags.now }
     ensures { NextOf flags.now a kind result }
 {
-    let mut c = past_lacking(flags, past_lacking(flags, a, 32, kind), 8, kind);
-    while c < flags.len() {
+    for c in past_lacking(flags, past_lacking(flags, a, 32, kind), 8, kind)..flags.len() {
         if flags[c] == kind {
             return c;
         }
-        c += 1;
     }
-    c
+    flags.len()
 }
 
 // Whether none of 32 cells from a on is marked. By no way out, so that they are looked at together.
@@ -55,10 +52,8 @@ fn quiet(marks: &[u8], a: usize) -> bool
     ensures { result ≡ all 32 (λ k. eqb (get_or marks.now (a + k) 0) 0) }
 {
     let mut none = true;
-    let mut k = 0;
-    while k < 32 {
+    for k in 0..32 {
         none = none & (marks[a + k] == 0);
-        k += 1;
     }
     none
 }
@@ -69,6 +64,7 @@ fn past_quiet(marks: &[u8], a: usize) -> usize
     ensures { Unmarked marks.now a result }
 {
     let mut c = a;
+    // 32 at a time from wherever the last search ended: no range says that.
     while marks.len() - c >= 32 {
         if !quiet(marks, c) {
             return c;
@@ -83,14 +79,12 @@ pub fn next_marked(marks: &[u8], a: usize) -> usize
     requires { a ≤ length marks.now }
     ensures { NextMarked marks.now a result }
 {
-    let mut c = past_quiet(marks, a);
-    while c < marks.len() {
+    for c in past_quiet(marks, a)..marks.len() {
         if marks[c] != 0 {
             return c;
         }
-        c += 1;
     }
-    c
+    marks.len()
 }
 
 // Whether n cells from a on are dry in both sets. By no way out, so that they are looked at together.
@@ -99,10 +93,8 @@ fn dry(flags: &[u8], flags2: &[u8], a: usize, n: usize) -> bool
     ensures { result ≡ all n (λ k. not (either_liquid flags.now flags2.now (a + k))) }
 {
     let mut none = true;
-    let mut k = 0;
-    while k < n {
+    for k in 0..n {
         none = none & !either_liquid(flags, flags2, a + k);
-        k += 1;
     }
     none
 }
@@ -113,6 +105,7 @@ fn past_dry(flags: &[u8], flags2: &[u8], a: usize, n: usize) -> usize
     ensures { Dry flags.now flags2.now a result }
 {
     let mut c = a;
+    // n at a time from wherever the last search ended: no range says that.
     while flags.len() - c >= n {
         if !dry(flags, flags2, c, n) {
             return c;
@@ -127,12 +120,10 @@ pub fn next_wet(flags: &[u8], flags2: &[u8], a: usize) -> usize
     requires { (a ≤ length flags.now) × (length flags2.now ≡ length flags.now) }
     ensures { NextWet flags.now flags2.now a result }
 {
-    let mut c = past_dry(flags, flags2, past_dry(flags, flags2, a, 32), 8);
-    while c < flags.len() {
+    for c in past_dry(flags, flags2, past_dry(flags, flags2, a, 32), 8)..flags.len() {
         if either_liquid(flags, flags2, c) {
             return c;
         }
-        c += 1;
     }
-    c
+    flags.len()
 }

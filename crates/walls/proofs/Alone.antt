@@ -8,8 +8,8 @@ use mathlib.Core.List.{List}
 use Prim.Native.Nat.{ℕ, suc}
 use lib.Dec.{eqb, ltb}
 use Rattle.grid.specs.declared.Sides.{Sides}
-use Rattle.grid.specs.declared.Answer.{Answer}
-use Rattle.grid.specs.declared.Answer.TheVariants.{Done, Refused}
+use Rattle.grid.specs.Answer.{Answer}
+use Rattle.grid.specs.Answer.{Done}
 use Rattle.grid.specs.Grid.{cells_of, grid_of}
 use Rattle.grid.specs.State.{Lent}
 use Rattle.grid.specs.Outcome.{accepted, or_refuse}
@@ -17,6 +17,9 @@ use Rattle.grid.proofs.Beside.{any_none}
 use Rattle.schemes.specs.Scheme.{own_at, tested}
 use Rattle.pumps.specs.Acts.{and_then}
 use Rattle.walls.specs.Outcome.{in_way, may_change, placed, clear, wall_answer, alone_answer}
+use Rattle.grid.specs.declared.refusals.Refusal.TheVariants.{BadChange, InTheWay, Outside}
+use Rattle.std.specs.Prelude.{Err}
+use Rattle.std.specs.Prelude.{Ok}
 
 -- every own flag is 0
 abbrev pub Dry : Lent → Type 0
@@ -24,24 +27,24 @@ Dry d = (c : ℕ) → own_at d.flags c ≡ 0
 
 -- the answer, from the one that is given alone and from whether the other is in the way
 abbrev pub unless_way : Answer → Bool → ℕ → Answer
-unless_way alone way c = cond (accepted alone && way) (Refused 18 c) alone
+unless_way alone way c = cond (accepted alone && way) (Err (InTheWay c)) alone
 
 -- the chain of tests, by what each says
 chain : (t : Answer) (inside may mine theirs : Bool) (c : ℕ)
-    → and_then t (or_refuse inside 13 0 (or_refuse may 17 c (or_refuse (not (mine || theirs)) 18 c Done)))
-    ≡ unless_way (and_then t (or_refuse inside 13 0 (or_refuse may 17 c (or_refuse (not mine) 18 c Done)))) theirs c
-chain (Refused n p) inside may mine theirs c = refl
-chain Done false may mine theirs c = refl
-chain Done true false mine theirs c = refl
-chain Done true true true theirs c = refl
-chain Done true true false true c = refl
-chain Done true true false false c = refl
+    → and_then t (or_refuse inside Outside (or_refuse may (BadChange c) (or_refuse (not (mine || theirs)) (InTheWay c) Done)))
+    ≡ unless_way (and_then t (or_refuse inside Outside (or_refuse may (BadChange c) (or_refuse (not mine) (InTheWay c) Done)))) theirs c
+chain (Err refusal) inside may mine theirs c = refl
+chain (Ok _) false may mine theirs c = refl
+chain (Ok _) true false mine theirs c = refl
+chain (Ok _) true true true theirs c = refl
+chain (Ok _) true true false true c = refl
+chain (Ok _) true true false false c = refl
 
 pub beside-good : (s : Sides) (map : List ℕ) (a b : Lent) (add : Bool) (c : ℕ) → tested s map b true ≡ Done
     → wall_answer s map a b add c ≡ unless_way (alone_answer s map a add c) (in_way s b.flags add c) c
 unfolding wall_answer alone_answer placed clear
 beside-good s map a b add c e =
-    ap (λ (x : Answer). and_then (tested s map a true) (and_then x (or_refuse (ltb c (cells_of s)) 13 0 (or_refuse (may_change s map add c) 17 c (or_refuse (not (in_way s a.flags add c || in_way s b.flags add c)) 18 c Done))))) e
+    ap (λ (x : Answer). and_then (tested s map a true) (and_then x (or_refuse (ltb c (cells_of s)) Outside (or_refuse (may_change s map add c) (BadChange c) (or_refuse (not (in_way s a.flags add c || in_way s b.flags add c)) (InTheWay c) Done))))) e
     ∙ chain (tested s map a true) (ltb c (cells_of s)) (may_change s map add c) (in_way s a.flags add c) (in_way s b.flags add c) c
 
 -- a dry scheme is in nobody's way
@@ -51,8 +54,8 @@ dry-way s d h true c = ap (λ (f : ℕ). not (eqb f 0)) (h c)
 dry-way s d h false c = any_none 18 (λ i. eqb (own_at d.flags ((grid_of s).near c (suc i))) 2) (λ i k. ap (λ (f : ℕ). eqb f 2) (h ((grid_of s).near c (suc i))))
 
 no_way : (x : Answer) (c : ℕ) → unless_way x false c ≡ x
-no_way Done c = refl
-no_way (Refused n p) c = refl
+no_way (Ok _) c = refl
+no_way (Err refusal) c = refl
 
 pub beside-dry : (s : Sides) (map : List ℕ) (a d : Lent) (add : Bool) (c : ℕ) → tested s map d true ≡ Done → Dry d
     → wall_answer s map a d add c ≡ alone_answer s map a add c
@@ -73,15 +76,15 @@ alone-holds s map a b d add c g e h =
 
 -- so beside two schemes the answers are the same, or one of them is 18 at the cell
 cases : (x : Answer) (u v : Bool) (c : ℕ)
-    → (unless_way x u c ≡ unless_way x v c) ⊎ ((unless_way x u c ≡ Refused 18 c) ⊎ (unless_way x v c ≡ Refused 18 c))
-cases (Refused n p) u v c = inl refl
-cases Done true v c = inr (inl refl)
-cases Done false true c = inr (inr refl)
-cases Done false false c = inl refl
+    → (unless_way x u c ≡ unless_way x v c) ⊎ ((unless_way x u c ≡ Err (InTheWay c)) ⊎ (unless_way x v c ≡ Err (InTheWay c)))
+cases (Err refusal) u v c = inl refl
+cases (Ok _) true v c = inr (inl refl)
+cases (Ok _) false true c = inr (inr refl)
+cases (Ok _) false false c = inl refl
 
 pub but-for-18 : (s : Sides) (map : List ℕ) (a b d : Lent) (add : Bool) (c : ℕ) → tested s map b true ≡ Done → tested s map d true ≡ Done
-    → (wall_answer s map a b add c ≡ wall_answer s map a d add c) ⊎ ((wall_answer s map a b add c ≡ Refused 18 c) ⊎ (wall_answer s map a d add c ≡ Refused 18 c))
+    → (wall_answer s map a b add c ≡ wall_answer s map a d add c) ⊎ ((wall_answer s map a b add c ≡ Err (InTheWay c)) ⊎ (wall_answer s map a d add c ≡ Err (InTheWay c)))
 but-for-18 s map a b d add c g e =
-    subst (λ (x : Answer). (x ≡ wall_answer s map a d add c) ⊎ ((x ≡ Refused 18 c) ⊎ (wall_answer s map a d add c ≡ Refused 18 c))) (sym (beside-good s map a b add c g))
-    (subst (λ (x : Answer). (unless_way (alone_answer s map a add c) (in_way s b.flags add c) c ≡ x) ⊎ ((unless_way (alone_answer s map a add c) (in_way s b.flags add c) c ≡ Refused 18 c) ⊎ (x ≡ Refused 18 c)))
+    subst (λ (x : Answer). (x ≡ wall_answer s map a d add c) ⊎ ((x ≡ Err (InTheWay c)) ⊎ (wall_answer s map a d add c ≡ Err (InTheWay c)))) (sym (beside-good s map a b add c g))
+    (subst (λ (x : Answer). (unless_way (alone_answer s map a add c) (in_way s b.flags add c) c ≡ x) ⊎ ((unless_way (alone_answer s map a add c) (in_way s b.flags add c) c ≡ Err (InTheWay c)) ⊎ (x ≡ Err (InTheWay c))))
     (sym (beside-good s map a d add c e)) (cases (alone_answer s map a add c) (in_way s b.flags add c) (in_way s d.flags add c) c))

@@ -20,7 +20,7 @@ use Rattle.lattice.specs.Lattice.{d3q19}
 use Rattle.lattice.specs.Cell.{carry_good}
 use Rattle.lattice.specs.Body.{eq_z}
 use Rattle.grid.specs.declared.Sides.{Sides}
-use Rattle.grid.specs.declared.Answer.TheVariants.{Done}
+use Rattle.grid.specs.Answer.{Done}
 use Rattle.grid.specs.Grid.{cells_of, grid_of, box}
 use Rattle.grid.specs.State.{Lent, State, state_of, lent_of}
 use Rattle.grid.specs.Step.{fill_for}

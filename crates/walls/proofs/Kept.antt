@@ -2,7 +2,7 @@
 -- cell's own flag is 0 in either scheme, so in either grid its flag goes from 0 to 3 or back, and empty cells and walls keep the same rules; a fluid
 -- cell beside a cell that becomes empty would have been in the way. Assumes nothing.
 use mathlib.Core.Path.{◌≡◌, refl, sym, ap, ap₂, ◌∙◌, subst}
-use mathlib.Core.Bool.{Bool, true, false, ◌&&◌, ◌||◌, not, cond, false≢true, true≢false}
+use mathlib.Core.Bool.{Bool, true, false, ◌&&◌, ◌||◌, not, cond, true≢false}
 use mathlib.Core.List.{List}
 use Prim.Native.Nat.{ℕ, suc, ◌+◌, ◌≤◌, ◌<◌}
 use native.Mathlib.Nat.{le_of_suc-le-suc}
@@ -22,7 +22,7 @@ use Rattle.lattice.specs.Lattice.{d3q19}
 use Rattle.lattice.specs.Cell.{carry_good}
 use Rattle.lattice.proofs.Paired.{paired19}
 use Rattle.grid.specs.declared.Sides.{Sides}
-use Rattle.grid.specs.declared.Answer.TheVariants.{Done}
+use Rattle.grid.specs.Answer.{Done}
 use Rattle.grid.specs.Grid.{cells_of, grid_of, box}
 use Rattle.grid.specs.State.{Lent, by_flag, state_of}
 use Rattle.grid.specs.Good.{cell_good, bad_rule}
@@ -35,6 +35,7 @@ use Rattle.schemes.specs.Scheme.{wall_at, own_at, joined_flag, joined_flags, joi
 use Rattle.walls.specs.Outcome.{wanted, in_way, may_change, placed, clear, wall_answer, wall_map}
 use Rattle.schemes.proofs.Tests.{Scheme, tells, passes, flag, flag_at, good_as, good-dry, joined-good, flags-low, outer-wall, map-low}
 use Rattle.pumps.proofs.Kept.{then-both}
+use Rattle.grid.specs.declared.refusals.Refusal.TheVariants.{BadChange, BadFlag, BadLayer, BadState, InTheWay, Outside}
 
 -- a joined flag of 2 is a fluid cell of the scheme
 fluid-own : (m f : ℕ) → joined_flag m f ≡ 2 → f ≡ 2
@@ -211,7 +212,7 @@ module _ (s : Sides) (map : List ℕ) (x : Lent) (add : Bool) (c : ℕ) (g : Sch
     grid =
         pass-good d3q19 (grid_of s) (state_of 18 (joined s map' x)) Done (flags-low s map' x marks') (outer-wall s map' x marks') closed'
         (subst (λ (n : ℕ). suc (cells_of s) ≤ n) (sym rules-same)
-        (none_found (suc (grid_of s).cells) 6 _ _ (none_found (grid_of s).cells 5 _ _ (none_found (grid_of s).cells 4 _ _ g.grid).1).1).0);
+        (none_found (suc (grid_of s).cells) BadState _ _ (none_found (grid_of s).cells BadLayer _ _ (none_found (grid_of s).cells BadFlag _ _ g.grid).1).1).0);
     totals = g.totals;
   }
 
@@ -272,9 +273,9 @@ unfolding wall_answer placed clear
 granted s map a b add c e =
     let x = then-both (tested s map a true) _ e in
     let y = then-both (tested s map b true) _ x.1 in
-    let p = passed (ltb c (cells_of s)) 13 0 _ y.1 in
-    let q = passed (may_change s map add c) 17 c _ p.1 in
-    let r = passed (clear s a b add c) 18 c Done q.1 in
+    let p = passed (ltb c (cells_of s)) Outside _ y.1 in
+    let q = passed (may_change s map add c) (BadChange c) _ p.1 in
+    let r = passed (clear s a b add c) (InTheWay c) Done q.1 in
     let o = or-false (in_way s a.flags add c) (in_way s b.flags add c) (not-true _ r.0) in
     record { own = x.0; other = y.0; cell = ltb-true c (cells_of s) p.0; may = q.0; own-way = o.0; other_way = o.1 }
 

@@ -2,12 +2,14 @@
 use Rattle.std.specs.Prelude.{◌≡◌, ℕ, true, false, ◌||◌, cond, List, eqb, leb, ℤ, pos}
 use Rattle.whole.specs.Fold.{tab}
 use Rattle.grid.specs.declared.Sides.{Sides}
-use Rattle.grid.specs.declared.Answer.TheVariants.{Done, Refused}
+use Rattle.grid.specs.Answer.{Done}
 use Rattle.grid.specs.Grid.{grid_of}
 use Rattle.grid.specs.State.{Lent, lent, lent_of}
 use Rattle.pumps.specs.Three.{with_totals}
 use Rattle.schemes.specs.Scheme.{tested}
 use Rattle.walls.specs.Outcome.{wall_answer}
+use Rattle.grid.specs.declared.refusals.Refusal.TheVariants.{BadChange, BadFlag, BadState, InTheWay, Outside}
+use Rattle.std.specs.Prelude.{Err}
 
 abbrev pub sides : Sides
 sides = record { nx = 5; ny = 3; nz = 3 }
@@ -46,20 +48,20 @@ scheme_dry = flagged 0
 
 -- what A is answered beside x, however x may be: its own water in the way, and what is not to be changed
 pub record Whoever (x : Lent) : Type 0 where
-  pub wall-21 : wall_answer sides walls scheme_a x true 21 ≡ Refused 18 21
-  pub wall-22 : wall_answer sides walls scheme_a x true 22 ≡ Refused 17 22
-  pub wall-45 : wall_answer sides walls scheme_a x true 45 ≡ Refused 13 0
-  pub out-0 : wall_answer sides walls scheme_a x false 0 ≡ Refused 17 0
-  pub out-23 : wall_answer sides walls scheme_a x false 23 ≡ Refused 17 23
+  pub wall-21 : wall_answer sides walls scheme_a x true 21 ≡ Err (InTheWay 21)
+  pub wall-22 : wall_answer sides walls scheme_a x true 22 ≡ Err (BadChange 22)
+  pub wall-45 : wall_answer sides walls scheme_a x true 45 ≡ Err Outside
+  pub out-0 : wall_answer sides walls scheme_a x false 0 ≡ Err (BadChange 0)
+  pub out-23 : wall_answer sides walls scheme_a x false 23 ≡ Err (BadChange 23)
 
 pub record Figures : Type 0 where
   pub beside-B : Whoever scheme_b
-  pub B-wall-23 : wall_answer sides walls scheme_a scheme_b true 23 ≡ Refused 18 23
-  pub B-out-22 : wall_answer sides walls scheme_a scheme_b false 22 ≡ Refused 18 22
+  pub B-wall-23 : wall_answer sides walls scheme_a scheme_b true 23 ≡ Err (InTheWay 23)
+  pub B-out-22 : wall_answer sides walls scheme_a scheme_b false 22 ≡ Err (InTheWay 22)
   -- an outer cell beside B's fluid: 17 comes before 18
-  pub B-out-24 : wall_answer sides walls scheme_a scheme_b false 24 ≡ Refused 17 24
+  pub B-out-24 : wall_answer sides walls scheme_a scheme_b false 24 ≡ Err (BadChange 24)
   pub beside-dry : Whoever scheme_dry
   pub dry-wall-23 : wall_answer sides walls scheme_a scheme_dry true 23 ≡ Done
   pub dry-out-22 : wall_answer sides walls scheme_a scheme_dry false 22 ≡ Done
-  pub own-flag-3 : tested sides walls (flagged 3) true ≡ Refused 4 0
-  pub own-flag-1 : tested sides walls (flagged 1) true ≡ Refused 6 0
+  pub own-flag-3 : tested sides walls (flagged 3) true ≡ Err (BadFlag 0)
+  pub own-flag-1 : tested sides walls (flagged 1) true ≡ Err (BadState 0)

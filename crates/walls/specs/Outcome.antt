@@ -3,14 +3,15 @@
 use Rattle.std.specs.Prelude.{ℕ, Bool, true, ◌&&◌, ◌||◌, not, cond, List, ltb, eqb, set}
 use Rattle.whole.specs.Fold.{any_dir}
 use Rattle.grid.specs.declared.Sides.{Sides}
-use Rattle.grid.specs.declared.Answer.{Answer}
-use Rattle.grid.specs.declared.Answer.TheVariants.{Done}
+use Rattle.grid.specs.Answer.{Answer}
+use Rattle.grid.specs.Answer.{Done}
 use Rattle.grid.specs.Grid.{cells_of, grid_of}
 use Rattle.grid.specs.State.{Lent}
 use Rattle.grid.specs.Outcome.{or_refuse}
 use Rattle.pumps.specs.Acts.{and_then}
 use Rattle.schemes.specs.Scheme.{wall_at, own_at, tested}
 use Rattle.schemes.specs.Outcome.{if_done}
+use Rattle.grid.specs.declared.refusals.Refusal.TheVariants.{BadChange, InTheWay, Outside}
 
 -- ---- `add` is true for a wall asked for, false for one taken out
 
@@ -28,7 +29,7 @@ may_change s map add c = not ((grid_of s).outer c) && not (eqb (wall_at map c) (
 
 -- 13 and 17, then `rest`
 unfoldable pub placed : Sides → List ℕ → Bool → ℕ → Answer → Answer
-placed s map add c rest = or_refuse (ltb c (cells_of s)) 13 0 (or_refuse (may_change s map add c) 17 c rest)
+placed s map add c rest = or_refuse (ltb c (cells_of s)) Outside (or_refuse (may_change s map add c) (BadChange c) rest)
 
 -- 18: the asker's water in the way, or the other's
 unfoldable pub clear : Sides → Lent → Lent → Bool → ℕ → Bool
@@ -37,7 +38,7 @@ clear s a b add c = not (in_way s a.flags add c || in_way s b.flags add c)
 -- the asker's tests, the other's, 13, 17, 18
 unfoldable pub wall_answer : Sides → List ℕ → Lent → Lent → Bool → ℕ → Answer
 wall_answer s map a b add c =
-    and_then (tested s map a true) (and_then (tested s map b true) (placed s map add c (or_refuse (clear s a b add c) 18 c Done)))
+    and_then (tested s map a true) (and_then (tested s map b true) (placed s map add c (or_refuse (clear s a b add c) (InTheWay c) Done)))
 
 -- only the map's byte of the cell is written
 unfoldable pub wall_map : Sides → List ℕ → Lent → Lent → Bool → ℕ → List ℕ
@@ -45,7 +46,7 @@ wall_map s map a b add c = if_done (wall_answer s map a b add c) (set map c (wan
 
 -- the answer if nobody else is there
 unfoldable pub alone_answer : Sides → List ℕ → Lent → Bool → ℕ → Answer
-alone_answer s map a add c = and_then (tested s map a true) (placed s map add c (or_refuse (not (in_way s a.flags add c)) 18 c Done))
+alone_answer s map a add c = and_then (tested s map a true) (placed s map add c (or_refuse (not (in_way s a.flags add c)) (InTheWay c) Done))
 
 -- names every definition of this file: whoever unfolds this computes with all of them
 unfoldable pub open-outcome : Unit {0}

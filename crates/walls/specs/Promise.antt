@@ -1,7 +1,7 @@
 -- What the two wall changes promise of their answer and of the map, refused or not. Assumes nothing.
 use Rattle.std.specs.Prelude.{◌≡◌, Bool, List, ℕ}
 use Rattle.grid.specs.declared.Sides.{Sides}
-use Rattle.grid.specs.declared.Answer.{Answer}
+use Rattle.grid.specs.Answer.{Answer}
 use Rattle.grid.specs.State.{Lent}
 use Rattle.walls.specs.Outcome.{wall_answer, wall_map}
 

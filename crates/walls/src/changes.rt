@@ -1,13 +1,14 @@
 // The map's walls: one asked for, or one taken out, by either of two schemes.
 ghost use Rattle.std.specs.Prelude.{◌≡◌, true, false, ◌<◌, length};
+ghost use Rattle.grid.specs.Answer.{Done};
 ghost use Rattle.grid.specs.Grid.{sides_good, cells_of};
 ghost use Rattle.grid.specs.State.{lent};
 ghost use Rattle.grid.specs.inner.Passes.{Inner};
-ghost use Rattle.grid.specs.declared.Answer.TheVariants.{Done};
 ghost use Rattle.walls.specs.Outcome.{wanted, in_way, placed, wall_answer};
 ghost use Rattle.walls.specs.Promise.{Changed};
 
-use grid::{Answer, Sides, neighbours};
+use grid::refusals::{Answer, Refusal};
+use grid::{Sides, neighbours};
 use schemes::testing;
 
 // The map's byte that is asked for.
@@ -26,15 +27,15 @@ fn placing(map: &[u8], s: Sides, c: usize, add: bool) -> Answer
     ensures { result ≡ placed s map.now add c Done }
 {
     if c >= map.len() {
-        return Answer::Refused(13, 0);
+        return Err(Refusal::Outside);
     }
     if testing::outer(c, s) {
-        return Answer::Refused(17, c);
+        return Err(Refusal::BadChange(c));
     }
     if map[c] == wanted_byte(add) {
-        return Answer::Refused(17, c);
+        return Err(Refusal::BadChange(c));
     }
-    Answer::Done
+    Ok(())
 }
 
 // Whether a scheme's water is in the way: of a wall in the cell itself, of taking one out beside it.
@@ -69,22 +70,13 @@ fn answered(
 ) -> Answer
     ensures { result ≡ wall_answer s map.now (lent own.now parts.now masses.now fills.now carry.now) (lent own2.now parts2.now masses2.now fills2.now carry2.now) add c }
 {
-    let first = testing::entered(map, own, parts, masses, fills, carry, true, s);
-    if let Answer::Refused(no, at) = first {
-        return Answer::Refused(no, at);
-    }
-    let second = testing::entered(map, own2, parts2, masses2, fills2, carry2, true, s);
-    if let Answer::Refused(no, at) = second {
-        return Answer::Refused(no, at);
-    }
-    let place = placing(map, s, c, add);
-    if let Answer::Refused(no, at) = place {
-        return Answer::Refused(no, at);
-    }
+    testing::entered(map, own, parts, masses, fills, carry, true, s)?;
+    testing::entered(map, own2, parts2, masses2, fills2, carry2, true, s)?;
+    placing(map, s, c, add)?;
     if in_way(own, s, c, add) | in_way(own2, s, c, add) {
-        return Answer::Refused(18, c);
+        return Err(Refusal::InTheWay(c));
     }
-    Answer::Done
+    Ok(())
 }
 
 // A wall is asked for in cell c.
@@ -105,14 +97,11 @@ pub fn wall_add(
 ) -> Answer
     ensures { Changed s map.old (lent own.now parts.now masses.now fills.now carry.now) (lent own2.now parts2.now masses2.now fills2.now carry2.now) true c result map.new }
 {
-    let a = answered(
+    answered(
         map, own, parts, masses, fills, carry, own2, parts2, masses2, fills2, carry2, s, c, true,
-    );
-    if let Answer::Refused(no, at) = a {
-        return Answer::Refused(no, at);
-    }
+    )?;
     map[c] = 1;
-    Answer::Done
+    Ok(())
 }
 
 // The wall in cell c is asked to be taken out.
@@ -133,12 +122,9 @@ pub fn wall_remove(
 ) -> Answer
     ensures { Changed s map.old (lent own.now parts.now masses.now fills.now carry.now) (lent own2.now parts2.now masses2.now fills2.now carry2.now) false c result map.new }
 {
-    let a = answered(
+    answered(
         map, own, parts, masses, fills, carry, own2, parts2, masses2, fills2, carry2, s, c, false,
-    );
-    if let Answer::Refused(no, at) = a {
-        return Answer::Refused(no, at);
-    }
+    )?;
     map[c] = 0;
-    Answer::Done
+    Ok(())
 }

@@ -12,12 +12,7 @@ pub fn put_flags(room: &mut [u8], at: usize, flags: &[u8])
     requires { at + length flags.now ≤ length room.old }
     ensures { room.new ≡ sets room.old at flags.now }
 {
-    let mut c = 0;
-    while c < flags.len() {
-        let flag = flags[c];
-        room[at + c] = flag;
-        c += 1;
-    }
+    room[at..at + flags.len()].copy_from_slice(flags);
 }
 
 // The mass of an interface cell; nothing of another.
@@ -37,13 +32,10 @@ pub fn put_masses(room: &mut [u8], from: usize, flags: &[u8], masses: &[i32])
     ensures { room.new ≡ sets room.old from (mass_bytes (length flags.now) (flag_of flags.now) (λ c. get_or masses.now c (pos 0))) }
 {
     let mut at = from;
-    let mut c = 0;
-    while c < flags.len() {
+    for c in 0..flags.len() {
         let flag = flags[c];
-        let m = masses[c];
-        put_mass(room, at, flag, m);
+        put_mass(room, at, flag, masses[c]);
         at += 4 * one_interface(flag);
-        c += 1;
     }
 }
 
@@ -53,11 +45,8 @@ fn put_cell(room: &mut [u8], at: usize, parts: &[i32], from: usize, w: usize)
     requires w_in_bounds_2 { from + w ≤ length parts.now }
     ensures { room.new ≡ sets room.old at (cell_numbers w (λ k. get_or parts.now (from + k) (pos 0))) }
 {
-    let mut k = 0;
-    while k < w {
-        let x = parts[from + k];
-        put_i32(room, at + 4 * k, x);
-        k += 1;
+    for k in 0..w {
+        put_i32(room, at + 4 * k, parts[from + k]);
     }
 }
 
@@ -81,11 +70,8 @@ pub fn put_parts(room: &mut [u8], from: usize, flags: &[u8], parts: &[i32], w: u
     ensures { room.new ≡ sets room.old from (part_numbers w (length flags.now) (flag_of flags.now) (λ c k. get_or parts.now (w * c + k) (pos 0))) }
 {
     let mut at = from;
-    let mut c = 0;
-    while c < flags.len() {
-        let flag = flags[c];
-        put_liquid(room, at, flag, parts, w * c, w);
-        at += 4 * w * one_liquid(flag);
-        c += 1;
+    for (c, flag) in flags.iter().enumerate() {
+        put_liquid(room, at, *flag, parts, w * c, w);
+        at += 4 * w * one_liquid(*flag);
     }
 }

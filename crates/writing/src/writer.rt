@@ -3,7 +3,8 @@ ghost use Rattle.std.specs.Prelude.{◌≡◌, true, ◌++◌, ◌+◌, ◌*◌,
 ghost use Rattle.std.proofs.lemmas.List.Edits.{sets};
 ghost use Rattle.grid.specs.Grid.{sides_good, cells_of};
 ghost use Rattle.grid.specs.State.{flag_of, lent};
-ghost use Rattle.grid.specs.declared.Answer.TheVariants.{Done};
+ghost use Rattle.grid.specs.Answer.{Done};
+ghost use Rattle.grid.specs.declared.refusals.Refusal.TheVariants.{BadSides, BadLength, BadSetting};
 ghost use Rattle.grid.specs.Outcome.{or_refuse};
 ghost use Rattle.pumps.specs.Three.{three_lengths, three_good};
 ghost use Rattle.record.specs.Promise.{Wrote};
@@ -13,12 +14,12 @@ ghost use Rattle.record.specs.inner.Small.{Small};
 
 use crate::cells::{put_cells, record_length};
 use crate::front::put_head;
+use grid::Sides;
 use grid::extent::{cells, good_sides};
-use grid::{Answer, Sides};
+use grid::refusals::{Answer, Refusal};
 use lattice::Settings;
 use pumps::entry::{checked, three_lengths};
 use record::given::good_site;
-use record::section::passed;
 use record::{Site, Written};
 
 // The record of a grid that passed its tests, into room that suffices.
@@ -57,10 +58,10 @@ fn fit(
     fills: &[u32],
     carry: &[i64],
 ) -> Answer
-    ensures { result ≡ or_refuse (sides_good s) 1 0 (or_refuse (three_lengths (cells_of s) (lent flags.now parts.now masses.now fills.now carry.now)) 2 0 (or_refuse (site_good g t) 3 0 (three_good s (lent flags.now parts.now masses.now fills.now carry.now) Done))) }
+    ensures { result ≡ or_refuse (sides_good s) BadSides (or_refuse (three_lengths (cells_of s) (lent flags.now parts.now masses.now fills.now carry.now)) BadLength (or_refuse (site_good g t) (BadSetting 0) (three_good s (lent flags.now parts.now masses.now fills.now carry.now) Done))) }
 {
     if !good_sides(s) {
-        return Answer::Refused(1, 0);
+        return Err(Refusal::BadSides);
     }
     let n = cells(s);
     if !three_lengths(
@@ -71,10 +72,10 @@ fn fit(
         carry.len(),
         n,
     ) {
-        return Answer::Refused(2, 0);
+        return Err(Refusal::BadLength);
     }
     if !good_site(g, t) {
-        return Answer::Refused(3, 0);
+        return Err(Refusal::BadSetting(0));
     }
     checked(flags, parts, masses, fills, carry, s)
 }
@@ -93,17 +94,16 @@ pub fn write(
 ) -> Written
     ensures { Wrote s g t (lent flags.now parts.now masses.now fills.now carry.now) room.old result room.new }
 {
-    let tested = fit(s, g, t, flags, parts, masses, fills, carry);
-    if !passed(tested) {
+    if let Err(refusal) = fit(s, g, t, flags, parts, masses, fills, carry) {
         return Written {
-            answer: tested,
+            answer: Err(refusal),
             bytes: 0,
         };
     }
     let long = record_length(flags, 96, 19);
     if room.len() < long {
         return Written {
-            answer: Answer::Refused(12, long),
+            answer: Err(Refusal::BadRoom(long)),
             bytes: 0,
         };
     }
@@ -112,7 +112,7 @@ pub fn write(
     let taken = carry[2];
     put_record(s, g, t, flags, parts, masses, kept, poured, taken, room);
     Written {
-        answer: Answer::Done,
+        answer: Ok(()),
         bytes: long,
     }
 }

@@ -1,6 +1,6 @@
 -- The end of a flume's step: what the conversion, the fills and test 8 ask together and leave. Assumes nothing.
 use Rattle.std.specs.Prelude.{◌≡◌, Bool, List, ℕ, replicate}
-use Rattle.grid.specs.declared.Answer.{Answer}
+use Rattle.grid.specs.Answer.{Answer}
 use Rattle.grid.specs.State.{Lent}
 use Rattle.grid.specs.Outcome.{move_answer}
 use Rattle.passes.specs.inner.Flowed.{MovedTo}

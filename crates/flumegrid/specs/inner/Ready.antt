@@ -1,7 +1,7 @@
 -- What the passes of a flume's step ask of its first set: tests 1 to 6 have passed. Assumes nothing.
 use Rattle.std.specs.Prelude.{◌≡◌, true, false, List, ℕ, ◌*◌, ◌<◌, ℤ, pos, length, get_or}
 use Rattle.lattice.specs.Lattice.{d2q9}
-use Rattle.grid.specs.declared.Answer.TheVariants.{Done}
+use Rattle.grid.specs.Answer.{Done}
 use Rattle.grid.specs.State.{Lent, liquid, state_of}
 use Rattle.grid.specs.Good.{cell_good}
 use Rattle.grid.specs.Outcome.{settings_good, good_answer}

@@ -1,12 +1,11 @@
 -- Pass 1 over all cells of a flume: what it asks, and what it leaves. Assumes nothing.
-use Rattle.std.specs.Prelude.{◌≡◌, Bool, true, List, [], ℕ, ◌*◌, ◌<◌, ℤ, pos, length, get_or}
+use Rattle.std.specs.Prelude.{◌≡◌, Bool, true, List, [], ℕ, ◌*◌, ◌<◌, ℤ, pos, length, get_or, Result, Ok, Err}
 use Rattle.whole.specs.Fold.{first, Dir}
 use Rattle.lattice.specs.declared.Settings.{Settings}
 use Rattle.grid.specs.State.{Lent, lent, Scene, liquid}
 use Rattle.grid.specs.Step.{unsteady}
 use Rattle.grid.specs.Mode.{scene_by}
-use Rattle.passes.specs.declared.passing.Passed.{Passed}
-use Rattle.passes.specs.declared.passing.Passed.TheVariants.{Stopped, Through}
+use Rattle.passes.specs.declared.passing.Found.{Found}
 use Rattle.passes.specs.inner.Flowed.{MovedTo}
 use Rattle.flume.specs.declared.FlumeSides.{FlumeSides}
 use Rattle.flume.specs.declared.FlumeSettings.{FlumeSettings}
@@ -40,12 +39,12 @@ pub record FlumeFlowable (s : FlumeSides) (g : Settings) (flags : List ℕ) (par
       → (k : ℕ) → Dir 8 k → liquid (get_or flags ((flume_grid s).near c k) 3) ≡ true
 
 -- the lowest cell that is unsteady, or all of stages 1 to 4; the lengths are kept in either case
-pub data FlumeWent (T : Scene) (n : ℕ) : Passed → List ℤ → List ℤ → List ℕ → Type 0 where
-  stopped : {c : ℕ} {parts masses : List ℤ} {marks : List ℕ} → c < n → first n (unsteady T) ≡ c → FlumeWent T n (Stopped c) parts masses marks
-  through : {fair calm : Bool} {parts masses : List ℤ} {marks : List ℕ} → MovedTo T n (part_of9 parts) masses marks fair calm
-      → FlumeWent T n (Through fair calm) parts masses marks
+pub data FlumeWent (T : Scene) (n : ℕ) : Result Found ℕ → List ℤ → List ℤ → List ℕ → Type 0 where
+  stopped : {c : ℕ} {parts masses : List ℤ} {marks : List ℕ} → c < n → first n (unsteady T) ≡ c → FlumeWent T n (Err c) parts masses marks
+  through : {found : Found} {parts masses : List ℤ} {marks : List ℕ} → MovedTo T n (part_of9 parts) masses marks found.fair found.calm
+      → FlumeWent T n (Ok found) parts masses marks
 
-pub record FlumeFlowed (s : FlumeSides) (g : Settings) (flags : List ℕ) (parts masses : List ℤ) (fills : List ℕ) (r : Passed) (parts2 masses2 : List ℤ) (marks : List ℕ) : Type 0 where
+pub record FlumeFlowed (s : FlumeSides) (g : Settings) (flags : List ℕ) (parts masses : List ℤ) (fills : List ℕ) (r : Result Found ℕ) (parts2 masses2 : List ℤ) (marks : List ℕ) : Type 0 where
   pub went : FlumeWent (wide_scene s g (lent flags parts masses fills [])) (flume_cells s) r parts2 masses2 marks
   pub parts-kept : length parts2 ≡ 9 * flume_cells s
   pub masses-kept : length masses2 ≡ flume_cells s

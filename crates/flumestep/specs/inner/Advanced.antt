@@ -1,7 +1,7 @@
 -- The step of a flume that passed tests 1 to 6: what its passes leave, before a refused step is copied and after it. Assumes nothing.
 use Rattle.std.specs.Prelude.{◌≡◌, cond, List, ℕ, length, replicate}
-use Rattle.grid.specs.declared.Answer.{Answer}
-use Rattle.grid.specs.declared.Answer.TheVariants.{Done}
+use Rattle.grid.specs.Answer.{Answer}
+use Rattle.grid.specs.Answer.{Done}
 use Rattle.grid.specs.State.{Lent}
 use Rattle.grid.specs.Outcome.{accepted, move_answer}
 use Rattle.flume.specs.declared.FlumeSides.{FlumeSides}

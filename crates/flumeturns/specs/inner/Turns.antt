@@ -1,6 +1,6 @@
 -- What the turns of a flume's run ask and leave: a step goes from one set to the other, and the next one back. Assumes nothing.
 use Rattle.std.specs.Prelude.{◌≡◌, Bool, List, ℕ, replicate}
-use Rattle.grid.specs.declared.Answer.{Answer}
+use Rattle.grid.specs.Answer.{Answer}
 use Rattle.grid.specs.State.{Lent}
 use Rattle.grid.specs.Ground.{ran_on}
 use Rattle.run.specs.inner.Turns.{here, there}

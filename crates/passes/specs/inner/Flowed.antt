@@ -1,5 +1,5 @@
 -- Pass 1 over all cells: what it asks, and what it leaves. Assumes nothing.
-use Rattle.std.specs.Prelude.{◌≡◌, Bool, true, List, [], ℕ, ◌*◌, ◌≤◌, ◌<◌, ℤ, length, get_or}
+use Rattle.std.specs.Prelude.{◌≡◌, Bool, true, List, [], ℕ, ◌*◌, ◌≤◌, ◌<◌, ℤ, length, get_or, Result, Ok, Err}
 use Rattle.whole.specs.Fold.{tab, first, Dir}
 use Rattle.lattice.specs.Lattice.{d3q19}
 use Rattle.lattice.specs.Body.{body_good}
@@ -11,8 +11,7 @@ use Rattle.grid.specs.Step.{flag_at, unsteady, collided}
 use Rattle.grid.specs.Outcome.{scene_of}
 use Rattle.grid.specs.inner.Between.{Poised, moved_part, moved_mass, first_mark}
 use Rattle.grid.specs.inner.Halfway.{Dried, Moved}
-use Rattle.passes.specs.declared.passing.Passed.{Passed}
-use Rattle.passes.specs.declared.passing.Passed.TheVariants.{Stopped, Through}
+use Rattle.passes.specs.declared.passing.Found.{Found}
 
 -- a set that is poised, room of the right lengths whose flags tell where its parts are 0 already, and pass 0's marks: a liquid cell that is marked is fluid, and all its
 -- neighbours are liquid. The pass is not lent the carry, which no stage before the last sum of stage 6 reads
@@ -37,11 +36,11 @@ pub record MovedTo (S : Scene) (n : ℕ) (part : ℕ → ℕ → ℤ) (masses : 
   pub calm-tells : calm ≡ true → (c : ℕ) → c < n → first_mark S c ≡ 0
 
 -- the lowest cell that is unsteady, or all of stages 1 to 4; the lengths are kept in either case
-pub data Went (S : Scene) (n : ℕ) : Passed → List ℤ → List ℤ → List ℕ → Type 0 where
-  stopped : {c : ℕ} {parts masses : List ℤ} {marks : List ℕ} → c < n → first n (unsteady S) ≡ c → Went S n (Stopped c) parts masses marks
-  through : {fair calm : Bool} {parts masses : List ℤ} {marks : List ℕ} → Moved S n parts masses marks fair calm → Went S n (Through fair calm) parts masses marks
+pub data Went (S : Scene) (n : ℕ) : Result Found ℕ → List ℤ → List ℤ → List ℕ → Type 0 where
+  stopped : {c : ℕ} {parts masses : List ℤ} {marks : List ℕ} → c < n → first n (unsteady S) ≡ c → Went S n (Err c) parts masses marks
+  through : {found : Found} {parts masses : List ℤ} {marks : List ℕ} → Moved S n parts masses marks found.fair found.calm → Went S n (Ok found) parts masses marks
 
-pub record Flowed (s : Sides) (g : Settings) (flags : List ℕ) (parts masses : List ℤ) (fills : List ℕ) (r : Passed) (parts2 masses2 : List ℤ) (marks : List ℕ) : Type 0 where
+pub record Flowed (s : Sides) (g : Settings) (flags : List ℕ) (parts masses : List ℤ) (fills : List ℕ) (r : Result Found ℕ) (parts2 masses2 : List ℤ) (marks : List ℕ) : Type 0 where
   pub went : Went (scene_of s g (lent flags parts masses fills [])) (cells_of s) r parts2 masses2 marks
   pub parts-kept : length parts2 ≡ 19 * cells_of s
   pub masses-kept : length masses2 ≡ cells_of s

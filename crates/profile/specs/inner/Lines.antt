@@ -1,7 +1,8 @@
 -- What the pass that writes the lines holds on the way. No promise of a public function cites this file. Assumes nothing.
-use Rattle.std.specs.Prelude.{◌≡◌, true, cond, List, ℕ, ◌*◌, ◌<◌, ◌≤◌, ltb, ℤ, Float, length, get_or}
+use Rattle.std.specs.Prelude.{◌≡◌, true, cond, List, ℕ, ◌*◌, ◌<◌, ◌≤◌, ltb, ℤ, Float, length, get_or, Result}
 use Rattle.whole.specs.Fold.{tab}
 use Rattle.grid.specs.Grid.{sides_good}
+use Rattle.grid.specs.declared.refusals.Refusal.{Refusal}
 use Rattle.tunnel.specs.Exact.{Exactly}
 use Rattle.tunnel.specs.Depth.{zero_float, told_of}
 use Rattle.profile.specs.declared.Frame.{Frame}
@@ -43,6 +44,6 @@ pub record Written (f : Frame) (flags fills : List ℕ) (points : List ℤ) (m a
   pub kinds-are : kinds ≡ tab m (λ i. line_kind (seen (survey f flags fills points) i))
   pub depths-are : DepthsOf (survey f flags fills points) m depths
 
--- alike of the code's enum: for inner functions, no promise of a public function cites it
-abbrev pub depth_line : Depth → ℕ
+-- a line's kind of what the code answers: for inner functions, no promise of a public function cites it
+abbrev pub depth_line : Result Depth Refusal → ℕ
 depth_line a = line_for (told_of a).kind

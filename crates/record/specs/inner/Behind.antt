@@ -1,6 +1,6 @@
 -- Sections 6 and 7 of a record of the box: where they begin, and how its end is tested. Assumes nothing.
 use Rattle.std.specs.Prelude.{ℕ, ◌*◌, List}
-use Rattle.grid.specs.declared.Answer.{Answer}
+use Rattle.grid.specs.Answer.{Answer}
 use Rattle.record.specs.Places.{counts, masses_from}
 use Rattle.record.specs.Reading.{totals_in, cells_in, ends_on}
 

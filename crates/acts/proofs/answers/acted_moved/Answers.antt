@@ -5,8 +5,5 @@ use mir.Facts.{to_z-of_z}
 use Rattle.pumps.specs.Acts.{acted_moved}
 use Rattle.acts.proofs.answers.acted_moved.Goals as goal
 
-pub returns-in-Moved : goal.returns-in-Moved
-returns-in-Moved c = to_z-of_z {w = w64} (record { sfits = c.in-Moved.known_told-1-own.given.0.1 }) ∙ sym (ap acted_moved c.in-Moved.is)
-
-pub returns-in-Refused : goal.returns-in-Refused
-returns-in-Refused c = sym (ap acted_moved c.in-Refused.is)
+pub returns-in-Ok : goal.returns-in-Ok
+returns-in-Ok c = to_z-of_z {w = w64} (record { sfits = c.in-Ok.known_told-1-own.given.0.1 }) ∙ sym (ap acted_moved c.in-Ok.is)

@@ -2,16 +2,12 @@
 use mathlib.Core.Path.{◌≡◌}
 use mathlib.Core.Bool.{true}
 use mathlib.Core.List.{[], ◌∷◌}
-use Prim.Native.Nat.{ℕ, ◌-◌, ◌≤◌, ◌<◌}
+use Prim.Native.Nat.{ℕ, ◌<◌}
 use lib.IntN.{pos}
-use lib.ListN.{length}
 use Rattle.lattice.specs.Lattice.{d3q19}
 use Rattle.grid.specs.State.{lent, state_of}
 use Rattle.grid.specs.Good.{cell_good}
 use Rattle.checks.proofs.checking.first_bad.Given as goal
 
 abbrev pub invariant-loop-c : goal.invariant-loop-c
-invariant-loop-c l = (l.c ≤ length l.flags) × ((j : ℕ) → j < l.c → cell_good d3q19 (state_of 18 (lent l.flags l.parts l.masses l.fills (pos 0 ∷ []))) j ≡ true)
-
-abbrev pub decreases-loop-c : goal.decreases-loop-c
-decreases-loop-c l = length l.flags - l.c
+invariant-loop-c l = (j : ℕ) → j < l.c → cell_good d3q19 (state_of 18 (lent l.flags l.parts l.masses l.fills (pos 0 ∷ []))) j ≡ true

@@ -1,12 +1,9 @@
 -- `checks::layer::first_in_row`: no cell of the row that was passed breaks the rule. Assumes nothing.
 use mathlib.Core.Path.{◌≡◌}
 use mathlib.Core.Bool.{false}
-use Prim.Native.Nat.{ℕ, ◌+◌, ◌-◌, ◌≤◌, ◌<◌}
+use Prim.Native.Nat.{ℕ, ◌+◌, ◌<◌}
 use Rattle.grid.proofs.Rows.{bad}
 use Rattle.checks.proofs.layer.first_in_row.Given as goal
 
 abbrev pub invariant-loop-x : goal.invariant-loop-x
-invariant-loop-x l = (l.x ≤ l.s.nx) × ((k : ℕ) → k < l.x → bad l.s l.flags (l.c + k) ≡ false)
-
-abbrev pub decreases-loop-x : goal.decreases-loop-x
-decreases-loop-x l = l.s.nx - l.x
+invariant-loop-x l = (k : ℕ) → k < l.x → bad l.s l.flags (l.c + k) ≡ false

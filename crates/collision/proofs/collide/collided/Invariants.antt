@@ -1,5 +1,5 @@
--- `collision::collide::collided`: pair by pair each part lands by its end, what the pairs leave of the density is part 0, and where every end
--- tells, each landing is the definition's. Assumes nothing.
+-- `collision::collide::collided`: each part lands by its end, what they leave of the density is part 0, and where every end tells, each landing is the
+-- definition's. Assumes nothing.
 use mathlib.Core.List.{List}
 use Prim.Native.Nat.{ℕ, ◌-◌}
 use lib.ListN.{get_or}
@@ -15,6 +15,3 @@ aimed e f c j = landed (get_or e (j - 1) 0) (parts_of f j) c
 
 abbrev pub invariant-loop-i : goal.invariant-loop-i
 invariant-loop-i l = Done (aimed l.e l.f l.c) l.initial.r l.a l.r l.i
-
-abbrev pub decreases-loop-i : goal.decreases-loop-i
-decreases-loop-i l = 19 - l.i

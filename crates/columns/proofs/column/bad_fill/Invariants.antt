@@ -1,12 +1,7 @@
 -- `columns::column::bad_fill`: the invariant is that no fill below height z is bad. Assumes nothing.
-use mathlib.Core.Path.{◌≡◌}
-use mathlib.Core.Bool.{false}
-use Prim.Native.Nat.{ℕ, ◌≤◌, ◌<◌, ◌-◌}
+use Rattle.std.proofs.Common.{◌≡◌, false, ℕ, ◌<◌}
 use Rattle.tunnel.specs.Depth.{fill_bad}
 use Rattle.columns.proofs.column.bad_fill.Given as goal
 
 abbrev pub invariant-loop-z : goal.invariant-loop-z
-invariant-loop-z l = (l.z ≤ l.nz) × ((j : ℕ) → j < l.z → fill_bad l.s l.fills l.x l.y j ≡ false)
-
-abbrev pub decreases-loop-z : goal.decreases-loop-z
-decreases-loop-z l = l.nz - l.z
+invariant-loop-z l = (j : ℕ) → j < l.z → fill_bad l.s l.fills l.x l.y j ≡ false

@@ -2,8 +2,7 @@
 use borrow.Author.Tests.{le-leb, lt-leb}
 use mathlib.Core.Path.{subst}
 use Prim.Native.Nat.{ℕ, ◌≤◌}
-use Rattle.tunnel.specs.Depth.{measured_of}
-use Rattle.tunnel.proofs.Cases.{is-refused}
+use Rattle.tunnel.specs.Depth.{measured_of, is-refused}
 use Rattle.columns.proofs.column.measured.Goals as goal
 
 pub returns-then-f-nz : goal.returns-then-f-nz

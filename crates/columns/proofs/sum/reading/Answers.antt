@@ -1,7 +1,6 @@
 -- `columns::sum::reading`: solid, dry, or the exact share of the sum. Assumes nothing.
 use borrow.Author.Tests.{eq-eqb, ne_eqb}
-use Rattle.tunnel.specs.Depth.{reading_of}
-use Rattle.tunnel.proofs.Cases.{is-solid, is-dry, is-deep}
+use Rattle.tunnel.specs.Depth.{reading_of, is-solid, is-dry, is-deep}
 use Rattle.columns.proofs.sum.reading.Goals as goal
 
 pub returns-then-solid : goal.returns-then-solid

@@ -1,9 +1,5 @@
 -- `depths::long::row_length`: what is counted, and the rest of the row, are the whole. Assumes nothing.
-use mathlib.Core.Path.{◌≡◌}
-use mathlib.Core.List.{List}
-use Prim.Native.Nat.{ℕ, ◌+◌, ◌-◌, ◌≤◌}
-use lib.IntN.{ℤ}
-use lib.ListN.{length}
+use Rattle.std.proofs.Common.{◌≡◌, List, ℕ, ℤ, ◌+◌, ◌-◌, length}
 use Rattle.grid.specs.declared.Sides.{Sides}
 use Rattle.depths.specs.Map.{depth_at, row_text}
 use Rattle.depths.proofs.long.row_length.Given as goal
@@ -13,8 +9,4 @@ abbrev pub values : Sides → ℕ → List ℕ → List ℕ → ℕ → ℕ → 
 values s edge flags fills y x = depth_at s edge flags fills x y
 
 abbrev pub invariant-loop-x : goal.invariant-loop-x
-invariant-loop-x l =
-    (l.x ≤ l.nx) × (l.long + length (row_text (values l.s l.edge l.flags l.fills l.y) l.x (l.nx - l.x)) ≡ length (row_text (values l.s l.edge l.flags l.fills l.y) 0 l.nx))
-
-abbrev pub decreases-loop-x : goal.decreases-loop-x
-decreases-loop-x l = l.nx - l.x
+invariant-loop-x l = l.long + length (row_text (values l.s l.edge l.flags l.fills l.y) l.x (l.nx - l.x)) ≡ length (row_text (values l.s l.edge l.flags l.fills l.y) 0 l.nx)

@@ -4,8 +4,8 @@ use mathlib.Core.Bool.{true}
 use Prim.Native.Nat.{ℕ}
 use native.Mathlib.Omega.{arith}
 use borrow.Author.Tests.{not-true, not-false}
-use Rattle.grid.specs.declared.Answer.{Answer}
-use Rattle.grid.specs.declared.Answer.TheVariants.{Done}
+use Rattle.grid.specs.Answer.{Answer}
+use Rattle.grid.specs.Answer.{Done}
 use Rattle.grid.specs.Grid.{sides_good, cells_of}
 use Rattle.grid.specs.State.{Lent, lent}
 use Rattle.grid.specs.Outcome.{or_refuse}
@@ -17,6 +17,7 @@ use Rattle.depths.proofs.writing.fit.Lts as lts
 use Rattle.depths.proofs.writing.fit.Reads as reads
 use Rattle.depths.proofs.writing.fit.Tie as tie
 use Rattle.depths.proofs.writing.fit.Goals as goal
+use Rattle.grid.specs.declared.refusals.Refusal.TheVariants.{BadLength, BadSetting, BadSides}
 
 abbrev At-Start : Type 0
 At-Start = lts.Start tie.the-claims reads.Pre reads.Post
@@ -35,10 +36,10 @@ abbrev good : At-Start → Answer
 good d = three_good d.args.s (set d) Done
 
 abbrev three : At-Start → Answer
-three d = or_refuse (corner_good d.args.t) 3 0 (good d)
+three d = or_refuse (corner_good d.args.t) (BadSetting 0) (good d)
 
 abbrev two : At-Start → Answer
-two d = or_refuse (three_lengths (cells_of d.args.s) (set d)) 2 0 (three d)
+two d = or_refuse (three_lengths (cells_of d.args.s) (set d)) BadLength (three d)
 
 -- what each test that held has shown
 sided : (c : At-Else-not-good_sides) → sides_good c.args.s ≡ true
@@ -49,7 +50,7 @@ unfolding three_lengths
 lengths-are c = let d = c in c.three_lengths.ensures ∙ ap (λ (n : ℕ). three_lengths n (set d.before.before.before.before.before.before)) c.cells-n.ensures
 
 pub returns-then-not-good_sides : goal.returns-then-not-good_sides
-returns-then-not-good_sides c = let d = c in sym (or-fail 1 0 (two d.before.before.before.before.before) (sym c.good_sides.ensures ∙ not-true _ c.if-not-good_sides.true-raw))
+returns-then-not-good_sides c = let d = c in sym (or-fail BadSides (two d.before.before.before.before.before) (sym c.good_sides.ensures ∙ not-true _ c.if-not-good_sides.true-raw))
 
 pub cells-n-requires : goal.cells-n-requires
 cells-n-requires c = sided c.before
@@ -59,14 +60,14 @@ unfolding cells_of
 three_lengths-requires c = let d = c in omega (arith, c.cells-n.ensures, (good-sides d.args.s (sided c.before.before)).all)
 
 pub returns-then-not-three_lengths : goal.returns-then-not-three_lengths
-returns-then-not-three_lengths c = let d = c in sym (or-pass 1 0 (two d.before.before.before.before.before.before.before.before) (sided c.before.before.before.before) ∙ or-fail 2 0 (three d.before.before.before.before.before.before.before.before) (sym (lengths-are c.before.before) ∙ not-true _ c.if-not-three_lengths.true-raw))
+returns-then-not-three_lengths c = let d = c in sym (or-pass BadSides (two d.before.before.before.before.before.before.before.before) (sided c.before.before.before.before) ∙ or-fail BadLength (three d.before.before.before.before.before.before.before.before) (sym (lengths-are c.before.before) ∙ not-true _ c.if-not-three_lengths.true-raw))
 
 pub returns-then-not-good_corner : goal.returns-then-not-good_corner
 returns-then-not-good_corner c =
     let d = c in
-    sym (or-pass 1 0 (two d.before.before.before.before.before.before.before.before.before.before) (sided c.before.before.before.before.before.before)
-    ∙ or-pass 2 0 (three d.before.before.before.before.before.before.before.before.before.before) (sym (lengths-are c.before.before.before.before) ∙ not-false _ c.if-not-three_lengths.false-raw)
-    ∙ or-fail 3 0 (good d.before.before.before.before.before.before.before.before.before.before) (sym c.good_corner.ensures ∙ not-true _ c.if-not-good_corner.true-raw))
+    sym (or-pass BadSides (two d.before.before.before.before.before.before.before.before.before.before) (sided c.before.before.before.before.before.before)
+    ∙ or-pass BadLength (three d.before.before.before.before.before.before.before.before.before.before) (sym (lengths-are c.before.before.before.before) ∙ not-false _ c.if-not-three_lengths.false-raw)
+    ∙ or-fail (BadSetting 0) (good d.before.before.before.before.before.before.before.before.before.before) (sym c.good_corner.ensures ∙ not-true _ c.if-not-good_corner.true-raw))
 
 pub checked-requires : goal.checked-requires
 checked-requires c =
@@ -76,6 +77,6 @@ pub returns : goal.returns
 returns c =
     let d = c in
     c.checked.ensures
-    ∙ sym (or-pass 1 0 (two d.before.before.before.before.before.before.before.before.before.before.before) (sided c.before.before.before.before.before.before.before)
-    ∙ or-pass 2 0 (three d.before.before.before.before.before.before.before.before.before.before.before) (sym (lengths-are c.before.before.before.before.before) ∙ not-false _ c.if-not-three_lengths.false-raw)
-    ∙ or-pass 3 0 (good d.before.before.before.before.before.before.before.before.before.before.before) (sym c.good_corner.ensures ∙ not-false _ c.if-not-good_corner.false-raw))
+    ∙ sym (or-pass BadSides (two d.before.before.before.before.before.before.before.before.before.before.before) (sided c.before.before.before.before.before.before.before)
+    ∙ or-pass BadLength (three d.before.before.before.before.before.before.before.before.before.before.before) (sym (lengths-are c.before.before.before.before.before) ∙ not-false _ c.if-not-three_lengths.false-raw)
+    ∙ or-pass (BadSetting 0) (good d.before.before.before.before.before.before.before.before.before.before.before) (sym c.good_corner.ensures ∙ not-false _ c.if-not-good_corner.false-raw))

@@ -1,6 +1,5 @@
 -- `excess::leaning::weights`: e·n of each direction, where positive and a target, stored direction by direction. Assumes nothing.
 use mathlib.Core.Path.{◌≡◌}
-use Prim.Native.Nat.{◌-◌, ◌≤◌}
 use lib.IntN.{pos}
 use lib.ListN.{length}
 use Rattle.whole.specs.laws.Tab.{Upto}
@@ -9,7 +8,4 @@ use Rattle.excess.proofs.Leans.{by_dots}
 use Rattle.excess.proofs.leaning.weights.Given as goal
 
 abbrev pub invariant-loop-i : goal.invariant-loop-i
-invariant-loop-i l = (1 ≤ l.i) × (l.i ≤ 19) × (length l.w ≡ 19) × Upto (pos 0) (of_dir (by_dots l.flags l.off l.k l.d)) l.w l.i
-
-abbrev pub decreases-loop-i : goal.decreases-loop-i
-decreases-loop-i l = 19 - l.i
+invariant-loop-i l = (length l.w ≡ 19) × Upto (pos 0) (of_dir (by_dots l.flags l.off l.k l.d)) l.w l.i

@@ -1,7 +1,6 @@
 -- `flow::relaxing::keeping`: the tension that the turbulent mode asks for, or none, which keeps every p. Assumes nothing.
 use mathlib.Core.Path.{◌≡◌}
 use mathlib.Core.Bool.{true}
-use lib.Signed.{◌≤ℤ◌}
 use mir.Syntax.{w64}
 use mir.Val.{to_z, of_z}
 use mir.Facts.{to_z-of_z}

@@ -1,7 +1,7 @@
 -- `flow::streaming::reflected` is what streams into a fluid cell. Each turn stores a pair: i is odd, so that its opposite is i + 1. Assumes nothing.
 use mathlib.Core.Path.{◌≡◌}
 use mathlib.Core.List.{[], List}
-use Prim.Native.Nat.{ℕ, ◌-◌, ◌%◌, ◌≤◌}
+use Prim.Native.Nat.{ℕ, ◌+◌, ◌*◌}
 use lib.IntN.{pos}
 use lib.ListN.{length}
 use Rattle.whole.specs.laws.Tab.{Upto}
@@ -10,9 +10,5 @@ use Rattle.grid.specs.Step.{streamed}
 use Rattle.grid.specs.inner.Sight.{box_sight}
 use Rattle.flow.proofs.streaming.reflected.Given as goal
 
-abbrev pub invariant-loop-i : goal.invariant-loop-i
-invariant-loop-i l =
-    (l.i % 2 ≡ 1) × (l.i ≤ 19) × (length l.f ≡ 19) × ((fills : List ℕ) (g : Settings) → Upto (pos 0) (streamed (box_sight l.flags l.parts [] fills l.off l.low g) l.c) l.f l.i)
-
-abbrev pub decreases-loop-i : goal.decreases-loop-i
-decreases-loop-i l = 19 - l.i
+abbrev pub invariant-loop-pair : goal.invariant-loop-pair
+invariant-loop-pair l = (length l.f ≡ 19) × ((fills : List ℕ) (g : Settings) → Upto (pos 0) (streamed (box_sight l.flags l.parts [] fills l.off l.low g) l.c) l.f (2 * l.pair + 1))

@@ -1,13 +1,9 @@
 -- `flow::streaming::sources` gives where each part that streams straight in lies: the mirrored offset is the opposite neighbour's. Assumes nothing.
 use mathlib.Core.Path.{◌≡◌}
-use Prim.Native.Nat.{◌-◌, ◌≤◌}
 use lib.ListN.{length}
 use Rattle.whole.specs.laws.Tab.{Upto}
 use Rattle.arrivals.specs.inner.Sources.{source_of}
 use Rattle.flow.proofs.streaming.sources.Given as goal
 
 abbrev pub invariant-loop-i : goal.invariant-loop-i
-invariant-loop-i l = (l.i ≤ 19) × (length l.f ≡ 19) × Upto 0 (source_of l.off) l.f l.i
-
-abbrev pub decreases-loop-i : goal.decreases-loop-i
-decreases-loop-i l = 19 - l.i
+invariant-loop-i l = (length l.f ≡ 19) × Upto 0 (source_of l.off) l.f l.i

@@ -1,6 +1,6 @@
 -- `flumeexcess::straying::new_carry9` is pass 5: the carry and what strayed from the cells passed. Assumes nothing.
 use mathlib.Core.Path.{◌≡◌}
-use Prim.Native.Nat.{◌+◌, ◌-◌, ◌≤◌}
+use Prim.Native.Nat.{◌-◌, ◌≤◌}
 use lib.IntN.{◌+ℤ◌}
 use lib.ListN.{length}
 use Rattle.whole.specs.Fold.{sum}

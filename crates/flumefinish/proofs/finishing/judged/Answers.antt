@@ -7,7 +7,7 @@ use lib.ListN.{length}
 use mir.Syntax.{w64}
 use mir.Facts.{to_z-of_z}
 use Rattle.lattice.specs.Lattice.{d2q9}
-use Rattle.grid.specs.declared.Answer.TheVariants.{Done, Refused}
+use Rattle.grid.specs.Answer.{Done}
 use Rattle.grid.specs.State.{Lent, lent, state_of}
 use Rattle.grid.specs.Good.{bad_rule}
 use Rattle.grid.proofs.Accepted.{skip}
@@ -17,6 +17,8 @@ use Rattle.flumefinish.proofs.finishing.judged.Lts as lts
 use Rattle.flumefinish.proofs.finishing.judged.Reads as reads
 use Rattle.flumefinish.proofs.finishing.judged.Tie as tie
 use Rattle.flumefinish.proofs.finishing.judged.Goals as goal
+use Rattle.grid.specs.declared.refusals.Refusal.TheVariants.{BadNext}
+use Rattle.std.specs.Prelude.{Err}
 
 abbrev At-Start : Type 0
 At-Start = lts.Start tie.the-claims reads.Pre reads.Post
@@ -48,10 +50,10 @@ pub returns-then-d-flags2 : goal.returns-then-d-flags2
 returns-then-d-flags2 c =
     let w : At-Start = search in
     let e = place (search) in
-    sym (stop (suc (length w.args.flags2.now)) 8 (broken w) Done (omega (arith, c.if-d-flags2.true)) ∙ ap (Refused 8) (sym e))
+    sym (stop (suc (length w.args.flags2.now)) BadNext (broken w) Done (omega (arith, c.if-d-flags2.true)) ∙ ap (λ (p : ℕ). Err (BadNext p)) (sym e))
 
 pub returns : goal.returns
 returns c =
     let w : At-Start = search in
     let e = place (search) in
-    sym (skip (suc (length w.args.flags2.now)) 8 (broken w) Done (omega (arith, c.if-d-flags2.false)))
+    sym (skip (suc (length w.args.flags2.now)) BadNext (broken w) Done (omega (arith, c.if-d-flags2.false)))

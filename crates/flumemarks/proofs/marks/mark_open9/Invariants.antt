@@ -7,6 +7,3 @@ use Rattle.flumemarks.proofs.marks.mark_open9.Given as goal
 
 abbrev pub invariant-loop-c : goal.invariant-loop-c
 invariant-loop-c l = Ranged 0 (λ c. open_mark (get_or l.flags c 0) (beside_at l.flags l.off (c - l.low) 3)) l.initial.marks l.low l.end l.marks l.c
-
-abbrev pub decreases-loop-c : goal.decreases-loop-c
-decreases-loop-c l = l.end - l.c

@@ -1,5 +1,4 @@
 -- `flumereading::content::cell_tests`: the flags as a part of the record pass to test 5, the numbers behind them to test 6. Assumes nothing.
-use borrow.Author.Rules.{rules}
 use mathlib.Core.Path.{◌≡◌, sym, ap, ap₂, ◌∙◌}
 use mathlib.Core.Bool.{Bool, not}
 use mathlib.Core.List.{List}
@@ -13,8 +12,8 @@ use mir.ValLaws.{to_z-of_z}
 use Rattle.whole.specs.Fold.{first}
 use Rattle.lattice.specs.Lattice.{d2q9}
 use Rattle.lattice.specs.Cell.{carry_good}
-use Rattle.grid.specs.declared.Answer.{Answer}
-use Rattle.grid.specs.declared.Answer.TheVariants.{Done, Refused}
+use Rattle.grid.specs.Answer.{Answer}
+use Rattle.grid.specs.Answer.{Done}
 use Rattle.flume.specs.Flume.{flume_sides_good, flume_cells, flume_grid}
 use Rattle.grid.specs.Good.{bad_fluid, bad_rule, cell_good, dry_good, interface_good, fluid_good, fill_good}
 use Rattle.grid.specs.Outcome.{if_none}
@@ -35,6 +34,8 @@ use Rattle.flumereading.proofs.content.cell_tests.Lts as lts
 use Rattle.flumereading.proofs.content.cell_tests.Reads as reads
 use Rattle.flumereading.proofs.content.cell_tests.Tie as tie
 use Rattle.flumereading.proofs.content.cell_tests.Goals as goal
+use Rattle.grid.specs.declared.refusals.Refusal.TheVariants.{BadLayer, BadState}
+use Rattle.std.specs.Prelude.{Err}
 
 abbrev At-After-cells-n : Type 0
 At-After-cells-n = lts.After-cells tie.the-claims reads.Pre reads.Post tie.handed_clauses
@@ -131,7 +132,7 @@ module _ (c : At-After-first_unfair-unfair) where
   place = bad_fluid 8 (flume_grid (flume_sides_in (r i))) (flume_flag_in (r i))
 
   abbrev six : Answer
-  six = if_none (suc n) 6 (bad_rule d2q9 n (flume_state_in (r i))) Done
+  six = if_none (suc n) BadState (bad_rule d2q9 n (flume_state_in (r i))) Done
 
   abbrev bad : ℕ → Bool
   bad k = not (fair_held d2q9 9 (r i) (flume_flags_in (r i)) (end i + 4) (end i + 8 + 4 * i.interface_cells-i.result) k)
@@ -194,10 +195,10 @@ returns-then-open-n c =
     let fl = before-open o.before.before in
     let q = (start fl).args.rec.now in
     let fluid = bad_fluid 8 (flume_grid (flume_sides_in q)) (flume_flag_in q) in
-    let rest = if_none (suc (flume_cells_in q)) 6 (bad_rule d2q9 (flume_cells_in q) (flume_state_in q)) Done in
+    let rest = if_none (suc (flume_cells_in q)) BadState (bad_rule d2q9 (flume_cells_in q) (flume_state_in q)) Done in
     let e = opened o.before.before in
     let h : fluid < flume_cells_in q = omega (arith, e, c.if-open-n.true, cells_are fl) in
-    ap (Refused 5) e ∙ sym (stop (flume_cells_in q) 5 fluid rest h)
+    ap (λ (p : ℕ). Err (BadLayer p)) e ∙ sym (stop (flume_cells_in q) BadLayer fluid rest h)
 
 pub overflow_add-end-2 : goal.overflow_add-end-2
 overflow_add-end-2 c = record { fits = omega (arith, small (f c.before)) }
@@ -221,8 +222,8 @@ returns-then-unfair-n c =
     let e = found u.before.before in
     let h : first (n u.before.before) (bad u.before.before) < n u.before.before = omega (arith, e, cells_are (f (i u.before.before)), c.if-unfair-n.true) in
     let b = bad-cell d2q9 (n u.before.before) (flume_state_in (r (i u.before.before))) (bad u.before.before) (rules-told u.before.before) h in
-    ap (Refused 6) (e ∙ sym b)
-    ∙ sym (skip (n u.before.before) 5 (place u.before.before) (six u.before.before) (shut u.before.before) ∙ stop (suc (n u.before.before)) 6 (bad_rule d2q9 (n u.before.before) (flume_state_in (r (i u.before.before)))) Done (omega (arith, b, h)))
+    ap (λ (p : ℕ). Err (BadState p)) (e ∙ sym b)
+    ∙ sym (skip (n u.before.before) BadLayer (place u.before.before) (six u.before.before) (shut u.before.before) ∙ stop (suc (n u.before.before)) BadState (bad_rule d2q9 (n u.before.before) (flume_state_in (r (i u.before.before)))) Done (omega (arith, b, h)))
 
 pub i64_at-requires : goal.i64_at-requires
 i64_at-requires c = let q = i c.before.before in omega (arith, (d q).requires.flume_sound.flags.inside)
@@ -232,12 +233,12 @@ returns-then-not-fair_carry c =
     let v = unfair c.before.before in
     let u = v.before in
     let b = bad-carry d2q9 (n u) (flume_state_in (r (i u))) (bad u) (rules-told u) (fair v) (sym (carry-is c.before.before) ∙ not-true _ c.if-not-fair_carry.true-raw) in
-    ap (Refused 6) (cells_are (f (i u)) ∙ sym b)
-    ∙ sym (skip (n u) 5 (place u) (six u) (shut u) ∙ stop (suc (n u)) 6 (bad_rule d2q9 (n u) (flume_state_in (r (i u)))) Done (omega (arith, b)))
+    ap (λ (p : ℕ). Err (BadState p)) (cells_are (f (i u)) ∙ sym b)
+    ∙ sym (skip (n u) BadLayer (place u) (six u) (shut u) ∙ stop (suc (n u)) BadState (bad_rule d2q9 (n u) (flume_state_in (r (i u)))) Done (omega (arith, b)))
 
 pub returns : goal.returns
 returns c =
     let v = unfair c.before.before in
     let u = v.before in
     let b = none-bad d2q9 (n u) (flume_state_in (r (i u))) (bad u) (rules-told u) (fair v) (sym (carry-is c.before.before) ∙ not-false _ c.if-not-fair_carry.false-raw) in
-    sym (skip (n u) 5 (place u) (six u) (shut u) ∙ skip (suc (n u)) 6 (bad_rule d2q9 (n u) (flume_state_in (r (i u)))) Done (omega (arith, b)))
+    sym (skip (n u) BadLayer (place u) (six u) (shut u) ∙ skip (suc (n u)) BadState (bad_rule d2q9 (n u) (flume_state_in (r (i u)))) Done (omega (arith, b)))

@@ -4,7 +4,7 @@ use Prim.Native.Nat.{suc}
 use borrow.Author.Tests.{not-true, not-false}
 use Rattle.lattice.specs.Lattice.{d2q9}
 use Rattle.flume.specs.declared.FlumeSettings.{FlumeSettings}
-use Rattle.grid.specs.declared.Answer.TheVariants.{Done}
+use Rattle.grid.specs.Answer.{Done}
 use Rattle.flume.specs.Flume.{flume_grid}
 use Rattle.grid.specs.Good.{bad_fluid, bad_rule}
 use Rattle.grid.specs.Outcome.{if_none}
@@ -16,6 +16,7 @@ use Rattle.flumereading.proofs.content.content.Lts as lts
 use Rattle.flumereading.proofs.content.content.Reads as reads
 use Rattle.flumereading.proofs.content.content.Tie as tie
 use Rattle.flumereading.proofs.content.content.Goals as goal
+use Rattle.grid.specs.declared.refusals.Refusal.TheVariants.{BadLayer, BadSetting, BadState}
 
 abbrev At-After-good_site : Type 0
 At-After-good_site = lts.After-good_site tie.the-claims reads.Pre reads.Post tie.handed_clauses
@@ -31,13 +32,13 @@ unfolding flume_content
 returns-then-not-good_site c =
     let r = c.args.rec.now in
     let n = flume_cells_in r in
-    let five = if_none n 5 (bad_fluid 8 (flume_grid (flume_sides_in r)) (flume_flag_in r)) (if_none (suc n) 6 (bad_rule d2q9 n (flume_state_in r)) Done) in
-    sym (or-fail 3 0 five (sym (site-is c.before.before) ∙ not-true _ c.if-not-good_site.true-raw))
+    let five = if_none n BadLayer (bad_fluid 8 (flume_grid (flume_sides_in r)) (flume_flag_in r)) (if_none (suc n) BadState (bad_rule d2q9 n (flume_state_in r)) Done) in
+    sym (or-fail (BadSetting 0) five (sym (site-is c.before.before) ∙ not-true _ c.if-not-good_site.true-raw))
 
 pub returns : goal.returns
 unfolding flume_content
 returns c =
     let r = c.args.rec.now in
     let n = flume_cells_in r in
-    let five = if_none n 5 (bad_fluid 8 (flume_grid (flume_sides_in r)) (flume_flag_in r)) (if_none (suc n) 6 (bad_rule d2q9 n (flume_state_in r)) Done) in
-    c.cell_tests.ensures ∙ sym (or-pass 3 0 five (sym (site-is c.before.before.before) ∙ not-false _ c.if-not-good_site.false-raw))
+    let five = if_none n BadLayer (bad_fluid 8 (flume_grid (flume_sides_in r)) (flume_flag_in r)) (if_none (suc n) BadState (bad_rule d2q9 n (flume_state_in r)) Done) in
+    c.cell_tests.ensures ∙ sym (or-pass (BadSetting 0) five (sym (site-is c.before.before.before) ∙ not-false _ c.if-not-good_site.false-raw))

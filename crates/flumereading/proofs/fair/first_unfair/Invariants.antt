@@ -1,8 +1,7 @@
 -- `flumereading::fair::first_unfair`: every cell passed keeps its rules, and the places advance as the counts do. Assumes nothing.
 use mathlib.Core.Path.{◌≡◌}
 use mathlib.Core.Bool.{true}
-use Prim.Native.Nat.{ℕ, ◌+◌, ◌*◌, ◌-◌, ◌≤◌, ◌<◌}
-use lib.ListN.{length}
+use Prim.Native.Nat.{ℕ, ◌+◌, ◌*◌, ◌<◌}
 use Rattle.lattice.specs.Lattice.{d2q9}
 use Rattle.grid.specs.State.{flag_of}
 use Rattle.record.specs.Layout.{interfaces, liquids}
@@ -11,10 +10,6 @@ use Rattle.flumereading.proofs.fair.first_unfair.Given as goal
 
 abbrev pub invariant-loop-c : goal.invariant-loop-c
 invariant-loop-c l =
-    (l.c ≤ length l.flags)
-    × (l.m ≡ l.masses + 4 * interfaces l.c (flag_of l.flags))
+    (l.m ≡ l.masses + 4 * interfaces l.c (flag_of l.flags))
     × (l.p ≡ l.parts + 36 * liquids l.c (flag_of l.flags))
     × ((j : ℕ) → j < l.c → fair_held d2q9 9 l.rec l.flags l.masses l.parts j ≡ true)
-
-abbrev pub decreases-loop-c : goal.decreases-loop-c
-decreases-loop-c l = length l.flags - l.c

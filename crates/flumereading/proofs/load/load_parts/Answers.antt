@@ -1,15 +1,6 @@
-use mathlib.Core.Path.{◌≡◌, refl, ap, ap₂, ◌∙◌, subst}
-use mathlib.Core.Bool.{Bool, true, false, cond}
-use mathlib.Core.List.{List}
-use Prim.Native.Nat.{ℕ, ◌+◌, ◌*◌, ◌-◌, ◌/◌, ◌%◌, ◌≤◌, ◌<◌}
-use native.Mathlib.Omega.{arith}
-use lib.Dec.{eqb}
-use lib.IntN.{pos}
-use lib.ListN.{length, get_or, length-set}
+use Rattle.std.proofs.Common.{◌≡◌, refl, ap, ap₂, ◌∙◌, subst, Bool, true, false, cond, eqb, List, ℕ, ◌+◌, ◌*◌, ◌/◌, ◌%◌, ◌≤◌, ◌<◌, pos, length, get_or, w32, arith, rules}
 use borrow.Author.Tests.{eqb-true, eqb-false}
-use mir.Syntax.{w32}
 use mir.Val.{to_z, of_z}
-use mir.ValLaws.{to_z-of_z}
 use Rattle.whole.specs.Fold.{count}
 use Rattle.whole.specs.laws.Tab.{Upto, upto_zero, upto-more, upto_all}
 use Rattle.grid.specs.State.{by_flag, liquid, flag_of}
@@ -18,26 +9,12 @@ use Rattle.record.specs.Bytes.{i32_at}
 use Rattle.record.specs.Layout.{liquids}
 use Rattle.record.proofs.Gathered.{liquids-more, liquids-le}
 use Rattle.flumereading.proofs.load.load_parts.Invariants.{held}
-use Rattle.flumereading.proofs.load.load_parts.Lts as lts
-use Rattle.flumereading.proofs.load.load_parts.Reads as reads
-use Rattle.flumereading.proofs.load.load_parts.Tie as tie
 use Rattle.flumereading.proofs.load.load_parts.Goals as goal
 
-abbrev At-After-shared_slice_known-in-loop-m-1 : Type 0
-At-After-shared_slice_known-in-loop-m-1 = lts.After-shared_slice_known3 tie.the-claims reads.Pre reads.Post goal.the-invariant-loop-m goal.the-decreases-loop-m tie.handed_clauses
-
--- the parts up to this cell, this one's too, are in the record
-here : (c : At-After-shared_slice_known-in-loop-m-1) → c.loop-m.m / 9 < length c.args.flags.now
-here c = let h = c.loop-m-test.true in let e = c.loop-m.invariant.1 in let p = c.requires.parts_len in omega arith
-
-inside : (c : At-After-shared_slice_known-in-loop-m-1)
-    → c.loop-m.at + 36 * cond (liquid (get_or c.args.flags.now (c.loop-m.m / 9) 0)) 1 0 ≤ length c.args.rec.now
-inside c =
-    let l = c in
-    let d = c in
-    let s = d.args.flags.now in
-    let k = l.loop-m.m / 9 in
-    omega (arith, liquids-more s k (here c), liquids-le (k + 1) (length s) (flag_of s) (let h = here c in omega arith), d.requires.flags_in_bounds, l.loop-m.invariant.2)
+-- the parts up to cell k, its too, are in the record
+inside : (flags : List ℕ) (from at n k : ℕ) → k < length flags → at ≡ from + 36 * liquids k (flag_of flags) → from + 36 * liquids (length flags) (flag_of flags) ≤ n
+    → at + 36 * cond (liquid (get_or flags k 0)) 1 0 ≤ n
+inside flags from at n k h e b = omega (arith, liquids-more flags k h, liquids-le (k + 1) (length flags) (flag_of flags) (omega arith))
 
 -- the count goes on behind a cell's last part
 advance : (flags : List ℕ) (m : ℕ) → m / 9 < length flags
@@ -63,69 +40,37 @@ advance flags m h = go (eqb (m % 9) 8) refl
 
 pub loop-m-init : goal.loop-m-init
 unfolding liquids count
-loop-m-init c =
-    let a = c.args in
-    (omega arith, refl, omega arith, upto_zero (pos 0) (held a.rec.now a.flags.now a.from) a.parts.now)
-
-pub bounds-flags-m : goal.bounds-flags-m
-bounds-flags-m c = let h = c.loop-m-test.true in let e = c.loop-m.invariant.1 in let p = c.requires.parts_len in omega arith
-
-pub overflow_mul-k : goal.overflow_mul-k
-overflow_mul-k c = record { fits = omega arith }
+loop-m-init c = (omega arith, upto_zero (pos 0) (held c.args.rec.now c.args.flags.now c.args.from) c.args.parts.now)
 
 pub overflow_add-at : goal.overflow_add-at
-overflow_add-at c = record { fits = omega (arith, inside c.before, c.requires.rec_len_bound) }
+overflow_add-at c = let a = c.args in
+    omega (arith, inside a.flags.now a.from c.loop-m.at (length a.rec.now) (c.loop-m.m / 9) (omega (arith, c.requires.parts_len)) c.loop-m.invariant.0 c.requires.flags_in_bounds, c.requires.rec_len_bound)
 
-pub held_part-x-requires : goal.held_part-x-requires
-held_part-x-requires c e =
-    let one : ◌≡◌ {A = ℕ} (cond (liquid (get_or c.args.flags.now (c.loop-m.m / 9) 0)) 1 0) 1 = ap (λ (b : Bool). cond {A = ℕ} b 1 0) e in
-    omega (arith, inside c.before, one)
-
-pub offset_bounds-parts-m : goal.offset_bounds-parts-m
-offset_bounds-parts-m c = record { fits = omega (arith, c.well_formed.1.1.1.0, c.loop-m.invariant.1, c.loop-m-test.true) }
-
-pub bounds-parts-m : goal.bounds-parts-m
-bounds-parts-m c = omega (arith, c.loop-m-test.true)
+pub held_part-requires : goal.held_part-requires
+held_part-requires c e = let a = c.args in
+    let one : ◌≡◌ {A = ℕ} (cond (liquid (get_or a.flags.now (c.loop-m.m / 9) 0)) 1 0) 1 = ap (λ (b : Bool). cond {A = ℕ} b 1 0) e in
+    omega (arith, inside a.flags.now a.from c.loop-m.at (length a.rec.now) (c.loop-m.m / 9) (omega (arith, c.requires.parts_len)) c.loop-m.invariant.0 c.requires.flags_in_bounds, one)
 
 pub next_at-at-requires : goal.next_at-at-requires
-next_at-at-requires c = omega (arith, inside c.before.before, c.requires.rec_len_bound)
-
-pub overflow_add-m : goal.overflow_add-m
-overflow_add-m c = record { fits = omega arith }
-
-pub loop-m-smaller : goal.loop-m-smaller
-loop-m-smaller c = omega (arith, c.loop-m-test.true, c.loop-m.invariant.1)
+next_at-at-requires c = let a = c.args in
+    omega (arith, inside a.flags.now a.from c.loop-m.at (length a.rec.now) (c.loop-m.m / 9) (omega (arith, c.requires.parts_len)) c.loop-m.invariant.0 c.requires.flags_in_bounds, c.requires.rec_len_bound)
 
 pub loop-m-preserved : goal.loop-m-preserved
-loop-m-preserved c =
-    let l = c in
-    let d = c in
-    let r = d.args.rec.now in
-    let s = d.args.flags.now in
-    let m = l.loop-m.m in
-    let p = l.loop-m.parts in
-    let h = c.loop-m-test.true in
-    let x = c.held_part-x in
-    let e = length-set p m (to_z w32 (of_z w32 x.result)) in
-    let f = here c.before.before.before in (
-      omega (arith, e, h),
-      e ∙ l.loop-m.invariant.1,
-      c.next_at-at.ensures ∙ omega (arith, l.loop-m.invariant.2, advance s m f),
-      upto-more (pos 0) (held r s d.args.from) p m _ h l.loop-m.invariant.3
-          (to_z-of_z w32 x.result (record { sfits = x.type_inv }) ∙ x.ensures
-          ∙ ap₂ (λ (g i : ℕ). by_flag g (pos 0) (i32_at r i) (i32_at r i) (pos 0)) (get_or-there s (m / 9) 0 3 f)
-          (let q : l.loop-m.at + 4 * (m % 9) ≡ d.args.from + 4 * (9 * liquids (m / 9) (flag_of s) + m % 9) = omega (arith, l.loop-m.invariant.2) in q)),
+loop-m-preserved c = let a = c.args in
+    let r = a.rec.now in
+    let s = a.flags.now in
+    let m = c.loop-m.m in
+    let f : m / 9 < length s = omega (arith, c.requires.parts_len) in
+    let at : c.loop-m.at + 4 * (m % 9) ≡ a.from + 4 * (9 * liquids (m / 9) (flag_of s) + m % 9) = omega (arith, c.loop-m.invariant.0) in
+    let x : to_z w32 (of_z w32 c.held_part.result) ≡ c.held_part.result = search rules in (
+      c.next_at-at.ensures ∙ omega (arith, c.loop-m.invariant.0, advance s m f),
+      upto-more (pos 0) (held r s a.from) c.loop-m.parts m _ (omega arith) c.loop-m.invariant.1
+          (x ∙ c.held_part.ensures ∙ ap₂ (λ (g i : ℕ). by_flag g (pos 0) (i32_at r i) (i32_at r i) (pos 0)) (get_or-there s (m / 9) 0 3 f) at),
     )
 
-pub shape_of-parts : goal.shape_of-parts
-shape_of-parts c = c.loop-m.invariant.1
-
 pub returns : goal.returns
-returns c =
-    let d = c in
-    let s = d.args.flags.now in
-    let l = c in
-    let n = l.loop-m.invariant.1 ∙ d.requires.parts_len in
-    let e : l.loop-m.m ≡ 9 * length s = omega (arith, n, l.loop-m.invariant.0) in
-    upto_all (pos 0) (held d.args.rec.now s d.args.from) l.loop-m.parts (9 * length s) n
-    (subst (λ (k : ℕ). Upto (pos 0) (held d.args.rec.now s d.args.from) l.loop-m.parts k) e l.loop-m.invariant.3)
+returns c = let a = c.args in
+    let s = a.flags.now in
+    let n : length c.loop-m.parts ≡ 9 * length s = omega (arith, c.requires.parts_len) in
+    let e : c.loop-m.m ≡ 9 * length s = omega (arith, n) in
+    upto_all (pos 0) (held a.rec.now s a.from) c.loop-m.parts (9 * length s) n (subst (λ (k : ℕ). Upto (pos 0) (held a.rec.now s a.from) c.loop-m.parts k) e c.loop-m.invariant.1)

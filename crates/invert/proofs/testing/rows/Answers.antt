@@ -1,5 +1,5 @@
 -- `invert::testing::rows` is the test of the rows, from the line behind the header on. Assumes nothing.
-use mathlib.Core.Path.{sym, ap, ◌∙◌}
+use mathlib.Core.Path.{ap, ◌∙◌}
 use mathlib.Core.List.{List}
 use Prim.Native.Nat.{ℕ, ◌≤◌}
 use native.Mathlib.Omega.{arith}
@@ -15,12 +15,12 @@ test_rows-requires c =
     let h : 7 ≤ c.line_at-at.result = omega (arith, length-drop c.line_at-at.result s, ap length e.rest, e.inside, c.requires.text_in_bounds) in
     record { at_in_bounds = e.inside; line_le_at = h; le_n = c.requires.le_nx }
 
-pub returns-in-Fine : goal.returns-in-Fine
-returns-in-Fine c =
+pub returns-in-Ok : goal.returns-in-Ok
+returns-in-Ok c =
     let a = c.args in
-    ap rows_answer (sym c.in-Fine.is ∙ c.test_rows.ensures ∙ ap (λ (t : List ℕ). rows_of a.ny a.nx t 7) c.line_at-at.ensures.rest)
+    ap rows_answer (c.in-Ok.ensures ∙ ap (λ (t : List ℕ). rows_of a.ny a.nx t 7) c.line_at-at.ensures.rest)
 
-pub returns-in-Unfit : goal.returns-in-Unfit
-returns-in-Unfit c =
+pub returns-in-Err : goal.returns-in-Err
+returns-in-Err c =
     let a = c.args in
-    ap rows_answer (sym c.in-Unfit.is ∙ c.test_rows.ensures ∙ ap (λ (t : List ℕ). rows_of a.ny a.nx t 7) c.line_at-at.ensures.rest)
+    ap rows_answer (c.in-Err.ensures ∙ ap (λ (t : List ℕ). rows_of a.ny a.nx t 7) c.line_at-at.ensures.rest)

@@ -1,8 +1,7 @@
 -- `joins::joining::split` leaves the own flags: cell by cell. Assumes nothing.
-use mathlib.Core.Path.{◌≡◌}
 use mathlib.Core.List.{List}
-use Prim.Native.Nat.{ℕ, ◌-◌, ◌≤◌}
-use lib.ListN.{length, get_or}
+use Prim.Native.Nat.{ℕ}
+use lib.ListN.{get_or}
 use Rattle.whole.specs.laws.Tab.{Upto}
 use Rattle.schemes.specs.Scheme.{own_flag}
 use Rattle.joins.proofs.joining.split.Given as goal
@@ -11,7 +10,4 @@ abbrev pub here : List ℕ → ℕ → ℕ
 here grid c = own_flag (get_or grid c 3)
 
 abbrev pub invariant-loop-c : goal.invariant-loop-c
-invariant-loop-c l = (l.c ≤ length l.grid) × (length l.own ≡ length l.initial.own) × Upto 0 (here l.grid) l.own l.c
-
-abbrev pub decreases-loop-c : goal.decreases-loop-c
-decreases-loop-c l = length l.grid - l.c
+invariant-loop-c l = Upto 0 (here l.grid) l.own l.c

@@ -1,13 +1,9 @@
--- `lattice::rules::all_inside`: part 0, then pair by pair. Assumes nothing.
+-- `lattice::rules::all_inside`: whether each of the parts so far is in range. Assumes nothing.
 use mathlib.Core.Path.{◌≡◌}
-use Prim.Native.Nat.{◌-◌, ◌%◌, ◌≤◌}
 use Rattle.whole.specs.Fold.{all}
 use Rattle.lattice.specs.inner.Held.{parts_of}
 use Rattle.lattice.specs.Cell.{part_good}
 use Rattle.lattice.proofs.rules.all_inside.Given as goal
 
-abbrev pub invariant-loop-i : goal.invariant-loop-i
-invariant-loop-i l = (l.i ≤ 19) × (l.i % 2 ≡ 1) × (l.w ≡ all l.i (λ k. part_good (parts_of l.f k)))
-
-abbrev pub decreases-loop-i : goal.decreases-loop-i
-decreases-loop-i l = 19 - l.i
+abbrev pub invariant-loop-v : goal.invariant-loop-v
+invariant-loop-v l = l.w ≡ all l.v-index (λ k. part_good (parts_of l.v-items k))

@@ -1,5 +1,5 @@
 -- `nine::cells::quieted` copies the nine parts to their places: each turn stores one more, and the idle ones are 0 in both. Assumes nothing.
-use Prim.Native.Nat.{ℕ, ◌-◌}
+use Prim.Native.Nat.{ℕ}
 use lib.IntN.{pos}
 use lib.ListN.{get_or}
 use Rattle.flume.specs.inner.Spread.{wide}
@@ -8,6 +8,3 @@ use Rattle.nine.proofs.cells.quieted.Given as goal
 
 abbrev pub invariant-loop-k : goal.invariant-loop-k
 invariant-loop-k l = Filled (λ (j : ℕ). get_or l.v (wide j) (pos 0)) l.r l.k
-
-abbrev pub decreases-loop-k : goal.decreases-loop-k
-decreases-loop-k l = 9 - l.k

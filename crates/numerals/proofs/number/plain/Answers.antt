@@ -1,11 +1,11 @@
 -- `numerals::number::plain`: the digits, then what follows them. Assumes nothing.
+use Rattle.std.proofs.Common.{Some}
 use mathlib.Core.Path.{◌≡◌, sym, ap, ◌∙◌}
 use mathlib.Core.Bool.{true}
 use borrow.Author.Tests.{not-true, not-false}
 use native.Mathlib.Omega.{arith}
 use Prim.Native.Nat.{◌+◌, ◌*◌}
 use Rattle.numerals.specs.declared.text.Kind.TheVariants.{Digit}
-use Rattle.numerals.specs.declared.number.Magnitude.TheVariants.{Amount}
 use Rattle.numerals.specs.Text.{of_kind, run}
 use Rattle.numerals.specs.Number.{ends_well, value_to, thousandths_at}
 use Rattle.numerals.proofs.Digits.{plain-few, plain-many, plain_other, plain-so, value-small, thousandths-lt}
@@ -60,4 +60,4 @@ returns c =
     let v : c.value.result ≡ value_to w k = c.value.ensures ∙ ap (value_to w) e in
     let t : c.thousandths.result ≡ thousandths_at w k = c.thousandths.ensures ∙ ap (thousandths_at w) e in
     let s : 1000 * c.value.result + c.thousandths.result ≡ 1000 * value_to w k + thousandths_at w k = omega (arith, v, t) in
-    ap Amount s ∙ plain-so w (omega (arith, e)) (omega (arith, e)) (sym (ap (ends_well w) e) ∙ good c.before.before.before)
+    ap Some s ∙ plain-so w (omega (arith, e)) (omega (arith, e)) (sym (ap (ends_well w) e) ∙ good c.before.before.before)

@@ -1,12 +1,7 @@
 -- `numerals::text::past`: what is left of the run, and what was passed, is the run. Assumes nothing.
-use mathlib.Core.Path.{◌≡◌}
-use Prim.Native.Nat.{◌+◌, ◌-◌, ◌≤◌}
-use lib.ListN.{length, drop}
+use Rattle.std.proofs.Common.{◌≡◌, ◌+◌, drop}
 use Rattle.numerals.specs.Text.{of_kind, run}
 use Rattle.numerals.proofs.text.past.Given as goal
 
 abbrev pub invariant-loop-i : goal.invariant-loop-i
-invariant-loop-i l = (l.i ≤ length l.s) × (l.i + run (of_kind l.k) (drop l.i l.s) ≡ l.at + run (of_kind l.k) (drop l.at l.s))
-
-abbrev pub decreases-loop-i : goal.decreases-loop-i
-decreases-loop-i l = length l.s - l.i
+invariant-loop-i l = l.i + run (of_kind l.k) (drop l.i l.s) ≡ l.at + run (of_kind l.k) (drop l.at l.s)

@@ -1,11 +1,6 @@
 -- `pools::flood::flood`: every liquid cell below c has its mark. Assumes nothing.
-use Prim.Native.Nat.{◌-◌, ◌≤◌}
-use lib.ListN.{length}
 use Rattle.pools.specs.inner.Flood.{Flooded}
 use Rattle.pools.proofs.flood.flood.Given as goal
 
 abbrev pub invariant-loop-c : goal.invariant-loop-c
-invariant-loop-c l = (l.c ≤ length l.flags) × Flooded l.s l.flags l.marks l.work l.c l.found.tail l.found.pools
-
-abbrev pub decreases-loop-c : goal.decreases-loop-c
-decreases-loop-c l = length l.flags - l.c
+invariant-loop-c l = Flooded l.s l.flags l.marks l.work l.c l.found.tail l.found.pools

@@ -10,7 +10,7 @@ use mir.Facts.{to_z-of_z}
 use Rattle.whole.specs.laws.Machine.{Within, known, v+, does-fit}
 use Rattle.pumps.specs.Acts.{amount_good, moved_of, mass_of}
 use Rattle.pumps.proofs.Amounts.{held}
-use Rattle.pumps.proofs.Effects.{lt_not_le, mass-in, bad-amount, bad-mass, bad-total, all-good, moved_in, no-effect}
+use Rattle.pumps.proofs.Effects.{lt_not_le, mass-in, bad-amount, bad-mass, bad-total, all-good, moved_in, no-effect, an-effect}
 use Rattle.pumps.proofs.effect.effect.Lts as lts
 use Rattle.pumps.proofs.effect.effect.Reads as reads
 use Rattle.pumps.proofs.effect.effect.Tie as tie
@@ -102,9 +102,6 @@ pub returns : goal.returns
 returns c =
     let d = c in
     let a = (start d.before.before.before).args in
-    record {
-      good-is = all-good a.pour a.amount a.mass a.total (good d.before.before.before.before.before) (light c.before) (not-false _ (sym (lt_not_le (pos 1000000000000000) (a.total +ℤ t d.before.before.before)) ∙ (rw (sum_is d.before.before.before) at c.if-sum-gt1000000000000000.false)));
-      moved-is = λ e. moved-is d.before.before.before;
-      mass-is = λ e. to_z-of_z (overflow_cast-result c) ∙ after_is c.before.before;
-      total-is = λ e. sum_is d.before.before.before;
-    }
+    an-effect a.pour a.amount a.mass a.total
+    (all-good a.pour a.amount a.mass a.total (good d.before.before.before.before.before) (light c.before) (not-false _ (sym (lt_not_le (pos 1000000000000000) (a.total +ℤ t d.before.before.before)) ∙ (rw (sum_is d.before.before.before) at c.if-sum-gt1000000000000000.false))))
+    (moved-is d.before.before.before) (to_z-of_z (overflow_cast-result c) ∙ after_is c.before.before) (sum_is d.before.before.before)

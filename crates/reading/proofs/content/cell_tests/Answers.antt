@@ -1,5 +1,4 @@
 -- `reading::content::cell_tests`: the flags as a part of the record pass to test 5, the numbers behind them to test 6. Assumes nothing.
-use borrow.Author.Rules.{rules}
 use mathlib.Core.Path.{◌≡◌, sym, ap, ap₂, ◌∙◌}
 use mathlib.Core.Bool.{Bool, not}
 use mathlib.Core.List.{List}
@@ -13,8 +12,8 @@ use mir.ValLaws.{to_z-of_z}
 use Rattle.whole.specs.Fold.{first}
 use Rattle.lattice.specs.Lattice.{d3q19}
 use Rattle.lattice.specs.Cell.{carry_good}
-use Rattle.grid.specs.declared.Answer.{Answer}
-use Rattle.grid.specs.declared.Answer.TheVariants.{Done, Refused}
+use Rattle.grid.specs.Answer.{Answer}
+use Rattle.grid.specs.Answer.{Done}
 use Rattle.grid.specs.Grid.{sides_good, cells_of, grid_of}
 use Rattle.grid.specs.Good.{bad_fluid, bad_rule, cell_good}
 use Rattle.grid.specs.Outcome.{or_refuse, if_none}
@@ -32,6 +31,8 @@ use Rattle.reading.proofs.content.cell_tests.Lts as lts
 use Rattle.reading.proofs.content.cell_tests.Reads as reads
 use Rattle.reading.proofs.content.cell_tests.Tie as tie
 use Rattle.reading.proofs.content.cell_tests.Goals as goal
+use Rattle.grid.specs.declared.refusals.Refusal.TheVariants.{BadLayer, BadState}
+use Rattle.std.specs.Prelude.{Err}
 
 abbrev At-After-cells-n : Type 0
 At-After-cells-n = lts.After-cells tie.the-claims reads.Pre reads.Post tie.handed_clauses
@@ -132,10 +133,10 @@ module _ (c : At-After-first_unfair-unfair) where
   place = bad_fluid 18 (grid_of (sides_in (r i))) (flag_in (r i))
 
   abbrev last : Answer
-  last = or_refuse (totals_good (poured_in (r i)) (taken_in (r i))) 6 n Done
+  last = or_refuse (totals_good (poured_in (r i)) (taken_in (r i))) (BadState n) Done
 
   abbrev six : Answer
-  six = if_none (suc n) 6 (bad_rule d3q19 n (state_in (r i))) last
+  six = if_none (suc n) BadState (bad_rule d3q19 n (state_in (r i))) last
 
   abbrev bad : ℕ → Bool
   bad k = not (fair_at (r i) (flags_in (r i)) (end i + 4) (end i + 8 + 4 * i.interface_cells-i.result) k)
@@ -179,10 +180,10 @@ module _ (c : At-Else-not-fair_carry) where
   u = (unfair c.before).before
 
   -- what is left to answer is the totals'
-  on-to-last : last u ≡ if_none (n u) 5 (place u) (six u)
+  on-to-last : last u ≡ if_none (n u) BadLayer (place u) (six u)
   on-to-last =
       let b = none-bad d3q19 (n u) (state_in (r (i u))) (bad u) (rules-told u) (fair (unfair c.before)) (sym (carry-is c.before) ∙ not-false _ c.if-not-fair_carry.false-raw) in
-      sym (skip (n u) 5 (place u) (six u) (shut u) ∙ skip (suc (n u)) 6 (bad_rule d3q19 (n u) (state_in (r (i u)))) (last u) (omega (arith, b)))
+      sym (skip (n u) BadLayer (place u) (six u) (shut u) ∙ skip (suc (n u)) BadState (bad_rule d3q19 (n u) (state_in (r (i u)))) (last u) (omega (arith, b)))
 
 totals-are : (c : At-After-good_totals) → let q = r (i (u (carried c))) in c.good_totals.result ≡ totals_good (poured_in q) (taken_in q)
 unfolding poured_in taken_in
@@ -222,10 +223,10 @@ returns-then-open-n c =
     let fl = before-open o.before.before in
     let q = (start fl).args.rec.now in
     let fluid = bad_fluid 18 (grid_of (sides_in q)) (flag_in q) in
-    let rest = if_none (suc (cells_in q)) 6 (bad_rule d3q19 (cells_in q) (state_in q)) (or_refuse (totals_good (poured_in q) (taken_in q)) 6 (cells_in q) Done) in
+    let rest = if_none (suc (cells_in q)) BadState (bad_rule d3q19 (cells_in q) (state_in q)) (or_refuse (totals_good (poured_in q) (taken_in q)) (BadState (cells_in q)) Done) in
     let e = opened o.before.before in
     let h : fluid < cells_in q = omega (arith, e, c.if-open-n.true, cells_are fl.before) in
-    ap (Refused 5) e ∙ sym (stop (cells_in q) 5 fluid rest h)
+    ap (λ (p : ℕ). Err (BadLayer p)) e ∙ sym (stop (cells_in q) BadLayer fluid rest h)
 
 pub overflow_add-end-2 : goal.overflow_add-end-2
 overflow_add-end-2 c = record { fits = omega (arith, small (f c.before).before, low (f c.before)) }
@@ -250,8 +251,8 @@ returns-then-unfair-n c =
     let e = found u.before.before in
     let h : first (n u.before.before) (bad u.before.before) < n u.before.before = omega (arith, e, cells_are (f (i u.before.before)).before, c.if-unfair-n.true) in
     let b = bad-cell d3q19 (n u.before.before) (state_in (r (i u.before.before))) (bad u.before.before) (rules-told u.before.before) h in
-    ap (Refused 6) (e ∙ sym b)
-    ∙ sym (skip (n u.before.before) 5 (place u.before.before) (six u.before.before) (shut u.before.before) ∙ stop (suc (n u.before.before)) 6 (bad_rule d3q19 (n u.before.before) (state_in (r (i u.before.before)))) (last u.before.before) (omega (arith, b, h)))
+    ap (λ (p : ℕ). Err (BadState p)) (e ∙ sym b)
+    ∙ sym (skip (n u.before.before) BadLayer (place u.before.before) (six u.before.before) (shut u.before.before) ∙ stop (suc (n u.before.before)) BadState (bad_rule d3q19 (n u.before.before) (state_in (r (i u.before.before)))) (last u.before.before) (omega (arith, b, h)))
 
 pub i64_at-requires : goal.i64_at-requires
 i64_at-requires c = let q = i c.before.before in omega (arith, (d q).requires.sound.flags.inside)
@@ -261,8 +262,8 @@ returns-then-not-fair_carry c =
     let v = unfair c.before.before in
     let u = v.before in
     let b = bad-carry d3q19 (n u) (state_in (r (i u))) (bad u) (rules-told u) (fair v) (sym (carry-is c.before.before) ∙ not-true _ c.if-not-fair_carry.true-raw) in
-    ap (Refused 6) (cells_are (f (i u)).before ∙ sym b)
-    ∙ sym (skip (n u) 5 (place u) (six u) (shut u) ∙ stop (suc (n u)) 6 (bad_rule d3q19 (n u) (state_in (r (i u)))) (last u) (omega (arith, b)))
+    ap (λ (p : ℕ). Err (BadState p)) (cells_are (f (i u)).before ∙ sym b)
+    ∙ sym (skip (n u) BadLayer (place u) (six u) (shut u) ∙ stop (suc (n u)) BadState (bad_rule d3q19 (n u) (state_in (r (i u)))) (last u) (omega (arith, b)))
 
 pub later_in-requires : goal.later_in-requires
 later_in-requires c = record { rec_in_bounds = (d (i (u c.before))).requires.sound.totals.inside; i_bound = omega arith }
@@ -274,11 +275,11 @@ pub returns-then-not-good_totals : goal.returns-then-not-good_totals
 returns-then-not-good_totals c =
     let e = carried c.before.before in
     let q = u e in
-    ap (Refused 6) (cells_are (f (i q)).before)
-    ∙ sym (ap (λ (t : Bool). or_refuse t 6 (n q) Done) (sym (totals-are c.before.before) ∙ not-true _ c.if-not-good_totals.true-raw)) ∙ on-to-last e
+    ap (λ (p : ℕ). Err (BadState p)) (cells_are (f (i q)).before)
+    ∙ sym (ap (λ (t : Bool). or_refuse t (BadState (n q)) Done) (sym (totals-are c.before.before) ∙ not-true _ c.if-not-good_totals.true-raw)) ∙ on-to-last e
 
 pub returns : goal.returns
 returns c =
     let e = carried c.before.before in
     let q = u e in
-    sym (ap (λ (t : Bool). or_refuse t 6 (n q) Done) (sym (totals-are c.before.before) ∙ not-false _ c.if-not-good_totals.false-raw)) ∙ on-to-last e
+    sym (ap (λ (t : Bool). or_refuse t (BadState (n q)) Done) (sym (totals-are c.before.before) ∙ not-false _ c.if-not-good_totals.false-raw)) ∙ on-to-last e

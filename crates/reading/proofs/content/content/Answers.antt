@@ -4,7 +4,7 @@ use Prim.Native.Nat.{suc}
 use borrow.Author.Tests.{not-true, not-false}
 use Rattle.lattice.specs.Lattice.{d3q19}
 use Rattle.lattice.specs.declared.Settings.{Settings}
-use Rattle.grid.specs.declared.Answer.TheVariants.{Done}
+use Rattle.grid.specs.Answer.{Done}
 use Rattle.grid.specs.Grid.{grid_of}
 use Rattle.grid.specs.Good.{bad_fluid, bad_rule}
 use Rattle.grid.specs.Outcome.{or_refuse, if_none}
@@ -19,6 +19,7 @@ use Rattle.reading.proofs.content.content.Lts as lts
 use Rattle.reading.proofs.content.content.Reads as reads
 use Rattle.reading.proofs.content.content.Tie as tie
 use Rattle.reading.proofs.content.content.Goals as goal
+use Rattle.grid.specs.declared.refusals.Refusal.TheVariants.{BadLayer, BadSetting, BadState}
 
 abbrev At-After-good_site : Type 0
 At-After-good_site = lts.After-good_site tie.the-claims reads.Pre reads.Post tie.handed_clauses
@@ -34,13 +35,13 @@ unfolding content_answer
 returns-then-not-good_site c =
     let r = c.args.rec.now in
     let n = cells_in r in
-    let five = if_none n 5 (bad_fluid 18 (grid_of (sides_in r)) (flag_in r)) (if_none (suc n) 6 (bad_rule d3q19 n (state_in r)) (or_refuse (totals_good (poured_in r) (taken_in r)) 6 n Done)) in
-    sym (or-fail 3 0 five (sym (site-is c.before.before) ∙ not-true _ c.if-not-good_site.true-raw))
+    let five = if_none n BadLayer (bad_fluid 18 (grid_of (sides_in r)) (flag_in r)) (if_none (suc n) BadState (bad_rule d3q19 n (state_in r)) (or_refuse (totals_good (poured_in r) (taken_in r)) (BadState n) Done)) in
+    sym (or-fail (BadSetting 0) five (sym (site-is c.before.before) ∙ not-true _ c.if-not-good_site.true-raw))
 
 pub returns : goal.returns
 unfolding content_answer
 returns c =
     let r = c.args.rec.now in
     let n = cells_in r in
-    let five = if_none n 5 (bad_fluid 18 (grid_of (sides_in r)) (flag_in r)) (if_none (suc n) 6 (bad_rule d3q19 n (state_in r)) (or_refuse (totals_good (poured_in r) (taken_in r)) 6 n Done)) in
-    c.cell_tests.ensures ∙ sym (or-pass 3 0 five (sym (site-is c.before.before.before) ∙ not-false _ c.if-not-good_site.false-raw))
+    let five = if_none n BadLayer (bad_fluid 18 (grid_of (sides_in r)) (flag_in r)) (if_none (suc n) BadState (bad_rule d3q19 n (state_in r)) (or_refuse (totals_good (poured_in r) (taken_in r)) (BadState n) Done)) in
+    c.cell_tests.ensures ∙ sym (or-pass (BadSetting 0) five (sym (site-is c.before.before.before) ∙ not-false _ c.if-not-good_site.false-raw))

@@ -1,9 +1,8 @@
 -- `reading::load::load_parts` pastes the parts of cell after cell; the place advances as the count of liquid cells does. Assumes nothing.
 use mathlib.Core.Path.{◌≡◌}
 use mathlib.Core.List.{List}
-use Prim.Native.Nat.{ℕ, ◌+◌, ◌*◌, ◌-◌, ◌≤◌}
+use Prim.Native.Nat.{ℕ, ◌+◌, ◌*◌}
 use lib.IntN.{ℤ, pos}
-use lib.ListN.{length}
 use Rattle.grid.specs.State.{by_flag, flag_of}
 use Rattle.grid.proofs.Blocks.{Blocks}
 use Rattle.record.specs.Bytes.{i32_at}
@@ -16,7 +15,4 @@ held rec flags from c k =
     let x = i32_at rec (from + 4 * (19 * liquids c (flag_of flags) + k)) in by_flag (flag_of flags c) (pos 0) x x (pos 0)
 
 abbrev pub invariant-loop-c : goal.invariant-loop-c
-invariant-loop-c l = (l.c ≤ length l.flags) × (l.at ≡ l.from + 76 * liquids l.c (flag_of l.flags)) × (length l.parts ≡ length l.initial.parts) × Blocks (held l.rec l.flags l.from) l.parts l.c
-
-abbrev pub decreases-loop-c : goal.decreases-loop-c
-decreases-loop-c l = length l.flags - l.c
+invariant-loop-c l = (l.at ≡ l.from + 76 * liquids l.c (flag_of l.flags)) × Blocks (held l.rec l.flags l.from) l.parts l.c

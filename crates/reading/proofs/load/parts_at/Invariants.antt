@@ -1,6 +1,6 @@
 -- `reading::load::parts_at` reads part after part, four bytes each. Assumes nothing.
 use mathlib.Core.Path.{◌≡◌}
-use Prim.Native.Nat.{◌+◌, ◌*◌, ◌-◌, ◌≤◌}
+use Prim.Native.Nat.{◌+◌, ◌*◌}
 use lib.IntN.{pos}
 use lib.ListN.{length}
 use Rattle.whole.specs.laws.Tab.{Upto}
@@ -8,7 +8,4 @@ use Rattle.record.specs.Bytes.{i32_at}
 use Rattle.reading.proofs.load.parts_at.Given as goal
 
 abbrev pub invariant-loop-k : goal.invariant-loop-k
-invariant-loop-k l = (l.k ≤ 19) × (length l.v ≡ 19) × Upto (pos 0) (λ j. i32_at l.rec (l.at + 4 * j)) l.v l.k
-
-abbrev pub decreases-loop-k : goal.decreases-loop-k
-decreases-loop-k l = 19 - l.k
+invariant-loop-k l = (length l.v ≡ 19) × Upto (pos 0) (λ j. i32_at l.rec (l.at + 4 * j)) l.v l.k

@@ -5,7 +5,7 @@ use Prim.Native.Nat.{ℕ, ◌+◌, ◌≤◌}
 use native.Mathlib.Omega.{arith}
 use lib.Dec.{leb}
 use borrow.Author.Tests.{le-leb, lt-leb}
-use Rattle.grid.specs.declared.Answer.TheVariants.{Done, Refused}
+use Rattle.grid.specs.Answer.{Done}
 use Rattle.grid.specs.Grid.{grid_of, cells_of}
 use Rattle.grid.specs.Good.{bad_flag}
 use Rattle.grid.proofs.GoodSides.{good-sides}
@@ -18,6 +18,8 @@ use Rattle.reading.proofs.shape.behind.Lts as lts
 use Rattle.reading.proofs.shape.behind.Reads as reads
 use Rattle.reading.proofs.shape.behind.Tie as tie
 use Rattle.reading.proofs.shape.behind.Goals as goal
+use Rattle.grid.specs.declared.refusals.Refusal.TheVariants.{BadFlag}
+use Rattle.std.specs.Prelude.{Err}
 
 abbrev At-After-cells-n : Type 0
 At-After-cells-n = lts.After-cells tie.the-claims reads.Pre reads.Post tie.handed_clauses
@@ -68,8 +70,8 @@ returns-then-bad-n c =
     let r = (start f).args.rec.now in
     let place = bad_flag (grid_of (sides_in r)) (flag_in r) in
     let bad = bad-is c.before.before in
-    ap (λ (x : ℕ). Refused 4 x) bad
-    ∙ sym (or-fail 4 place (ends r (behind_flags r) (interfaces_in r) (liquids_in r) Done) (lt-leb (cells_in r) place (omega (arith, c.if-bad-n.true, bad, cells_are f.before))))
+    ap (λ (x : ℕ). Err (BadFlag x)) bad
+    ∙ sym (or-fail (BadFlag place) (ends r (behind_flags r) (interfaces_in r) (liquids_in r) Done) (lt-leb (cells_in r) place (omega (arith, c.if-bad-n.true, bad, cells_are f.before))))
 
 pub cell_sections-requires : goal.cell_sections-requires
 unfolding interfaces_in liquids_in
@@ -94,4 +96,4 @@ returns c =
     c.cell_sections.ensures
     ∙ ap₂ (λ (j k : ℕ). ends r (j + k) c.interface_cells.result c.liquid_cells.result Done) f.flags_at-at.ensures is
     ∙ ap₂ (λ (k m : ℕ). ends r (behind_flags r) k m Done) i l
-    ∙ sym (or-pass 4 place rest none)
+    ∙ sym (or-pass (BadFlag place) rest none)

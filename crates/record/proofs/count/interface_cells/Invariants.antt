@@ -1,13 +1,8 @@
 -- `record::count::interface_cells` counts the flags passed. Assumes nothing.
-use mathlib.Core.Path.{◌≡◌}
-use Prim.Native.Nat.{◌-◌, ◌≤◌}
-use lib.ListN.{length}
+use Rattle.std.proofs.Common.{◌≡◌}
 use Rattle.grid.specs.State.{flag_of}
 use Rattle.record.specs.Layout.{interfaces}
 use Rattle.record.proofs.count.interface_cells.Given as goal
 
-abbrev pub invariant-loop-c : goal.invariant-loop-c
-invariant-loop-c l = (l.c ≤ length l.flags) × (l.found ≡ interfaces l.c (flag_of l.flags))
-
-abbrev pub decreases-loop-c : goal.decreases-loop-c
-decreases-loop-c l = length l.flags - l.c
+abbrev pub invariant-loop-flag : goal.invariant-loop-flag
+invariant-loop-flag l = l.found ≡ interfaces l.flag-index (flag_of l.flags)

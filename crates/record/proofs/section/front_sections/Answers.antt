@@ -2,7 +2,7 @@
 use mathlib.Core.Path.{sym, ap, ◌∙◌, subst}
 use Prim.Native.Nat.{ℕ, ◌≤◌}
 use native.Mathlib.Omega.{arith}
-use Rattle.grid.specs.declared.Answer.TheVariants.{Done}
+use Rattle.grid.specs.Answer.{Done}
 use Rattle.record.specs.Places.{counts}
 use Rattle.record.specs.Reading.{fronts_on}
 use Rattle.record.proofs.FlagPart.{totals-few}

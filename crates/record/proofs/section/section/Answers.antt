@@ -3,9 +3,10 @@ use mathlib.Core.Path.{◌≡◌, sym, ◌∙◌}
 use Prim.Native.Nat.{◌*◌, ◌≤◌}
 use native.Mathlib.Nat.{mul-le-mul}
 use native.Mathlib.Omega.{arith}
-use Rattle.grid.specs.declared.Answer.TheVariants.{Done}
+use Rattle.grid.specs.Answer.{Done}
 use Rattle.record.proofs.Answers.{whole-short, whole-wrong, whole-cut, whole-there}
 use Rattle.record.proofs.section.section.Goals as goal
+use Rattle.std.specs.Prelude.{Ok}
 
 pub returns-then-rec-from : goal.returns-then-rec-from
 returns-then-rec-from c =
@@ -39,4 +40,4 @@ pub returns : goal.returns
 returns c =
     let a = c.args in
     let e : c.u32_at.result ≡ a.n = omega arith in
-    sym (whole-there a.rec.now a.number a.from a.n a.size Done (record { count = sym c.u32_at.ensures ∙ e; inside = omega arith }))
+    sym (whole-there a.rec.now a.number a.from a.n a.size (Ok _) (record { count = sym c.u32_at.ensures ∙ e; inside = omega arith }))

@@ -1,10 +1,4 @@
-use mathlib.Core.Path.{◌≡◌, refl, sym, ap, ap₂, ◌∙◌}
-use mathlib.Core.Bool.{Bool, ◌||◌, ◌&&◌, not}
-use mathlib.Core.List.{List}
-use Prim.Native.Nat.{ℕ, suc, ◌+◌, ◌-◌, ◌≤◌}
-use native.Mathlib.Omega.{arith}
-use lib.Dec.{eqb}
-use lib.ListN.{get_or}
+use Rattle.std.proofs.Common.{◌≡◌, refl, sym, ap, ap₂, ◌∙◌, ℕ, suc, ◌+◌, ◌-◌, ◌≤◌, Bool, ◌||◌, ◌&&◌, not, eqb, List, get_or, arith}
 use Rattle.whole.specs.Fold.{any}
 use Rattle.schemes.specs.inner.Between.{empty_at}
 use Rattle.schemes.proofs.testing.empty_beside.Invariants.{at}
@@ -21,23 +15,13 @@ one map own off k i found h e =
 
 pub loop-i-init : goal.loop-i-init
 unfolding any
-loop-i-init c = (omega arith, omega arith, refl)
-
-pub overflow_add-d : goal.overflow_add-d
-overflow_add-d c = record { fits = omega (arith, c.requires.in_map c.loop-i.i (omega (arith, c.loop-i-test.true))) }
-
-pub bounds-map-d : goal.bounds-map-d
-bounds-map-d c = c.requires.in_map c.loop-i.i (omega (arith, c.loop-i-test.true))
-
-pub bounds-own-d : goal.bounds-own-d
-bounds-own-d c = c.requires.in-own c.loop-i.i (omega (arith, c.loop-i-test.true))
+loop-i-init c = refl
 
 pub loop-i-preserved : goal.loop-i-preserved
-loop-i-preserved c = let a = c.args in
-    (omega arith, omega (arith, c.loop-i-test.true), one a.map.now a.own.now a.off.now a.k c.loop-i.i c.loop-i.found c.loop-i.invariant.0 c.loop-i.invariant.2)
+loop-i-preserved c = let a = c.args in one a.map.now a.own.now a.off.now a.k c.loop-i.i c.loop-i.found (omega arith) c.loop-i.invariant
 
 pub returns : goal.returns
 unfolding empty_at
 returns c = let a = c.args in
-    let e : c.loop-i.i - 1 ≡ 18 = omega (arith, c.loop-i.invariant.1, c.loop-i-test.false) in
-    c.loop-i.invariant.2 ∙ ap (λ (n : ℕ). any n (at a.map.now a.own.now a.off.now a.k)) e
+    let e : c.loop-i.i - 1 ≡ 18 = omega arith in
+    c.loop-i.invariant ∙ ap (λ (n : ℕ). any n (at a.map.now a.own.now a.off.now a.k)) e

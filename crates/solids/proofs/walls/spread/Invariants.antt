@@ -1,10 +1,6 @@
 -- `solids::walls::spread`: from the last cell down. Assumes nothing.
-use Prim.Native.Nat.{◌-◌}
 use Rattle.solids.proofs.Spread.{Spreading}
 use Rattle.solids.proofs.walls.spread.Given as goal
 
 abbrev pub invariant-loop-i : goal.invariant-loop-i
 invariant-loop-i l = Spreading l.s l.initial.flags l.flags l.i
-
-abbrev pub decreases-loop-i : goal.decreases-loop-i
-decreases-loop-i l = l.i

@@ -1,127 +1,30 @@
 -- `step::stepping::tried`: pass 0, pass 1, and the rest where pass 1 went through. Assumes nothing.
-use mathlib.Core.Path.{refl, ap, ◌∙◌}
+use mathlib.Core.Path.{ap, ◌∙◌}
 use lib.ListN.{length}
 use Rattle.whole.specs.laws.Tab.{length-tab}
 use Rattle.grid.specs.Grid.{cells_of}
-use Rattle.grid.specs.State.{Lent, lent}
-use Rattle.grid.specs.inner.Between.{Sized}
+use Rattle.grid.specs.State.{lent}
 use Rattle.grid.specs.inner.Passes.{opened_mark}
 use Rattle.step.proofs.Finishes.{flowable, like-sized, stopped-tried, finishing, tried-finished}
-use Rattle.step.proofs.stepping.tried.Lts as lts
-use Rattle.step.proofs.stepping.tried.Reads as reads
-use Rattle.step.proofs.stepping.tried.Tie as tie
 use Rattle.step.proofs.stepping.tried.Goals as goal
 
-abbrev At-After-flowing-a : Type 0
-At-After-flowing-a = lts.After-flowing tie.the-claims reads.Pre reads.Post
-
-abbrev At-Start : Type 0
-At-Start = lts.Start tie.the-claims reads.Pre reads.Post
-
-abbrev At-After-mark_open : Type 0
-At-After-mark_open = lts.After-mark_open tie.the-claims reads.Pre reads.Post
-
-abbrev At-In-Through : Type 0
-At-In-Through = lts.Past-After-known_told2 tie.the-claims reads.Pre reads.Post
-
-abbrev At-After-parts2-1 : Type 0
-At-After-parts2-1 = lts.After-parts2 tie.the-claims reads.Pre reads.Post
-
-abbrev At-After-masses2-1 : Type 0
-At-After-masses2-1 = lts.After-masses2 tie.the-claims reads.Pre reads.Post
-
-abbrev At-After-marks-2-1 : Type 0
-At-After-marks-2-1 = lts.After-marks2 tie.the-claims reads.Pre reads.Post
-
-abbrev At-After-marks-1 : Type 0
-At-After-marks-1 = lts.After-marks tie.the-claims reads.Pre reads.Post
-
-abbrev At-In-Stopped : Type 0
-At-In-Stopped = lts.Past-After-known_told tie.the-claims reads.Pre reads.Post
-
-abbrev At-After-flags2-1 : Type 0
-At-After-flags2-1 = lts.After-flags2 tie.the-claims reads.Pre reads.Post
-
-abbrev At-After-parts2-in-Through-1 : Type 0
-At-After-parts2-in-Through-1 = lts.After-parts22 tie.the-claims reads.Pre reads.Post
-
-abbrev At-After-masses2-in-Through-1 : Type 0
-At-After-masses2-in-Through-1 = lts.After-masses22 tie.the-claims reads.Pre reads.Post
-
-abbrev At-After-fills2-1 : Type 0
-At-After-fills2-1 = lts.After-fills2 tie.the-claims reads.Pre reads.Post
-
-abbrev At-After-carry2-1 : Type 0
-At-After-carry2-1 = lts.After-carry2 tie.the-claims reads.Pre reads.Post
-
-abbrev At-After-marks-in-Through-1 : Type 0
-At-After-marks-in-Through-1 = lts.After-marks3 tie.the-claims reads.Pre reads.Post
-
-abbrev At-After-finished : Type 0
-At-After-finished = lts.After-finished tie.the-claims reads.Pre reads.Post
-
--- the entry, from where pass 1 is over
-abbrev entry : At-After-flowing-a → At-Start
-entry d = search
-
-abbrev first : At-Start → Lent
-first w = lent w.args.flags.now w.args.parts.now w.args.masses.now w.args.fills.now w.args.carry.now
-
-abbrev second : At-Start → Lent
-second w = lent w.args.flags2.now w.args.parts2.now w.args.masses2.now w.args.fills2.now w.args.carry2.now
-
--- the second set's lengths at entry
-sized-second : (w : At-Start) → Sized (cells_of w.args.s) (second w)
-sized-second w = like-sized w.requires.stepping.ready.sized w.requires.stepping.alike
-
 pub mark_open-requires : goal.mark_open-requires
-mark_open-requires c = let w : At-Start = search in (w.requires.stepping.ready.sides, w.requires.stepping.ready.sized.flags, w.requires.stepping.marks-room)
+mark_open-requires c = let t = c.requires.stepping in (t.ready.sides, t.ready.sized.flags, t.marks-room)
 
 pub flowing-a-requires : goal.flowing-a-requires
 flowing-a-requires c =
-    let after-mark-open : At-After-mark_open = search in let w : At-Start = search in
-    let m = after-mark-open.mark_open.ensures in
-    flowable w.args.s w.args.g (first w) w.requires.stepping.ready w.args.marks.now (sized-second w).flags w.requires.dried (sized-second w).parts (sized-second w).masses
-    (ap length m ∙ length-tab (cells_of w.args.s) (opened_mark w.args.s w.args.flags.now w.args.marks.now)) m
+    let a = c.args in
+    let t = c.requires.stepping in
+    let m = c.mark_open.ensures in
+    let second = like-sized t.ready.sized t.alike in
+    flowable a.s a.g (lent a.flags.now a.parts.now a.masses.now a.fills.now a.carry.now) t.ready a.marks.now second.flags c.requires.dried second.parts second.masses
+    (ap length m ∙ length-tab (cells_of a.s) (opened_mark a.s a.flags.now a.marks.now)) m
 
 pub finished-requires : goal.finished-requires
-finished-requires c = let start : At-Start = search in let after-flowing : At-After-flowing-a = search in let after-a2 : At-In-Through = search in finishing start.requires.stepping after-flowing.flowing-a.ensures _ _ after-a2.in-Through.is
+finished-requires c = finishing c.requires.stepping c.in-Ok.ensures
 
-pub shape_of-flags2-in-Stopped : goal.shape_of-flags2-in-Stopped
-shape_of-flags2-in-Stopped c = refl
+pub returns-in-Err : goal.returns-in-Err
+returns-in-Err c = stopped-tried c.requires.stepping c.in-Err.ensures
 
-pub shape_of-parts2-in-Stopped : goal.shape_of-parts2-in-Stopped
-shape_of-parts2-in-Stopped c = let after-parts2 : At-After-parts2-1 = search in after-parts2.parts2-1.given
-
-pub shape_of-masses2-in-Stopped : goal.shape_of-masses2-in-Stopped
-shape_of-masses2-in-Stopped c = let after-masses2 : At-After-masses2-1 = search in after-masses2.masses2-1.given
-
-pub shape_of-marks-in-Stopped : goal.shape_of-marks-in-Stopped
-shape_of-marks-in-Stopped c = let after-marks2 : At-After-marks-2-1 = search in let after-marks : At-After-marks-1 = search in after-marks2.marks-2-1.given ∙ after-marks.marks-1.given
-
-pub returns-in-Stopped : goal.returns-in-Stopped
-returns-in-Stopped c = let start : At-Start = search in let after-flowing : At-After-flowing-a = search in let after-a : At-In-Stopped = search in stopped-tried start.requires.stepping after-flowing.flowing-a.ensures _ after-a.in-Stopped.is
-
-pub shape_of-flags2-in-Through : goal.shape_of-flags2-in-Through
-shape_of-flags2-in-Through c = let after-flags2 : At-After-flags2-1 = search in after-flags2.flags2-1.given
-
-pub shape_of-parts2-in-Through : goal.shape_of-parts2-in-Through
-shape_of-parts2-in-Through c = let after-parts22 : At-After-parts2-in-Through-1 = search in let after-parts2 : At-After-parts2-1 = search in after-parts22.parts2-in-Through-1.given ∙ after-parts2.parts2-1.given
-
-pub shape_of-masses2-in-Through : goal.shape_of-masses2-in-Through
-shape_of-masses2-in-Through c = let after-masses22 : At-After-masses2-in-Through-1 = search in let after-masses2 : At-After-masses2-1 = search in after-masses22.masses2-in-Through-1.given ∙ after-masses2.masses2-1.given
-
-pub shape_of-fills2 : goal.shape_of-fills2
-shape_of-fills2 c = let after-fills2 : At-After-fills2-1 = search in after-fills2.fills2-1.given
-
-pub shape_of-carry2 : goal.shape_of-carry2
-shape_of-carry2 c = let after-carry2 : At-After-carry2-1 = search in after-carry2.carry2-1.given
-
-pub shape_of-marks-in-Through : goal.shape_of-marks-in-Through
-shape_of-marks-in-Through c = let after-marks3 : At-After-marks-in-Through-1 = search in let after-marks2 : At-After-marks-2-1 = search in let after-marks : At-After-marks-1 = search in after-marks3.marks-in-Through-1.given ∙ after-marks2.marks-2-1.given ∙ after-marks.marks-1.given
-
-pub returns-in-Through : goal.returns-in-Through
-returns-in-Through c =
-    let after-finished : At-After-finished = search in
-    let after-flowing : At-After-flowing-a = search in
-    tried-finished (entry after-flowing).requires.stepping.ready after-finished.finished.ensures
+pub returns-in-Ok : goal.returns-in-Ok
+returns-in-Ok c = tried-finished c.requires.stepping.ready c.finished.ensures

@@ -1,7 +1,7 @@
 -- `surface::excess::remainder`: what the eighteen cut shares leave of the excess. Assumes nothing.
 use mathlib.Core.Path.{◌≡◌}
 use mathlib.Core.List.{List}
-use Prim.Native.Nat.{ℕ, ◌+◌, ◌-◌, ◌*◌, ◌<◌, ◌≤◌}
+use Prim.Native.Nat.{ℕ, ◌+◌, ◌*◌, ◌≤◌}
 use lib.IntN.{ℤ, nat_abs, ◌-ℤ◌, ◌*ℤ◌}
 use lib.Signed.{quot_z}
 use Rattle.whole.specs.Fold.{sum}
@@ -14,8 +14,4 @@ abbrev pub part : ℤ → ℤ → List ℤ → ℕ → ℤ
 part e t w j = quot_z (e *ℤ parts_of w j) t
 
 abbrev pub invariant-loop-i : goal.invariant-loop-i
-invariant-loop-i l =
-    (0 < l.i) × (l.i ≤ 19) × (l.r ≡ l.e -ℤ sum l.i (off_rest (part l.e l.t l.w))) × (nat_abs l.r ≤ 4294967296 + l.i * 4294967296000000)
-
-abbrev pub decreases-loop-i : goal.decreases-loop-i
-decreases-loop-i l = 19 - l.i
+invariant-loop-i l = (l.r ≡ l.e -ℤ sum l.i (off_rest (part l.e l.t l.w))) × (nat_abs l.r ≤ 4294967296 + l.i * 4294967296000000)

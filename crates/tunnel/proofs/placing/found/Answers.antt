@@ -9,7 +9,7 @@ use mir.Syntax.{w64}
 use mir.Val.{SFits, to_z, of_z, hbits}
 use mir.ValLaws.{to_z-of_z}
 use Rattle.lattice.specs.Cell.{edge_good, coordinate_good}
-use Rattle.tunnel.specs.declared.Placed.TheVariants.{Cell}
+use Rattle.std.specs.Prelude.{Ok}
 use Rattle.tunnel.specs.Place.{axis_of, found_of}
 use Rattle.tunnel.proofs.Axes.{Good, good}
 use Rattle.tunnel.proofs.placing.found.Lts as lts
@@ -137,4 +137,4 @@ returns c =
     let e = c.before in
     let d = e.before.before.before.before.before.before in
     simp (← xs d, ← ys d, ← z-is d, lt-ltb _ _ e.if-s-x.false, lt-ltb _ _ e.if-s-y.false, lt-ltb _ _ e.if-s-z.false)
-    (ap Cell c.number.ensures)
+    (ap (λ (n : ℕ). Ok n) c.number.ensures)

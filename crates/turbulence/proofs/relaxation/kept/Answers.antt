@@ -7,9 +7,7 @@ pub loop-d-init : goal.loop-d-init
 loop-d-init c = (record { is = own-keeps c.args.p c.requires.0 c.requires.1; most = omega arith }, omega arith)
 
 pub raised-k-requires : goal.raised-k-requires
-raised-k-requires c =
-    let s = c.before.before in
-    (s.requires.0, s.requires.1, omega (arith, c.loop-d.invariant.1), c.loop-d.invariant.0)
+raised-k-requires c = (c.requires.0, c.requires.1, omega (arith, c.loop-d.invariant.1), c.loop-d.invariant.0)
 
 pub loop-d-smaller : goal.loop-d-smaller
 loop-d-smaller c = omega (arith, c.loop-d-test.true, div-add-mod c.loop-d.d 2)

@@ -1,11 +1,6 @@
 -- `walks::seeking::next_of`: no cell that was passed is of the kind. Assumes nothing.
-use Prim.Native.Nat.{◌-◌}
-use lib.ListN.{length}
 use Rattle.grid.specs.inner.Passes.{Lacking}
 use Rattle.walks.proofs.seeking.next_of.Given as goal
 
 abbrev pub invariant-loop-c : goal.invariant-loop-c
 invariant-loop-c l = Lacking l.flags l.a l.kind l.c
-
-abbrev pub decreases-loop-c : goal.decreases-loop-c
-decreases-loop-c l = length l.flags - l.c

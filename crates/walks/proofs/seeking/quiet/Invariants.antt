@@ -1,13 +1,10 @@
 -- `walks::seeking::quiet`: the cells passed have no mark, as far as it says so. Assumes nothing.
 use mathlib.Core.Path.{◌≡◌}
-use Prim.Native.Nat.{◌+◌, ◌-◌, ◌≤◌}
+use Prim.Native.Nat.{◌+◌}
 use lib.Dec.{eqb}
 use lib.ListN.{get_or}
 use Rattle.whole.specs.Fold.{all}
 use Rattle.walks.proofs.seeking.quiet.Given as goal
 
 abbrev pub invariant-loop-k : goal.invariant-loop-k
-invariant-loop-k l = (l.k ≤ 32) × (l.none ≡ all l.k (λ i. eqb (get_or l.marks (l.a + i) 0) 0))
-
-abbrev pub decreases-loop-k : goal.decreases-loop-k
-decreases-loop-k l = 32 - l.k
+invariant-loop-k l = l.none ≡ all l.k (λ i. eqb (get_or l.marks (l.a + i) 0) 0)

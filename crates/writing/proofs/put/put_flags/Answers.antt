@@ -1,53 +1,12 @@
-use mathlib.Core.Path.{◌≡◌, refl, ap, ◌∙◌}
-use mathlib.Core.List.{List}
-use Prim.Native.Nat.{ℕ, ◌+◌, ◌-◌}
-use native.Mathlib.Omega.{arith}
-use lib.ListN.{length, take, get_or, set}
-use lib.Seq.{sets, length-sets, take-length}
-use Rattle.record.proofs.Gathered.{copy-turn}
-use Rattle.writing.proofs.put.put_flags.Lts as lts
-use Rattle.writing.proofs.put.put_flags.Reads as reads
+-- `writing::put::put_flags` copies the flags into the room. Assumes nothing.
+use Rattle.std.proofs.Common.{◌+◌, ◌-◌, refl, sym, ◌∙◌, length, arith}
+use Rattle.std.proofs.Math.Seq.{take-length}
+use Rattle.std.proofs.lemmas.List.Edits.{sets-eq}
+use Rattle.std.proofs.lemmas.Slice.{put_mid-paste}
 use Rattle.writing.proofs.put.put_flags.Goals as goal
 
-abbrev At-At-loop-c : Type 0
-At-At-loop-c = lts.At-loop reads.Pre reads.Post goal.the-invariant-loop-c goal.the-decreases-loop-c
-
--- the room keeps its length
-long : (c : At-At-loop-c) → length c.loop-c.room ≡ length c.args.room.now
-long c = let a = c.args in ap length c.loop-c.invariant.1 ∙ length-sets a.room.now a.at (take c.loop-c.c a.flags.now)
-
-pub loop-c-init : goal.loop-c-init
-loop-c-init c = (omega arith, refl)
-
-pub bounds-flags-c : goal.bounds-flags-c
-bounds-flags-c c = omega arith
-
-pub overflow_add-room : goal.overflow_add-room
-overflow_add-room c = omega arith
-
-pub bounds-room-at : goal.bounds-room-at
-bounds-room-at c = omega (arith, long c.before.before.before)
-
-pub overflow_add-c : goal.overflow_add-c
-overflow_add-c c = omega arith
-
-pub loop-c-smaller : goal.loop-c-smaller
-loop-c-smaller c = omega arith
-
-pub loop-c-preserved : goal.loop-c-preserved
-loop-c-preserved c =
-    let l = c in
-    let a = l.args in (
-      omega arith,
-      ap (λ (o : List ℕ). set o (a.at + l.loop-c.c) (get_or a.flags.now l.loop-c.c 0)) l.loop-c.invariant.1
-          ∙ copy-turn a.room.now a.flags.now a.at l.loop-c.c c.loop-c-test.true,
-    )
-
-pub shape_of-room : goal.shape_of-room
-shape_of-room c = long c.before.before
-
 pub returns : goal.returns
-returns c =
-    let a = c.args in
-    let e : c.loop-c.c ≡ length a.flags.now = omega arith in
-    c.loop-c.invariant.1 ∙ ap (sets a.room.now a.at) (ap (λ (k : ℕ). take k a.flags.now) e ∙ take-length a.flags.now)
+returns c = let a = c.args in
+    let n = length a.flags.now in
+    put_mid-paste a.at (a.at + n - a.at) a.room.now _ a.flags.now n c.copy_from_slice.ensures.after (omega arith) refl
+    ∙ rw take-length (sym (sets-eq a.flags.now a.room.now a.at c.requires))
