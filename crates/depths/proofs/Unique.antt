@@ -4,7 +4,7 @@ use mathlib.Core.List.{List}
 use Prim.Native.Nat.{ℕ}
 use Rattle.grid.specs.declared.Sides.{Sides}
 use Rattle.grid.specs.State.{Lent}
-use Rattle.record.specs.declared.Written.{Written}
+use Rattle.record.specs.Writing.{Written}
 use Rattle.depths.specs.declared.Corner.{Corner}
 use Rattle.depths.specs.Outcome.{Wrote}
 

@@ -1,6 +1,6 @@
 -- The writer's promise, from what its tests give. Assumes nothing.
 use mathlib.Core.Path.{◌≡◌, refl, sym, ap, ◌∙◌}
-use mathlib.Core.Bool.{true, false, ◌&&◌}
+use mathlib.Core.Bool.{true, ◌&&◌}
 use mathlib.Core.List.{List}
 use Prim.Native.Nat.{ℕ, ◌≤◌, ◌<◌}
 use native.Mathlib.Omega.{arith}
@@ -12,8 +12,8 @@ use lib.Seq.{sets}
 use Rattle.whole.specs.laws.Bools.{and_left}
 use Rattle.lattice.specs.Cell.{edge_good, coordinate_good}
 use Rattle.grid.specs.declared.Sides.{Sides}
-use Rattle.grid.specs.Answer.{Answer}
-use Rattle.grid.specs.Answer.{Done}
+use Rattle.grid.specs.Answer.{Answer, Done}
+use Rattle.grid.specs.declared.refusals.Refusal.{Refusal}
 use Rattle.grid.specs.Grid.{sides_good, cells_of}
 use Rattle.grid.specs.State.{Lent}
 use Rattle.grid.specs.Outcome.{accepted, or_refuse}
@@ -28,7 +28,8 @@ use Rattle.depths.specs.Outcome.{map_of, corner_good, map_answer, map_written, m
 use Rattle.depths.proofs.Measuring.{measured}
 use Rattle.record.proofs.WrittenBy.{chain-three}
 use Rattle.grid.specs.declared.refusals.Refusal.TheVariants.{BadLength, BadRoom, BadSetting, BadSides}
-use Rattle.std.specs.Prelude.{Err}
+use Rattle.std.specs.Prelude.{cond, ◌++◌, drop, Ok, Err}
+use Rattle.record.specs.Writing.{Written, written_on}
 
 -- ---- tests 1 to 6 in a row
 
@@ -80,32 +81,30 @@ module _ (s : Sides) (t : Corner) (a : Lent) where
     answer-is = refl
 
     -- refused by a test, or for want of room: nothing is written
-    refused : (x : Answer) → x ≡ map_answer s t a room → accepted x ≡ false → Wrote s t a room (record { answer = x; bytes = 0 }) room
+    refused : {w : Written} {r : Refusal} → w ≡ Err r → Err r ≡ map_answer s t a room → Wrote s t a room w room
     unfolding map_written map_room
-    refused x e f =
-        let no : accepted (map_answer s t a room) ≡ false = sym (ap accepted e) ∙ f in
+    refused h e =
         record {
-          answer-is = ap (λ (y : Answer). record { answer = y; bytes = 0 }) e ∙ rw no refl;
-          room-is = rw no refl;
+          answer-is = h ∙ ap (λ (x : Answer). written_on x (length (map_of s t a))) e;
+          room-is = ap (λ (x : Answer). cond (accepted x) (map_of s t a ++ drop (length (map_of s t a)) room) room) e;
         }
 
-    pub write-refused : (x : Answer) → x ≡ fits Done → accepted x ≡ false → Wrote s t a room (record { answer = x; bytes = 0 }) room
-    write-refused x e f = refused x (e ∙ sym (answer-is ∙ chain_fits.refuses (sym (ap accepted e) ∙ f) last)) f
+    pub write-refused : {w : Written} {r : Refusal} → w ≡ Err r → Err r ≡ fits Done → Wrote s t a room w room
+    write-refused h e = refused h (e ∙ sym (answer-is ∙ chain_fits.refuses (sym (ap accepted e)) last))
 
-    pub write-short : (n : ℕ) → n ≡ length (map_of s t a) → accepted (fits Done) ≡ true → length room < n → Wrote s t a room (record { answer = Err (BadRoom n); bytes = 0 }) room
+    pub write-short : (n : ℕ) → n ≡ length (map_of s t a) → accepted (fits Done) ≡ true → length room < n → Wrote s t a room (Err (BadRoom n)) room
     write-short n is ok h =
-        refused (Err (BadRoom n))
+        refused refl
         (ap (λ (p : ℕ). Err (BadRoom p)) is
         ∙ sym (answer-is ∙ chain_fits.passes ok last ∙ or-fail (BadRoom (length (map_of s t a))) Done (lt-leb (length (map_of s t a)) (length room) (omega arith))))
-        refl
 
     pub write_done : (n : ℕ) (after : List ℕ) → n ≡ length (map_of s t a) → accepted (fits Done) ≡ true → n ≤ length room → after ≡ sets room 0 (map_of s t a)
-        → Wrote s t a room (record { answer = Done; bytes = n }) after
+        → Wrote s t a room (Ok n) after
     unfolding map_written map_room
     write_done n after is ok h e =
         let done : map_answer s t a room ≡ Done = answer-is ∙ chain_fits.passes ok last ∙ or-pass (BadRoom (length (map_of s t a))) Done (le-leb (length (map_of s t a)) (length room) (omega arith)) in
         record {
-          answer-is = rw done (ap (λ (k : ℕ). record { answer = Done; bytes = k }) is);
+          answer-is = rw done (ap Ok is);
           room-is = rw done (e ∙ front-put room (map_of s t a) (omega arith));
         }
 

@@ -2,13 +2,12 @@
 use Rattle.std.specs.Prelude.{◌≡◌, Bool, ◌&&◌, cond, List, ◌++◌, ℕ, leb, length, drop}
 use Rattle.lattice.specs.Cell.{edge_good, coordinate_good}
 use Rattle.grid.specs.declared.Sides.{Sides}
-use Rattle.grid.specs.Answer.{Answer}
-use Rattle.grid.specs.Answer.{Done}
+use Rattle.grid.specs.Answer.{Answer, Done}
 use Rattle.grid.specs.Grid.{cells_of, sides_good}
 use Rattle.grid.specs.State.{Lent}
 use Rattle.grid.specs.Outcome.{accepted, or_refuse}
 use Rattle.pumps.specs.Three.{three_lengths, three_good}
-use Rattle.record.specs.declared.Written.{Written}
+use Rattle.record.specs.Writing.{Written, written_on}
 use Rattle.depths.specs.declared.Corner.{Corner}
 use Rattle.depths.specs.Map.{map_text}
 use Rattle.grid.specs.declared.refusals.Refusal.TheVariants.{BadLength, BadRoom, BadSetting, BadSides}
@@ -30,11 +29,9 @@ map_answer s t a room =
     (three_good s a
     (or_refuse (leb (length (map_of s t a)) (length room)) (BadRoom (length (map_of s t a))) Done))))
 
--- with the text's length, 0 beside a refusal
+-- the text's length, or the refusal
 unfoldable pub map_written : Sides → Corner → Lent → List ℕ → Written
-map_written s t a room =
-    let answer = map_answer s t a room in
-    record { answer = answer; bytes = cond (accepted answer) (length (map_of s t a)) 0 }
+map_written s t a room = written_on (map_answer s t a room) (length (map_of s t a))
 
 -- the text, with room past it untouched; a refusal writes nothing
 unfoldable pub map_room : Sides → Corner → Lent → List ℕ → List ℕ

@@ -16,7 +16,6 @@ use grid::Sides;
 use grid::extent::{cells, good_sides};
 use grid::refusals::{Answer, Refusal};
 use pumps::entry::{checked, three_lengths};
-use record::Written;
 
 fn good_edge(edge: i64) -> bool
     ensures { result ≡ edge_good edge }
@@ -79,25 +78,14 @@ pub fn write(
     fills: &[u32],
     carry: &[i64],
     room: &mut [u8],
-) -> Written
+) -> Result<usize, Refusal>
     ensures { Wrote s t (lent flags.now parts.now masses.now fills.now carry.now) room.old result room.new }
 {
-    if let Err(refusal) = fit(s, t, flags, parts, masses, fills, carry) {
-        return Written {
-            answer: Err(refusal),
-            bytes: 0,
-        };
-    }
+    fit(s, t, flags, parts, masses, fills, carry)?;
     let long = map_length(s, t, flags, fills);
     if room.len() < long {
-        return Written {
-            answer: Err(Refusal::BadRoom(long)),
-            bytes: 0,
-        };
+        return Err(Refusal::BadRoom(long));
     }
     put_map(room, s, t, flags, fills);
-    Written {
-        answer: Ok(()),
-        bytes: long,
-    }
+    Ok(long)
 }

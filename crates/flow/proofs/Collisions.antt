@@ -7,6 +7,8 @@ use Prim.Native.Nat.{ℕ, zero, suc, ◌+◌, ◌*◌, ◌≤◌}
 use native.Mathlib.Omega.{arith}
 use lib.IntN.{ℤ, pos, nat_abs, ◌+ℤ◌, ◌-ℤ◌}
 use lib.ListN.{length, get_or, replicate}
+use borrow.Author.Tests.{not-true, not-false}
+use Rattle.std.specs.Prelude.{Some, None}
 use Rattle.whole.specs.laws.Bools.{and_left, and_right}
 use Rattle.whole.specs.laws.Bounds.{abs-add}
 use Rattle.whole.specs.Fold.{tab, open-fold}
@@ -35,7 +37,7 @@ use Rattle.grid.specs.inner.Pasted.{pasted}
 use Rattle.grid.proofs.Blocks.{length-pasted}
 use Rattle.grid.proofs.Same.{density-same, momentum-same, body_same}
 use Rattle.flow.specs.declared.moving.Put.{Put}
-use Rattle.flow.specs.inner.PutAt.{Told, PutAt}
+use Rattle.flow.specs.inner.PutAt.{Passed, PutAt}
 use Rattle.flow.specs.inner.Relaxed.{relaxed_by}
 use Rattle.flow.proofs.Plain.{axial19, streamed-same, streamed-density-same, streamed-momentum-same}
 
@@ -133,15 +135,11 @@ module _ (weights : ℕ → ℕ) (flags : List ℕ) (part : ℕ → ℕ → ℤ)
       kind {ℓ} : {A : Type ℓ} (d x : A) → by_flag (get_or flags c 3) d x x d ≡ x
       kind d x = by-liquid (get_or flags c 3) d x l
 
-      pub told-refused : (b : Put) → b.ok ≡ false → steady_flow w ≡ false → Told S c b
-      told-refused b n e = record {
-        ok = n ∙ sym e ∙ steady-is l;
-        rho = λ h. absurd (false≢true (sym n ∙ h));
-        fair = λ h. absurd (false≢true (sym n ∙ h));
-      }
+      pub is-unsteady : steady_flow w ≡ false → unsteady S c ≡ true
+      is-unsteady e = not-false _ (sym (steady-is l) ∙ e)
 
-      pub put_refused : (out : List ℤ) (b : Put) → b.ok ≡ false → steady_flow w ≡ false → PutAt S c out out b
-      put_refused out b n e = record { kept = refl; told = told-refused b n e; parts = λ h. absurd (false≢true (sym n ∙ h)) }
+      pub put_refused : (out : List ℤ) → steady_flow w ≡ false → PutAt S c out out None
+      put_refused out e = record { kept = refl; told = is-unsteady e; parts = tt }
 
       module _ (x : List ℤ) (made : x ≡ tab 19 (collided_part (weighing weights) w.rho (vec w) pace (parts_of f))) where
         new-part : (k : ℕ) → k ≤ 18 → parts_of x k ≡ collided S c k
@@ -155,20 +153,20 @@ module _ (weights : ℕ → ℕ) (flags : List ℕ) (part : ℕ → ℕ → ℤ)
         unfolding body_good d3q19
         fair-is = body_same d3q19 (parts_of x) (collided S c) new-part
 
-        pub told-accepted : (b : Put) → b.ok ≡ true → steady_flow w ≡ true → b.rho ≡ w.rho → b.fair ≡ body_good d3q19 (parts_of x) → Told S c b
+        pub has-passed : (b : Put) → steady_flow w ≡ true → b.rho ≡ w.rho → b.fair ≡ body_good d3q19 (parts_of x) → Passed S c b
         unfolding sight
-        told-accepted b y e r o = record {
-          ok = y ∙ sym e ∙ steady-is l;
-          rho = λ h. r ∙ rho-is ∙ sym (kind (pos 0) (streamed_density S c));
-          fair = λ h. o ∙ fair-is ∙ sym (kind true (body_good d3q19 (collided S c)));
+        has-passed b e r o = record {
+          steady = not-true _ (sym (steady-is l) ∙ e);
+          rho = r ∙ rho-is ∙ sym (kind (pos 0) (streamed_density S c));
+          fair = o ∙ fair-is ∙ sym (kind true (body_good d3q19 (collided S c)));
         }
 
         pub put-accepted : (before after : List ℤ) (b : Put) → 19 * c + 19 ≤ length before → after ≡ pasted before (19 * c) x
-            → b.ok ≡ true → steady_flow w ≡ true → b.rho ≡ w.rho → b.fair ≡ body_good d3q19 (parts_of x) → PutAt S c before after b
-        put-accepted before after b room put y e r o = record {
+            → steady_flow w ≡ true → b.rho ≡ w.rho → b.fair ≡ body_good d3q19 (parts_of x) → PutAt S c before after (Some b)
+        put-accepted before after b room put e r o = record {
           kept = ap length put ∙ length-pasted before (19 * c) x room (ap length made ∙ length-tab 19 _);
-          told = told-accepted b y e r o;
-          parts = λ h. put ∙ ap (pasted before (19 * c)) moved;
+          told = has-passed b e r o;
+          parts = put ∙ ap (pasted before (19 * c)) moved;
         }
 
 -- ---- a cell that is not liquid
@@ -188,20 +186,20 @@ module _ (weights : ℕ → ℕ) (flags : List ℕ) (part : ℕ → ℕ → ℤ)
   unfolding unsteady sight
   steady-dry = ap (λ (b : Bool). b && not (dense (streamed_density T c) && slow (streamed_density T c) (dot (streamed_momentum T c) (streamed_momentum T c)))) d
 
-  pub told-dry : Told T c (record { ok = true; fair = true; rho = pos 0 })
+  pub passed-dry : Passed T c (record { fair = true; rho = pos 0 })
   unfolding sight
-  told-dry = record {
-    ok = sym (ap not steady-dry);
-    rho = λ h. sym (by-dry (get_or flags c 3) (pos 0) (streamed_density T c) (streamed_density T c) d);
-    fair = λ h. sym (by-dry (get_or flags c 3) true (body_good d3q19 (collided T c)) (body_good d3q19 (collided T c)) d);
+  passed-dry = record {
+    steady = steady-dry;
+    rho = sym (by-dry (get_or flags c 3) (pos 0) (streamed_density T c) (streamed_density T c) d);
+    fair = sym (by-dry (get_or flags c 3) true (body_good d3q19 (collided T c)) (body_good d3q19 (collided T c)) d);
   }
 
   pub put-dry : (before after : List ℤ) → 19 * c + 19 ≤ length before → after ≡ pasted before (19 * c) (replicate 19 (pos 0))
-      → PutAt T c before after (record { ok = true; fair = true; rho = pos 0 })
+      → PutAt T c before after (Some (record { fair = true; rho = pos 0 }))
   put-dry before after room put = record {
     kept = ap length put ∙ length-pasted before (19 * c) (replicate 19 (pos 0)) room refl;
-    told = told-dry;
-    parts = λ h. put ∙ ap (pasted before (19 * c)) (sym none);
+    told = passed-dry;
+    parts = put ∙ ap (pasted before (19 * c)) (sym none);
   }
 
 -- ---- how large a flow can be

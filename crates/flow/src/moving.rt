@@ -24,10 +24,9 @@ use lattice::moments::{speed_squared, steady, times};
 use lattice::rules::{all_inside, all_zero};
 use lattice::{Flow, Settings};
 
-// Whether a cell passed stage 3's test; if so, whether its new parts keep test 6's rules, and its density.
+// Of a cell that passed stage 3's test: whether its new parts keep test 6's rules, and its density.
 #[derive(Clone, Copy)]
 pub struct Put {
-    pub ok: bool,
     pub fair: bool,
     pub rho: i32,
 }
@@ -52,7 +51,7 @@ fn fair(f: [i32; 19], v: Flow) -> bool
     all_inside(f) & steady(flow_of(f))
 }
 
-// Stages 3 and 4 of a liquid cell c into which f streamed.
+// Stages 3 and 4 of a liquid cell c into which f streamed; nothing where it fails stage 3's test.
 fn put_moved(
     f: [i32; 19],
     parts2: &mut [i32],
@@ -60,25 +59,20 @@ fn put_moved(
     g: Settings,
     keep: u64,
     surface: bool,
-) -> Put
+) -> Option<Put>
     requires { Bounded f 1572864 1572864 × (settings_good g ≡ true) × (19 * c + 19 ≤ length parts2.old) × Keeps (nat_abs g.p) keep }
     ensures { (flags : List ℕ) (parts : List ℤ) (fills off : List ℕ) (low : ℕ) → liquid (get_or flags c 3) ≡ true → f ≡ tab 19 (streamed (box_sight flags parts [] fills off low g) c) → PutAt (box_sight flags parts [] fills off low g) c parts2.old parts2.new result }
 {
     let v = pulled(flow_of(f), g);
     if !steady(v) {
-        return Put {
-            ok: false,
-            fair: false,
-            rho: 0,
-        };
+        return None;
     }
     let r = collided(f, v, relaxation(f, v, g, keep, surface));
     paste(parts2, 19 * c, r);
-    Put {
-        ok: true,
+    Some(Put {
         fair: fair(r, v),
         rho: v.rho,
-    }
+    })
 }
 
 // Zeros for cell c, which is dry. Where nothing is known of the second set, as in a single step, most dry cells have them already, and looking costs
@@ -92,7 +86,7 @@ fn dry_out(parts2: &mut [i32], c: usize)
     }
 }
 
-// Stages 1 to 4 of cell c: zeros where it is not liquid.
+// Stages 1 to 4 of cell c: zeros where it is not liquid; nothing where it fails stage 3's test.
 pub fn put_parts(
     flags: &[u8],
     parts: &[i32],
@@ -105,7 +99,7 @@ pub fn put_parts(
     c: usize,
     g: Settings,
     keep: u64,
-) -> Put
+) -> Option<Put>
     requires { Putting flags.now parts.now fills.now parts2.old mark off.now from.now low c g keep }
     ensures { PutAt (box_sight flags.now parts.now [] fills.now off.now low g) c parts2.old parts2.new result }
 {
@@ -120,9 +114,5 @@ pub fn put_parts(
         );
     }
     dry_out(parts2, c);
-    Put {
-        ok: true,
-        fair: true,
-        rho: 0,
-    }
+    Some(Put { fair: true, rho: 0 })
 }

@@ -45,7 +45,7 @@ fn fair(f: [i32; 19], rho: i32) -> bool
     all_inside(f) & steady(at_density(flow_of(f), rho))
 }
 
-// Stages 3 and 4 of a liquid cell c into which f streamed.
+// Stages 3 and 4 of a liquid cell c into which f streamed; nothing where it fails stage 3's test.
 fn put_moved9(
     f: [i32; 19],
     parts2: &mut [i32],
@@ -53,25 +53,20 @@ fn put_moved9(
     g: Settings,
     keep: u64,
     surface: bool,
-) -> Put
+) -> Option<Put>
     requires { Bounded f 1572864 1441792 × Quiet f × (settings_good g ≡ true) × (9 * c + 9 ≤ length parts2.old) × Keeps (nat_abs g.p) keep }
     ensures { (flags : List ℕ) (parts : List ℤ) (fills off : List ℕ) (low : ℕ) → liquid (get_or flags c 3) ≡ true → f ≡ tab 19 (streamed (sight9 flags parts [] fills off low g) c) → PutAt9 (sight9 flags parts [] fills off low g) c parts2.old parts2.new result }
 {
     let v = pulled(flow_of(f), g);
     if !steady(v) {
-        return Put {
-            ok: false,
-            fair: false,
-            rho: 0,
-        };
+        return None;
     }
     let r = quieted(collided9(f, v, relaxation9(f, v, g, keep, surface)));
     paste9(parts2, c, r);
-    Put {
-        ok: true,
+    Some(Put {
         fair: fair(r, v.rho),
         rho: v.rho,
-    }
+    })
 }
 
 // Zeros for cell c, which is dry. They are looked for before they are written, since a cell that was dry a step or two ago has them already.
@@ -84,7 +79,7 @@ fn dry_out9(parts2: &mut [i32], c: usize)
     }
 }
 
-// Stages 1 to 4 of cell c: zeros where it is not liquid.
+// Stages 1 to 4 of cell c: zeros where it is not liquid; nothing where it fails stage 3's test.
 pub fn put_parts9(
     flags: &[u8],
     parts: &[i32],
@@ -97,7 +92,7 @@ pub fn put_parts9(
     c: usize,
     g: Settings,
     keep: u64,
-) -> Put
+) -> Option<Put>
     requires { Putting9 flags.now parts.now fills.now parts2.old mark off.now from.now low c g keep }
     ensures { PutAt9 (sight9 flags.now parts.now [] fills.now off.now low g) c parts2.old parts2.new result }
 {
@@ -112,9 +107,5 @@ pub fn put_parts9(
         );
     }
     dry_out9(parts2, c);
-    Put {
-        ok: true,
-        fair: true,
-        rho: 0,
-    }
+    Some(Put { fair: true, rho: 0 })
 }

@@ -7,7 +7,7 @@ use denote.Ref.{Bor}
 use Rattle.grid.specs.State.{Lent}
 use Rattle.flume.specs.declared.FlumeSides.{FlumeSides}
 use Rattle.flume.specs.declared.FlumeSettings.{FlumeSettings}
-use Rattle.record.specs.declared.Written.{Written}
+use Rattle.record.specs.Writing.{Written}
 use Rattle.flumerecord.specs.declared.FlumeSite.{FlumeSite}
 use Rattle.flumerecord.specs.declared.FlumeHead.{FlumeHead}
 use Rattle.flumerecord.specs.Promise.{FlumeRead, FlumeHanded, FlumeWrote}

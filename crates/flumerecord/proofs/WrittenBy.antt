@@ -1,13 +1,13 @@
 -- The flume writer's promise, from what its tests give: the laws over any tests in a row, with the flume's. Assumes nothing.
 use mathlib.Core.Path.{◌≡◌}
-use mathlib.Core.Bool.{true, false}
+use mathlib.Core.Bool.{true}
 use mathlib.Core.List.{List}
 use Prim.Native.Nat.{ℕ, ◌≤◌, ◌<◌}
 use lib.ListN.{length}
 use lib.Seq.{sets}
 use Rattle.lattice.specs.Lattice.{d2q9}
-use Rattle.grid.specs.Answer.{Answer}
-use Rattle.grid.specs.Answer.{Done}
+use Rattle.grid.specs.Answer.{Answer, Done}
+use Rattle.grid.specs.declared.refusals.Refusal.{Refusal}
 use Rattle.grid.specs.State.{Lent, state_of}
 use Rattle.grid.specs.Outcome.{accepted, or_refuse, good_answer}
 use Rattle.grid.proofs.Accepted.{accepted-done, done-accepted}
@@ -16,9 +16,8 @@ use Rattle.flume.specs.declared.FlumeSettings.{FlumeSettings}
 use Rattle.flume.specs.Flume.{flume_sides_good, flume_cells, flume_grid, flume_lengths, level_settings}
 use Rattle.flumegrid.specs.inner.Ready.{FlumeSized}
 use Rattle.flumegrid.proofs.Checks.{sized}
-use Rattle.record.specs.declared.Written.{Written}
 use Rattle.record.specs.inner.Small.{Small}
-use Rattle.record.specs.Writing.{room_test}
+use Rattle.record.specs.Writing.{Written, room_test}
 use Rattle.record.proofs.Answers.{Chain, chain-or, chain-both, chain-then, or-true}
 use Rattle.record.proofs.WrittenBy.{small, chain-good, WroteOn, refused-on, short_on, done_on}
 use Rattle.flumerecord.specs.declared.FlumeSite.{FlumeSite}
@@ -27,7 +26,7 @@ use Rattle.flumerecord.specs.Writing.{flume_fits, flume_write_answer, flume_writ
 use Rattle.flumerecord.specs.Promise.{FlumeWrote}
 use Rattle.flumerecord.proofs.Assembled.{length-record}
 use Rattle.grid.specs.declared.refusals.Refusal.TheVariants.{BadLength, BadRoom, BadSetting, BadSides}
-use Rattle.std.specs.Prelude.{Err}
+use Rattle.std.specs.Prelude.{Ok, Err}
 
 -- settings in their ranges fit the record's numbers
 pub level-small : (g : FlumeSettings) (t : FlumeSite) → flume_site_good g t ≡ true → Small (level_settings g) (level_site t)
@@ -77,14 +76,14 @@ module _ (s : FlumeSides) (g : FlumeSettings) (t : FlumeSite) (a : Lent) where
     unfolding flume_written flume_written_room flume_write_answer
     wrote p = record { answer-is = p.answer-so; room-is = p.room-so }
 
-    pub write-refused : (x : Answer) → x ≡ flume_fits s g t a Done → accepted x ≡ false → FlumeWrote s g t a room (record { answer = x; bytes = 0 }) room
-    write-refused x e f = wrote (refused-on (flume_fits s g t a) chain_fits (flume_record_of s g t a) (flume_record_length s a) room x e f)
+    pub write-refused : {w : Written} {r : Refusal} → w ≡ Err r → Err r ≡ flume_fits s g t a Done → FlumeWrote s g t a room w room
+    write-refused h e = wrote (refused-on (flume_fits s g t a) chain_fits (flume_record_of s g t a) (flume_record_length s a) room h e)
 
-    pub write-short : (n : ℕ) → n ≡ flume_record_length s a → accepted (flume_fits s g t a Done) ≡ true → length room < n → FlumeWrote s g t a room (record { answer = Err (BadRoom n); bytes = 0 }) room
+    pub write-short : (n : ℕ) → n ≡ flume_record_length s a → accepted (flume_fits s g t a Done) ≡ true → length room < n → FlumeWrote s g t a room (Err (BadRoom n)) room
     write-short n is ok h = wrote (short_on (flume_fits s g t a) chain_fits (flume_record_of s g t a) (flume_record_length s a) room n is ok h)
 
     pub write_done : (n : ℕ) (after : List ℕ) → n ≡ flume_record_length s a → accepted (flume_fits s g t a Done) ≡ true → n ≤ length room → after ≡ sets room 0 (flume_record_of s g t a)
-        → FlumeWrote s g t a room (record { answer = Done; bytes = n }) after
+        → FlumeWrote s g t a room (Ok n) after
     write_done n after is ok h e =
         wrote (done_on (flume_fits s g t a) chain_fits (flume_record_of s g t a) (flume_record_length s a) room n after is (length-record s g t a (fit ok).lengths.flags) ok h e)
 

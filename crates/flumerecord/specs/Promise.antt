@@ -5,7 +5,7 @@ use Rattle.grid.specs.State.{Lent}
 use Rattle.flume.specs.declared.FlumeSides.{FlumeSides}
 use Rattle.flume.specs.declared.FlumeSettings.{FlumeSettings}
 use Rattle.flume.specs.Flume.{flume_sides_good, flume_cells}
-use Rattle.record.specs.declared.Written.{Written}
+use Rattle.record.specs.Writing.{Written}
 use Rattle.record.specs.declared.Span.{Span}
 use Rattle.record.specs.Promise.{span_by}
 use Rattle.flumerecord.specs.declared.FlumeSite.{FlumeSite}
@@ -31,7 +31,7 @@ pub record FlumeHanded (s : Bor (List ℕ)) (a : Lent) (flags : Bor (List ℕ)) 
   pub block : flags.ref_ptr.0 ≡ s.ref_ptr.0
   pub place : flags.ref_ptr.1 ≡ s.ref_ptr.1 + flume_flags_from s.now a
 
--- the writer: its answer with the record's length, and the room
+-- the writer: the record's length or the refusal, and the room
 pub record FlumeWrote (s : FlumeSides) (g : FlumeSettings) (t : FlumeSite) (a : Lent) (room : List ℕ) (answer : Written) (after : List ℕ) : Type 0 where
   pub answer-is : answer ≡ flume_written s g t a room
   pub room-is : after ≡ flume_written_room s g t a room

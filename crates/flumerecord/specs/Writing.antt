@@ -7,8 +7,7 @@ use Rattle.grid.specs.Outcome.{or_refuse, good_answer}
 use Rattle.flume.specs.declared.FlumeSides.{FlumeSides}
 use Rattle.flume.specs.declared.FlumeSettings.{FlumeSettings}
 use Rattle.flume.specs.Flume.{flume_sides_good, flume_cells, flume_grid, flume_lengths}
-use Rattle.record.specs.declared.Written.{Written}
-use Rattle.record.specs.Writing.{room_test, written_on, room_on}
+use Rattle.record.specs.Writing.{Written, room_test, written_on, room_on}
 use Rattle.flumerecord.specs.declared.FlumeSite.{FlumeSite}
 use Rattle.flumerecord.specs.Layout.{flume_site_good, flume_record_of, flume_record_length}
 use Rattle.grid.specs.declared.refusals.Refusal.TheVariants.{BadLength, BadSetting, BadSides}
@@ -25,7 +24,7 @@ flume_fits s g t a rest =
 unfoldable pub flume_write_answer : FlumeSides → FlumeSettings → FlumeSite → Lent → List ℕ → Answer
 flume_write_answer s g t a room = flume_fits s g t a (room_test (flume_record_length s a) room)
 
--- with the record's length; the record, with room past it untouched; a refusal writes nothing
+-- the record's length, or the refusal; the record, with room past it untouched; a refusal writes nothing
 unfoldable pub flume_written : FlumeSides → FlumeSettings → FlumeSite → Lent → List ℕ → Written
 flume_written s g t a room = written_on (flume_write_answer s g t a room) (flume_record_length s a)
 

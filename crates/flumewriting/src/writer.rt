@@ -19,7 +19,6 @@ use flumegrid::lengths::good_lengths9;
 use flumerecord::FlumeSite;
 use flumerecord::given::good_site;
 use grid::refusals::{Answer, Refusal};
-use record::Written;
 use writing::cells::{put_cells, record_length};
 
 // The record of a flume that passed its tests, into room that suffices.
@@ -89,26 +88,15 @@ pub fn write(
     fills: &[u32],
     carry: &[i64],
     room: &mut [u8],
-) -> Written
+) -> Result<usize, Refusal>
     ensures { FlumeWrote s g t (lent flags.now parts.now masses.now fills.now carry.now) room.old result room.new }
 {
-    if let Err(refusal) = fit(s, g, t, flags, parts, masses, fills, carry) {
-        return Written {
-            answer: Err(refusal),
-            bytes: 0,
-        };
-    }
+    fit(s, g, t, flags, parts, masses, fills, carry)?;
     let long = record_length(flags, 64, 9);
     if room.len() < long {
-        return Written {
-            answer: Err(Refusal::BadRoom(long)),
-            bytes: 0,
-        };
+        return Err(Refusal::BadRoom(long));
     }
     let kept = carry[0];
     put_record(s, g, t, flags, parts, masses, kept, room);
-    Written {
-        answer: Ok(()),
-        bytes: long,
-    }
+    Ok(long)
 }

@@ -47,8 +47,9 @@ fn save(
     if !is_reached {
         return Ok(());
     }
-    let written = writer::write(s, g, t, flags, parts, masses, fills, carry, room);
-    let n = written.bytes;
+    let Ok(n) = writer::write(s, g, t, flags, parts, masses, fills, carry, room) else {
+        return Ok(());
+    };
     if n > room.len() {
         return Ok(());
     }

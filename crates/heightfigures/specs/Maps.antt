@@ -5,7 +5,7 @@ use Rattle.lattice.specs.Cell.{fill_of}
 use Rattle.lattice.specs.Lattice.{d3q19}
 use Rattle.grid.specs.declared.Sides.{Sides}
 use Rattle.grid.specs.State.{Lent, lent}
-use Rattle.grid.specs.Outcome.{number_of, place_of}
+use Rattle.record.specs.Writing.{written_number, written_place, written_bytes}
 use Rattle.depths.specs.declared.Corner.{Corner}
 use Rattle.depths.specs.Outcome.{map_written, map_room}
 use Rattle.heightfigures.specs.Texts.{Figure}
@@ -62,7 +62,7 @@ map_bytes = text (
 abbrev answered : List ℕ → List ℤ
 answered room =
     let w = map_written sides corner water room in
-    pos (number_of w.answer) ∷ pos (place_of w.answer) ∷ pos w.bytes ∷ map pos (map_room sides corner water room)
+    pos (written_number w) ∷ pos (written_place w) ∷ pos (written_bytes w) ∷ map pos (map_room sides corner water room)
 
 abbrev pub maps : List Figure
 maps =

@@ -8,7 +8,7 @@ use Rattle.grid.specs.State.{Lent}
 use Rattle.grid.specs.Outcome.{number_of, place_of}
 use Rattle.flume.specs.declared.FlumeSides.{FlumeSides}
 use Rattle.flume.specs.declared.FlumeSettings.{FlumeSettings}
-use Rattle.record.specs.declared.Written.{Written}
+use Rattle.record.specs.Writing.{Written, written_number, written_place, written_bytes}
 use Rattle.record.specs.declared.Span.{Span}
 use Rattle.flumerecord.specs.declared.FlumeSite.{FlumeSite}
 use Rattle.flumerecord.specs.declared.FlumeHead.{FlumeHead}
@@ -20,15 +20,15 @@ use Rattle.hostflumerecord.proofs.FlagSpan.{span-end}
 
 -- settings k and site u that the flume was given are the call's own, g and t
 pub write-told : {s : FlumeSides} {g k : FlumeSettings} {t u : FlumeSite} {a : Lent} {room : List ℕ} {w : Written} {number place bytes : ℕ} {after : List ℕ}
-    → k ≡ g → u ≡ t → FlumeWrote s k u a room w after → number ≡ number_of w.answer → place ≡ place_of w.answer → bytes ≡ w.bytes
+    → k ≡ g → u ≡ t → FlumeWrote s k u a room w after → number ≡ written_number w → place ≡ written_place w → bytes ≡ written_bytes w
     → FlumeWriteTold s g t a room number place bytes after
 write-told {s} {k = k} {t = t} {a = a} {room = room} {number = number} {place = place} {bytes = bytes} {after = after} e f h n p b =
     subst (λ (x : FlumeSettings). FlumeWriteTold s x t a room number place bytes after) e
     (subst (λ (x : FlumeSite). FlumeWriteTold s k x a room number place bytes after) f
     (record {
-      number_is = n ∙ ap (λ (x : Written). number_of x.answer) h.answer-is;
-      place_is = p ∙ ap (λ (x : Written). place_of x.answer) h.answer-is;
-      bytes-are = b ∙ ap (λ (x : Written). x.bytes) h.answer-is;
+      number_is = n ∙ ap written_number h.answer-is;
+      place_is = p ∙ ap written_place h.answer-is;
+      bytes-are = b ∙ ap written_bytes h.answer-is;
       room-is = h.room-is;
     }))
 

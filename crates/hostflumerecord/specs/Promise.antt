@@ -7,6 +7,7 @@ use Rattle.flume.specs.declared.FlumeSettings.{FlumeSettings}
 use Rattle.flumerecord.specs.declared.FlumeSite.{FlumeSite}
 use Rattle.flumerecord.specs.Reading.{flume_read_head, flume_read_set, flume_flags_from, flume_read_flags}
 use Rattle.flumerecord.specs.Layout.{flume_recorded}
+use Rattle.record.specs.Writing.{written_number, written_place, written_bytes}
 use Rattle.flumerecord.specs.Writing.{flume_written, flume_written_room}
 
 -- what the flume takes, from the numbers that a call is given
@@ -36,7 +37,7 @@ pub record FlumeReadTold (r : List ℕ) (a : Lent) (number place : ℕ) (s : Flu
 
 -- the writer: number, place, the record's length, and the room
 pub record FlumeWriteTold (s : FlumeSides) (g : FlumeSettings) (t : FlumeSite) (a : Lent) (room : List ℕ) (number place bytes : ℕ) (after : List ℕ) : Type 0 where
-  pub number_is : number ≡ number_of (flume_written s g t a room).answer
-  pub place_is : place ≡ place_of (flume_written s g t a room).answer
-  pub bytes-are : bytes ≡ (flume_written s g t a room).bytes
+  pub number_is : number ≡ written_number (flume_written s g t a room)
+  pub place_is : place ≡ written_place (flume_written s g t a room)
+  pub bytes-are : bytes ≡ written_bytes (flume_written s g t a room)
   pub room-is : after ≡ flume_written_room s g t a room

@@ -5,7 +5,6 @@ ghost use Rattle.hostflumerecord.specs.Promise.{flume_sides_of, flume_settings_o
 use flume::{FlumeSettings, FlumeSides};
 use flumerecord::FlumeSite;
 use flumewriting::writer;
-use host::answers::{number_of, place_of};
 
 // The record of a flume, from the front of the room.
 #[unsafe(no_mangle)]
@@ -37,9 +36,16 @@ pub extern "C" fn skw_flume_write(
         turbulent: false,
     };
     let t = FlumeSite { edge, x: ox, z: oz };
-    let w = writer::write(s, g, t, flags, parts, masses, fills, carry, room);
-    let a = w.answer;
-    *bytes = w.bytes;
-    *place = place_of(a);
-    number_of(a)
+    match writer::write(s, g, t, flags, parts, masses, fills, carry, room) {
+        Ok(long) => {
+            *bytes = long;
+            *place = 0;
+            0
+        }
+        Err(refusal) => {
+            *bytes = 0;
+            *place = refusal.place();
+            refusal.number()
+        }
+    }
 }

@@ -2,7 +2,7 @@
 use Rattle.std.specs.Prelude.{◌≡◌, List, ℕ, ℤ}
 use Rattle.grid.specs.declared.Sides.{Sides}
 use Rattle.grid.specs.State.{Lent}
-use Rattle.grid.specs.Outcome.{number_of, place_of}
+use Rattle.record.specs.Writing.{written_number, written_place, written_bytes}
 use Rattle.depths.specs.declared.Corner.{Corner}
 use Rattle.depths.specs.Outcome.{map_written, map_room}
 
@@ -10,7 +10,7 @@ abbrev pub corner_of : ℤ → ℤ → ℤ → Corner
 corner_of edge x y = record { edge = edge; x = x; y = y }
 
 pub record DepthsTold (s : Sides) (t : Corner) (a : Lent) (room : List ℕ) (number place bytes : ℕ) (after : List ℕ) : Type 0 where
-  pub number_is : number ≡ number_of (map_written s t a room).answer
-  pub place_is : place ≡ place_of (map_written s t a room).answer
-  pub bytes-are : bytes ≡ (map_written s t a room).bytes
+  pub number_is : number ≡ written_number (map_written s t a room)
+  pub place_is : place ≡ written_place (map_written s t a room)
+  pub bytes-are : bytes ≡ written_bytes (map_written s t a room)
   pub room-is : after ≡ map_room s t a room

@@ -5,7 +5,6 @@ ghost use Rattle.hostheights.specs.Depths.{corner_of, DepthsTold};
 
 use depths::{Corner, writing};
 use grid::Sides;
-use host::answers::{number_of, place_of};
 
 // The depth map of a grid, from the front of the room.
 #[unsafe(no_mangle)]
@@ -29,9 +28,16 @@ pub extern "C" fn skw_depths_write(
 {
     let s = Sides { nx, ny, nz };
     let t = Corner { edge, x: ox, y: oy };
-    let w = writing::write(s, t, flags, parts, masses, fills, carry, room);
-    let a = w.answer;
-    *bytes = w.bytes;
-    *place = place_of(a);
-    number_of(a)
+    match writing::write(s, t, flags, parts, masses, fills, carry, room) {
+        Ok(long) => {
+            *bytes = long;
+            *place = 0;
+            0
+        }
+        Err(refusal) => {
+            *bytes = 0;
+            *place = refusal.place();
+            refusal.number()
+        }
+    }
 }

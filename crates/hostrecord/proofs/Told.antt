@@ -9,7 +9,7 @@ use Rattle.grid.specs.declared.Sides.{Sides}
 use Rattle.grid.specs.State.{Lent}
 use Rattle.grid.specs.Outcome.{number_of, place_of}
 use Rattle.record.specs.declared.Site.{Site}
-use Rattle.record.specs.declared.Written.{Written}
+use Rattle.record.specs.Writing.{Written, written_number, written_place, written_bytes}
 use Rattle.record.specs.declared.Head.{Head}
 use Rattle.record.specs.declared.Span.{Span}
 use Rattle.record.specs.Layout.{recorded}
@@ -22,15 +22,15 @@ use Rattle.hostrecord.specs.Promise.{ReadTold, WriteTold}
 
 -- and so is the site
 pub write-told : {s : Sides} {g k : Settings} {t u : Site} {a : Lent} {room : List ℕ} {w : Written} {number place bytes : ℕ} {after : List ℕ}
-    → k ≡ g → u ≡ t → Wrote s k u a room w after → number ≡ number_of w.answer → place ≡ place_of w.answer → bytes ≡ w.bytes
+    → k ≡ g → u ≡ t → Wrote s k u a room w after → number ≡ written_number w → place ≡ written_place w → bytes ≡ written_bytes w
     → WriteTold s g t a room number place bytes after
 write-told {s} {k = k} {t = t} {a = a} {room = room} {number = number} {place = place} {bytes = bytes} {after = after} e f h n p b =
     subst (λ (x : Settings). WriteTold s x t a room number place bytes after) e
     (subst (λ (x : Site). WriteTold s k x a room number place bytes after) f
     (record {
-      number_is = n ∙ ap (λ (x : Written). number_of x.answer) h.answer-is;
-      place_is = p ∙ ap (λ (x : Written). place_of x.answer) h.answer-is;
-      bytes-are = b ∙ ap (λ (x : Written). x.bytes) h.answer-is;
+      number_is = n ∙ ap written_number h.answer-is;
+      place_is = p ∙ ap written_place h.answer-is;
+      bytes-are = b ∙ ap written_bytes h.answer-is;
       room-is = h.room-is;
     }))
 

@@ -6,7 +6,7 @@ use Rattle.grid.specs.State.{Lent}
 use Rattle.grid.specs.Outcome.{number_of, place_of}
 use Rattle.record.specs.declared.Site.{Site}
 use Rattle.record.specs.Layout.{recorded}
-use Rattle.record.specs.Writing.{written, written_room}
+use Rattle.record.specs.Writing.{written_number, written_place, written_bytes, written, written_room}
 use Rattle.index.specs.Index.{Index}
 use Rattle.index.specs.Held.{Held}
 use Rattle.intake.specs.Reading.{read_head, read_held, flags_from, read_flags}
@@ -32,7 +32,7 @@ pub record ReadTold (r : List ℕ) (a : Held) (number place : ℕ) (s : Sides) (
 
 -- the writer: number, place, the record's length, and the room
 pub record WriteTold (s : Sides) (g : Settings) (t : Site) (a : Lent) (room : List ℕ) (number place bytes : ℕ) (after : List ℕ) : Type 0 where
-  pub number_is : number ≡ number_of (written s g t a room).answer
-  pub place_is : place ≡ place_of (written s g t a room).answer
-  pub bytes-are : bytes ≡ (written s g t a room).bytes
+  pub number_is : number ≡ written_number (written s g t a room)
+  pub place_is : place ≡ written_place (written s g t a room)
+  pub bytes-are : bytes ≡ written_bytes (written s g t a room)
   pub room-is : after ≡ written_room s g t a room

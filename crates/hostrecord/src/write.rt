@@ -4,7 +4,6 @@ ghost use Rattle.host.specs.Given.{sides_of, settings_of};
 ghost use Rattle.hostrecord.specs.Promise.{site_of, WriteTold};
 
 use grid::Sides;
-use host::answers::{number_of, place_of};
 use lattice::Settings;
 use record::Site;
 use writing::writer;
@@ -48,9 +47,16 @@ pub extern "C" fn skw_write(
         y: oy,
         z: oz,
     };
-    let w = writer::write(s, g, t, flags, parts, masses, fills, carry, room);
-    let a = w.answer;
-    *bytes = w.bytes;
-    *place = place_of(a);
-    number_of(a)
+    match writer::write(s, g, t, flags, parts, masses, fills, carry, room) {
+        Ok(long) => {
+            *bytes = long;
+            *place = 0;
+            0
+        }
+        Err(refusal) => {
+            *bytes = 0;
+            *place = refusal.place();
+            refusal.number()
+        }
+    }
 }

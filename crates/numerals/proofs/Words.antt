@@ -1,19 +1,24 @@
 -- Words, lines and keywords: from the places that the code holds to what is left of the text. Assumes nothing.
-use mathlib.Core.Path.{◌≡◌, refl, sym, ap, ◌∙◌, subst}
-use mathlib.Core.Bool.{Bool, true, false}
-use mathlib.Core.List.{List, [], ◌∷◌}
+use mathlib.Core.Path.{◌≡◌, refl, sym, ap, ap₂, ◌∙◌, subst}
+use mathlib.Core.Bool.{Bool, true, false, ◌&&◌}
+use mathlib.Core.List.{List, [], ◌∷◌, map}
+use mathlib.Core.Logic.{⊎_elim}
 use Prim.Native.Nat.{ℕ, suc, ◌+◌, ◌-◌, ◌≤◌, ◌<◌}
 use native.Mathlib.Numerals.{add-one}
 use native.Mathlib.Omega.{arith}
-use borrow.Author.Tests.{eq-eqb, ne_eqb}
+use borrow.Author.Tests.{lt-leb, le-leb}
 use lib.Dec.{eqb}
-use lib.ListN.{length, take, drop, get_or, drop_of_length-le}
+use lib.ListN.{length, take, drop}
 use lib.Seq.{length-take-le}
+use Rattle.std.specs.Char.{to_ascii_lowercase}
+use Rattle.std.specs.Str.{bytes_eq}
+use Rattle.std.proofs.lemmas.Str.Ascii.{lowercase_is}
+use Rattle.whole.specs.laws.Order.{≤-or}
 use Rattle.numerals.specs.declared.text.Kind.TheVariants.{Blank, Word}
 use Rattle.numerals.specs.declared.text.Span.{Span}
 use Rattle.numerals.specs.Text.{of_kind, run, ahead, behind, word, after_word, next_line, from_line, lower, alike}
 use Rattle.numerals.specs.inner.Places.{past_at, word_at, Next, LineIs}
-use Rattle.numerals.proofs.Runs.{run-le, past-le, at-behind, next}
+use Rattle.numerals.proofs.Runs.{run-le, past-le, at-behind}
 
 -- ---- the next word
 pub record Found (s : List ℕ) (at : ℕ) (r : Span) : Type 0 where
@@ -53,33 +58,24 @@ unfolding from_line
 line-more {s} {n} {at} {r} l x =
     record { rest = x.rest ∙ ap next_line l.rest ∙ sym (ap (λ (k : ℕ). from_line k s) (add-one n)); inside = x.inside }
 
--- ---- letters in either case
-pub alike-other : (w k : List ℕ) → (length w ≡ length k → ⊥) → false ≡ alike w k
+-- ---- letters in either case, by the library's lists of small letters
+lower-is : (b : ℕ) → lower b ≡ to_ascii_lowercase b
+lower-is b =
+    let l = lowercase_is b in
+    ⊎_elim
+    (λ h. ⊎_elim (λ k. simp (le-leb 65 b h, le-leb b 90 k) (sym (l.0 (h, k)))) (λ k. simp (le-leb 65 b h, lt-leb b 90 k) (sym (l.2 k))) (≤-or b 90))
+    (λ h. simp (lt-leb 65 b h) (sym (l.1 h)))
+    (≤-or 65 b)
+
+pub alike-is : (w k : List ℕ) → alike w k ≡ bytes_eq (map to_ascii_lowercase w) (map to_ascii_lowercase k)
 unfolding alike
-alike-other [] [] h = absurd (h refl)
-alike-other [] (b ∷ k) h = refl
-alike-other (a ∷ w) [] h = refl
-alike-other (a ∷ w) (b ∷ k) h = go (eqb (lower a) (lower b)) (alike-other w k (λ e. h (ap suc e)))
+alike-is [] [] = refl
+alike-is [] (b ∷ k) = refl
+alike-is (a ∷ w) [] = refl
+alike-is (a ∷ w) (b ∷ k) =
+    go (eqb (lower a) (lower b)) (alike-is w k)
+    ∙ ap (λ (t : Bool). t && bytes_eq (map to_ascii_lowercase w) (map to_ascii_lowercase k)) (ap₂ eqb (lower-is a) (lower-is b))
   where
-    go : (v : Bool) → false ≡ alike w k → false ≡ elim v [ true ↦ alike w k | false ↦ false ]
-    go true r = r
-    go false r = refl
-
-alike-yes : (a b : ℕ) (w k : List ℕ) → lower a ≡ lower b → alike (a ∷ w) (b ∷ k) ≡ alike w k
-unfolding alike
-alike-yes a b w k e = rw (eq-eqb (lower a) (lower b) e, alike) refl
-
-alike-no : (a b : ℕ) (w k : List ℕ) → (lower a ≡ lower b → ⊥) → alike (a ∷ w) (b ∷ k) ≡ false
-unfolding alike
-alike-no a b w k e = rw (ne_eqb (lower a) (lower b) e, alike) refl
-
-pub alike-on : (w k : List ℕ) (i : ℕ) → i < length w → i < length k → lower (get_or w i 0) ≡ lower (get_or k i 0)
-    → alike (drop (i + 1) w) (drop (i + 1) k) ≡ alike (drop i w) (drop i k)
-alike-on w k i h g e = sym (rw (next w i h, next k i g) (alike-yes (get_or w i 0) (get_or k i 0) (drop (i + 1) w) (drop (i + 1) k) e))
-
-pub alike-off : (w k : List ℕ) (i : ℕ) → i < length w → i < length k → (lower (get_or w i 0) ≡ lower (get_or k i 0) → ⊥) → false ≡ alike (drop i w) (drop i k)
-alike-off w k i h g e = sym (rw (next w i h, next k i g) (alike-no (get_or w i 0) (get_or k i 0) (drop (i + 1) w) (drop (i + 1) k) e))
-
-pub alike_end : (w k : List ℕ) (i : ℕ) → length w ≤ i → length k ≤ i → true ≡ alike (drop i w) (drop i k)
-unfolding alike
-alike_end w k i h g = sym (rw (drop_of_length-le w h, drop_of_length-le k g) refl)
+    go : (v : Bool) {x y : Bool} → x ≡ y → elim v [ true ↦ x | false ↦ false ] ≡ (v && y)
+    go true e = e
+    go false e = refl

@@ -1,6 +1,6 @@
 // The text by its bytes: runs of one kind of byte, words and lines.
 ghost use Rattle.std.specs.Prelude.{◌≡◌, ◌+◌, ◌≤◌, length, drop};
-ghost use Rattle.numerals.specs.Text.{of_kind, blank, lower, run, every, alike};
+ghost use Rattle.numerals.specs.Text.{of_kind, blank, run, every, alike};
 ghost use Rattle.numerals.specs.inner.Places.{word_at, Next, LineIs};
 
 // The kinds of bytes that a run is made of: blanks, bytes of a word, of a line, digits, and the digit 0.
@@ -23,22 +23,7 @@ pub struct Span {
 fn is_blank(b: u8) -> bool
     ensures { result ≡ blank b }
 {
-    if b == 32 {
-        return true;
-    }
-    if b == 9 {
-        return true;
-    }
-    b == 13
-}
-
-fn is_digit(b: u8) -> bool
-    ensures { result ≡ of_kind Kind.Digit b }
-{
-    if b < 48 {
-        return false;
-    }
-    b <= 57
+    matches!(b, b' ' | b'\t' | b'\r')
 }
 
 pub fn is_word(b: u8) -> bool
@@ -57,7 +42,7 @@ fn of_kind(k: Kind, b: u8) -> bool
         Kind::Blank => is_blank(b),
         Kind::Word => is_word(b),
         Kind::Line => b != 10,
-        Kind::Digit => is_digit(b),
+        Kind::Digit => b.is_ascii_digit(),
         Kind::Nought => b == 48,
     }
 }
@@ -106,31 +91,11 @@ pub fn next_line(s: &[u8], at: usize) -> usize
     end
 }
 
-fn small(b: u8) -> u8
-    ensures { result ≡ lower b }
-{
-    if b < 65 {
-        return b;
-    }
-    if 90 < b {
-        return b;
-    }
-    b + 32
-}
-
 // The same letters, in either case.
 pub fn same_letters(w: &[u8], key: &[u8]) -> bool
     ensures { result ≡ alike w.now key.now }
 {
-    if w.len() != key.len() {
-        return false;
-    }
-    for i in 0..w.len() {
-        if small(w[i]) != small(key[i]) {
-            return false;
-        }
-    }
-    true
+    w.eq_ignore_ascii_case(key)
 }
 
 // Where line n begins, from 0.

@@ -2,10 +2,10 @@
 -- the second set's parts, masses and marks are those of the step's scene. Assumes nothing.
 use mathlib.Core.Path.{◌≡◌, refl, sym, ap, ◌∙◌, subst}
 use mathlib.Core.Logic.{⊎_elim}
-use mathlib.Core.Bool.{Bool, true, false, ◌&&◌, not, cond, false≢true}
+use mathlib.Core.Bool.{Bool, true, false, ◌&&◌, cond, false≢true}
 use mathlib.Core.List.{List, []}
 use Prim.Native.Nat.{ℕ, zero, suc, ◌+◌, ◌-◌, ◌*◌, ◌≤◌, ◌<◌}
-use native.Mathlib.Nat.{not-suc-le-zero, le_of_eq}
+use native.Mathlib.Nat.{le_of_eq}
 use native.Mathlib.Omega.{arith}
 use lib.IntN.{ℤ, pos}
 use lib.Dec.{eqb}
@@ -17,7 +17,7 @@ use Rattle.whole.specs.laws.Bools.{and_left, and_right, or-false}
 use Rattle.whole.specs.Fold.{tab, first}
 use Rattle.whole.specs.laws.Order.{≤-or}
 use Rattle.whole.specs.laws.Search.{first-all, first-is}
-use Rattle.whole.specs.laws.Tab.{Upto, upto_zero, upto-more, upto_all, length-tab}
+use Rattle.whole.specs.laws.Tab.{Upto, upto-more, upto_all, length-tab}
 use Rattle.lattice.specs.Lattice.{d3q19}
 use Rattle.lattice.specs.Cell.{over, under}
 use Rattle.lattice.specs.declared.Settings.{Settings}
@@ -33,7 +33,7 @@ use Rattle.grid.specs.inner.Sight.{sight}
 use Rattle.grid.proofs.Blocks.{Blocks, blocks_more, blocks-all, pasted-after}
 use Rattle.grid.proofs.Same.{body_same}
 use Rattle.flow.specs.declared.moving.Put.{Put}
-use Rattle.flow.specs.inner.PutAt.{Told}
+use Rattle.flow.specs.inner.PutAt.{Passed}
 use Rattle.passes.specs.inner.Flowed.{MovedTo}
 use Rattle.passes.specs.inner.Skipped.{Skipped}
 use Rattle.passes.specs.inner.Stretch.{Cleared}
@@ -78,18 +78,11 @@ module _ (weights : ℕ → ℕ) (flags : List ℕ) (part : ℕ → ℕ → ℤ)
 
   -- one turn: cell c's parts are put, those before it stay
   module _ (marks₀ : List ℕ) (part2 after : ℕ → ℕ → ℤ) (masses2 : List ℤ) (marks : List ℕ) (fair calm : Bool) (c : ℕ) (w : Walked marks₀ part2 masses2 marks fair calm c)
-      (o : Put) (put : Told seen c o) (ok : o.ok ≡ true)
+      (o : Put) (put : Passed seen c o)
       (one_more : ((j k : ℕ) → j < c → k < 19 → part2 j k ≡ moved_part seen j k) → (j k : ℕ) → j < c + 1 → k < 19 → after j k ≡ moved_part seen j k) where
-    was-slow : unsteady seen c ≡ false
-    was-slow = slow (unsteady seen c) (sym put.ok ∙ ok)
-      where
-        slow : (b : Bool) → not b ≡ true → b ≡ false
-        slow true e = sym e
-        slow false e = refl
-
     pub rho-is : o.rho ≡ rho_of c
     unfolding rho_of sight
-    rho-is = put.rho ok
+    rho-is = put.rho
 
     pub mass-is : (m : ℤ) → m ≡ by_flag (get_or flags c 3) o.rho (traded_mass trader c) o.rho o.rho → m ≡ mass_of c
     unfolding mass_of
@@ -103,12 +96,12 @@ module _ (weights : ℕ → ℕ) (flags : List ℕ) (part : ℕ → ℕ → ℤ)
 
     fair-is : o.fair ≡ fair_of c
     unfolding fair_of sight
-    fair-is = put.fair ok
+    fair-is = put.fair
 
     pub walked_more : (m : ℤ) (k : ℕ) → c < length masses2 → c < length marks → m ≡ mass_of c → k ≡ mark_of c
         → Walked marks₀ after (set masses2 c m) (set marks c k) (fair && o.fair) (calm && eqb k 0) (c + 1)
     walked_more m k hm hk em ek = record {
-      steady = below_more (λ (j : ℕ). unsteady seen j ≡ false) c w.steady was-slow;
+      steady = below_more (λ (j : ℕ). unsteady seen j ≡ false) c w.steady put.steady;
       parts-done = one_more w.parts-done;
       masses-done = upto-more (pos 0) mass_of masses2 c m hm w.masses-done em;
       marks-done = upto-more 0 mark_of marks c k hk w.marks-done ek;

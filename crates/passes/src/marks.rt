@@ -1,5 +1,5 @@
 // The mark of cells into which every part streams straight in, so that stage 1 need not look where it comes from.
-ghost use Rattle.std.specs.Prelude.{◌≡◌, true, ℕ, ◌+◌, ◌≤◌, length};
+ghost use Rattle.std.specs.Prelude.{◌≡◌, true, ◌+◌, ◌≤◌, length};
 ghost use Rattle.whole.specs.Fold.{tab};
 ghost use Rattle.grid.specs.Grid.{sides_good, cells_of};
 ghost use Rattle.grid.specs.inner.Passes.{Reaching, open_mark, opened_by, opened_mark};
@@ -16,16 +16,6 @@ pub fn open_mark(f: u8, walled: bool) -> u8
         return 1;
     }
     0
-}
-
-// The smaller of two numbers.
-fn least(a: usize, b: usize) -> usize
-    ensures { (result ≤ a) × (result ≤ b) × ((k : ℕ) → k ≤ a → k ≤ b → k ≤ result) }
-{
-    if a < b {
-        return a;
-    }
-    b
 }
 
 // Cells a to b - 1 get no mark.
@@ -55,8 +45,8 @@ pub fn mark_open_by(flags: &[u8], marks: &mut [u8], off: &[usize; 19], low: usiz
     let mut c = low;
     // From one fluid cell to the next, 32 at a time: no range says that.
     while c < end {
-        let a = least(seeking::next_of(flags, c, 2), end);
-        let b = least(a + 32, end);
+        let a = seeking::next_of(flags, c, 2).min(end);
+        let b = (a + 32).min(end);
         unmark(marks, c, a);
         mark_span(flags, marks, off, low, a, b);
         c = b;

@@ -68,12 +68,11 @@ pub fn flowing(
     // It goes on where the dry cells end: no range says that.
     while c < flags.len() {
         if kinds::either_liquid(flags, flags2, c) {
-            let o = moving::put_parts(
+            let Some(o) = moving::put_parts(
                 flags, parts, fills, parts2, marks[c], &off, &from, low, c, g, keep,
-            );
-            if !o.ok {
+            ) else {
                 return Err(c);
-            }
+            };
             let m = trading::new_mass(flags, parts, masses, fills, &off, low, c, o.rho);
             let k = trading::new_mark(flags[c], m, o.rho);
             masses2[c] = m;

@@ -7,6 +7,7 @@ use Rattle.grid.specs.Grid.{cells_of}
 use Rattle.grid.specs.State.{Lent}
 use Rattle.record.specs.declared.Site.{Site}
 use Rattle.record.specs.Layout.{site_good}
+use Rattle.record.specs.Writing.{written_bytes}
 use Rattle.numerals.specs.Number.{number_of}
 use Rattle.invert.specs.declared.testing.Lengths.{Lengths}
 use Rattle.invert.specs.Outcome.{set_fits, given_answer, told_head, read_head}
@@ -23,7 +24,7 @@ WholeBack = (z : ℤ) → nat_abs z < 1000000000000 → number_of (whole_of z) �
 
 -- the text that the writer leaves in its room
 abbrev pub text_in : Sides → Corner → Lent → List ℕ → List ℕ
-text_in s t a room = take (map_written s t a room).bytes (map_room s t a room)
+text_in s t a room = take (written_bytes (map_written s t a room)) (map_room s t a room)
 
 -- the grid that it stands for, with the height and the layers that a host gives
 abbrev pub sides_with : Sides → ℕ → Sides
@@ -49,4 +50,4 @@ Accepted =
 
 -- the longest depth map of any grid has 98,406 bytes: no text that the writer writes is longer
 abbrev pub Longest : Type 0
-Longest = (s : Sides) (t : Corner) (a : Lent) (room : List ℕ) → map_answer s t a room ≡ Done → (map_written s t a room).bytes ≤ 98406
+Longest = (s : Sides) (t : Corner) (a : Lent) (room : List ℕ) → map_answer s t a room ≡ Done → written_bytes (map_written s t a room) ≤ 98406

@@ -2,20 +2,17 @@
 -- claims; the rest says what the code's single steps read and write.
 -- Use: `back w32 4 z f refl` is `to_z w32 (value (bytes_of 4 (of_z w32 z))) ≡ z`, from `f : SFits w32 z`. Assumes nothing.
 use mathlib.Core.Path.{◌≡◌, refl, sym, ap, ap₂, ◌∙◌, subst}
-use mathlib.Core.Bool.{true, false, true≢false}
 use mathlib.Core.List.{List, [], ◌∷◌, ◌++◌}
 use Prim.Native.Nat.{ℕ, zero, suc, ◌+◌, ◌*◌, ◌/◌, ◌%◌, ◌^◌, ◌-◌, ◌≤◌, ◌<◌}
 use native.Mathlib.Nat.{pow-succ', add-zero, zero-add, suc-add, mul_assoc, mul-add, add_assoc}
 use native.Mathlib.Omega.{arith}
-use lib.Dec.{T}
-use lib.IntN.{ℤ, pos, negsuc, nat_abs}
+use lib.IntN.{ℤ}
 use lib.ListN.{length, get_or, take, drop, set, length-drop}
 use lib.Seq.{drop-cons, take-add, drop-drop, length-take-le, sets}
-use lib.Signed.{lt_z, non_neg, mag}
-use borrow.Author.Tests.{ltb-true}
+use lib.Signed.{mag}
 use mir.Syntax.{Width}
-use mir.Val.{bits, hbits, Fits, SFits, to_z, of_z}
-use mir.ValLaws.{to_z-of_z, of_z-to_z, of_z_fits, to_z_pos, half_full}
+use mir.Val.{bits, hbits, SFits, to_z, of_z}
+use mir.ValLaws.{to_z-of_z, of_z-to_z, of_z_fits}
 use Rattle.record.specs.Bytes.{value, bytes_of, part}
 
 -- ---- the two undo each other
@@ -126,30 +123,3 @@ pub eight-of : (n : ℕ) → bytes_of 8 n ≡ bytes_of 4 (n % 4294967296) ++ byt
 eight-of n =
     let e : n ≡ n % 4294967296 + 4294967296 * (n / 4294967296) = omega arith in
     ap (bytes_of 8) e ∙ bytes_of-append 4 4 (n % 4294967296) (n / 4294967296) (omega arith)
-
--- ---- the bits of a signed number x, by `!(!x as u32)` where x is negative and by `x as u32` where it is not; u is what is cast
-pub record Cast (w : Width) (u r : ℕ) (z : ℤ) : Type 0 where
-  pub may : T (non_neg (to_z w u))
-  pub fits : Fits w (nat_abs (to_z w u))
-  pub gives : r ≡ of_z w z
-
-over : (w : Width) (u k r : ℕ) (z : ℤ) → u ≡ k → k < 2 ^ hbits w → (nat_abs (to_z w u) ≡ k → r ≡ of_z w z) → Cast w u r z
-over w u k r z e h g =
-    let p : to_z w u ≡ pos k = ap (to_z w) e ∙ to_z_pos w k h in
-    record { may = rw p tt; fits = rw p (record { fits = half_full w h }); gives = g (ap nat_abs p) }
-
-abbrev pub Negative : Width → ℤ → Type 0
-Negative w z = Cast w (2 ^ bits w - 1 - of_z w z) (2 ^ bits w - 1 - nat_abs (to_z w (2 ^ bits w - 1 - of_z w z))) z
-
-abbrev pub Positive : Width → ℤ → Type 0
-Positive w z = Cast w (of_z w z) (nat_abs (to_z w (of_z w z))) z
-
-pub negative-bits : (w : Width) (z : ℤ) → SFits w z → lt_z z (pos 0) ≡ true → Negative w z
-negative-bits w (pos n) f t = absurd (let k : n < 0 = ltb-true n 0 t in omega arith)
-negative-bits w (negsuc k) f t =
-    let h = half_full w f.sfits in
-    over w (2 ^ bits w - 1 - (2 ^ bits w - suc k)) k _ (negsuc k) (omega arith) f.sfits (λ e. omega arith)
-
-pub positive-bits : (w : Width) (z : ℤ) → SFits w z → lt_z z (pos 0) ≡ false → Positive w z
-positive-bits w (pos n) f t = over w n n _ (pos n) refl f.sfits (λ e. e)
-positive-bits w (negsuc k) f t = absurd (true≢false t)

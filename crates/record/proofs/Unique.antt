@@ -10,7 +10,7 @@ use Rattle.grid.specs.State.{Lent}
 use Rattle.record.specs.declared.Site.{Site}
 use Rattle.record.specs.declared.Head.{Head}
 use Rattle.record.specs.declared.Span.{Span}
-use Rattle.record.specs.declared.Written.{Written}
+use Rattle.record.specs.Writing.{Written}
 use Rattle.record.specs.Promise.{Read, Wrote, Own}
 
 pub read-unique : (r : List ℕ) (a : Lent) {h k : Head} {p q m n : List ℤ} {f g : List ℕ} {c d : List ℤ}

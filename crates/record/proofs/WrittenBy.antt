@@ -1,6 +1,6 @@
 -- The writer's promise, from what its tests give, and why settings in their ranges fit the record's numbers. Assumes nothing.
 use mathlib.Core.Path.{◌≡◌, refl, sym, ap, ◌∙◌}
-use mathlib.Core.Bool.{true, false, ◌&&◌}
+use mathlib.Core.Bool.{true, ◌&&◌}
 use mathlib.Core.List.{List, ◌++◌}
 use Prim.Native.Nat.{ℕ, suc, ◌≤◌, ◌<◌}
 use native.Mathlib.Omega.{arith}
@@ -19,8 +19,8 @@ use Rattle.lattice.specs.Cell.{relaxation_good, gravity_good, edge_good, coordin
 use Rattle.lattice.specs.declared.Settings.{Settings}
 use Rattle.lattice.proofs.Ranges.{weak-x, weak-y, weak-z}
 use Rattle.grid.specs.declared.Sides.{Sides}
-use Rattle.grid.specs.Answer.{Answer}
-use Rattle.grid.specs.Answer.{Done}
+use Rattle.grid.specs.Answer.{Answer, Done}
+use Rattle.grid.specs.declared.refusals.Refusal.{Refusal}
 use Rattle.grid.specs.Grid.{Grid, sides_good, cells_of, grid_of}
 use Rattle.grid.specs.State.{Lent, State, state_of}
 use Rattle.grid.specs.Good.{bad_flag, bad_fluid, bad_rule}
@@ -30,15 +30,14 @@ use Rattle.grid.proofs.Accepted.{accepted-done, done-accepted}
 use Rattle.pumps.specs.Three.{number_in, head_of, totals_good, three_lengths, three_good}
 use Rattle.pumps.proofs.Checked.{carry-three, head-sized}
 use Rattle.record.specs.declared.Site.{Site}
-use Rattle.record.specs.declared.Written.{Written}
 use Rattle.record.specs.Layout.{site_good, record_of, record_length}
 use Rattle.record.specs.inner.Small.{Small}
-use Rattle.record.specs.Writing.{room_test, written_on, room_on, write_answer, written, written_room}
+use Rattle.record.specs.Writing.{Written, room_test, written_on, room_on, write_answer, written, written_room}
 use Rattle.record.specs.Promise.{Wrote}
 use Rattle.record.proofs.Answers.{Chain, chain-or, chain-both, chain-then, or-true, or-pass, or-fail}
 use Rattle.record.proofs.Assembled.{length-record, front-put}
 use Rattle.grid.specs.declared.refusals.Refusal.TheVariants.{BadFlag, BadLayer, BadLength, BadRoom, BadSetting, BadSides, BadState}
-use Rattle.std.specs.Prelude.{Err}
+use Rattle.std.specs.Prelude.{Ok, Err}
 
 -- ---- settings in their ranges
 low : (k : ℕ) (z : ℤ) → (le_z (pos 1) z && le_z z (pos k)) ≡ true → k ≤ 2147483647 → Within z 2147483647
@@ -75,29 +74,27 @@ pub record WroteOn (answer : Answer) (rec : List ℕ) (long : ℕ) (room : List 
 
 module _ (F : Answer → Answer) (chain : Chain F) (rec : List ℕ) (long : ℕ) (room : List ℕ) where
   -- refused by a test, or for want of room: nothing is written
-  refused : (x : Answer) → x ≡ F (room_test long room) → accepted x ≡ false → WroteOn (F (room_test long room)) rec long room (record { answer = x; bytes = 0 }) room
-  refused x e f =
-      let no : accepted (F (room_test long room)) ≡ false = sym (ap accepted e) ∙ f in
+  refused : {w : Written} {r : Refusal} → w ≡ Err r → Err r ≡ F (room_test long room) → WroteOn (F (room_test long room)) rec long room w room
+  refused h e =
       record {
-        answer-so = ap (λ (y : Answer). record { answer = y; bytes = 0 }) e ∙ rw no refl;
-        room-so = rw no refl;
+        answer-so = h ∙ ap (λ (x : Answer). written_on x long) e;
+        room-so = ap (λ (x : Answer). room_on x rec long room) e;
       }
 
-  pub refused-on : (x : Answer) → x ≡ F Done → accepted x ≡ false → WroteOn (F (room_test long room)) rec long room (record { answer = x; bytes = 0 }) room
-  refused-on x e f = refused x (e ∙ sym (chain.refuses (sym (ap accepted e) ∙ f) (room_test long room))) f
+  pub refused-on : {w : Written} {r : Refusal} → w ≡ Err r → Err r ≡ F Done → WroteOn (F (room_test long room)) rec long room w room
+  refused-on h e = refused h (e ∙ sym (chain.refuses (sym (ap accepted e)) (room_test long room)))
 
-  pub short_on : (n : ℕ) → n ≡ long → accepted (F Done) ≡ true → length room < n → WroteOn (F (room_test long room)) rec long room (record { answer = Err (BadRoom n); bytes = 0 }) room
+  pub short_on : (n : ℕ) → n ≡ long → accepted (F Done) ≡ true → length room < n → WroteOn (F (room_test long room)) rec long room (Err (BadRoom n)) room
   short_on n is ok h =
-      refused (Err (BadRoom n))
+      refused refl
       (ap (λ (p : ℕ). Err (BadRoom p)) is ∙ sym (chain.passes ok (room_test long room) ∙ or-fail (BadRoom long) Done (lt-leb long (length room) (omega arith))))
-      refl
 
   pub done_on : (n : ℕ) (after : List ℕ) → n ≡ long → length rec ≡ long → accepted (F Done) ≡ true → n ≤ length room → after ≡ sets room 0 rec
-      → WroteOn (F (room_test long room)) rec long room (record { answer = Done; bytes = n }) after
+      → WroteOn (F (room_test long room)) rec long room (Ok n) after
   done_on n after is size ok h e =
       let done : F (room_test long room) ≡ Done = chain.passes ok (room_test long room) ∙ or-pass (BadRoom long) Done (le-leb long (length room) (omega arith)) in
       record {
-        answer-so = rw done (ap (λ (k : ℕ). record { answer = Done; bytes = k }) is);
+        answer-so = rw done (ap Ok is);
         room-so = rw done (e ∙ front-put room rec (omega arith) ∙ ap (λ (k : ℕ). rec ++ drop k room) size);
       }
 
@@ -175,14 +172,14 @@ module _ (s : Sides) (g : Settings) (t : Site) (a : Lent) where
     unfolding written written_room write_answer
     wrote p = record { answer-is = p.answer-so; room-is = p.room-so }
 
-    pub write-refused : (x : Answer) → x ≡ fits Done → accepted x ≡ false → Wrote s g t a room (record { answer = x; bytes = 0 }) room
-    write-refused x e f = wrote (refused-on fits chain_fits (record_of s g t a) (record_length s a) room x e f)
+    pub write-refused : {w : Written} {r : Refusal} → w ≡ Err r → Err r ≡ fits Done → Wrote s g t a room w room
+    write-refused h e = wrote (refused-on fits chain_fits (record_of s g t a) (record_length s a) room h e)
 
-    pub write-short : (n : ℕ) → n ≡ record_length s a → accepted (fits Done) ≡ true → length room < n → Wrote s g t a room (record { answer = Err (BadRoom n); bytes = 0 }) room
+    pub write-short : (n : ℕ) → n ≡ record_length s a → accepted (fits Done) ≡ true → length room < n → Wrote s g t a room (Err (BadRoom n)) room
     write-short n is ok h = wrote (short_on fits chain_fits (record_of s g t a) (record_length s a) room n is ok h)
 
     pub write_done : (n : ℕ) (after : List ℕ) → n ≡ record_length s a → accepted (fits Done) ≡ true → n ≤ length room → after ≡ sets room 0 (record_of s g t a)
-        → Wrote s g t a room (record { answer = Done; bytes = n }) after
+        → Wrote s g t a room (Ok n) after
     write_done n after is ok h e =
         wrote (done_on fits chain_fits (record_of s g t a) (record_length s a) room n after is (length-record s g t a (fit ok).lengths.flags) ok h e)
 

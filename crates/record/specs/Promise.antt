@@ -8,11 +8,10 @@ use Rattle.grid.specs.Answer.{Answer}
 use Rattle.grid.specs.Outcome.{accepted}
 use Rattle.grid.specs.State.{Lent}
 use Rattle.record.specs.declared.Site.{Site}
-use Rattle.record.specs.declared.Written.{Written}
 use Rattle.record.specs.declared.Head.{Head}
 use Rattle.record.specs.declared.Span.{Span}
 use Rattle.record.specs.Reading.{flags_at, flags_from, read_head, read_flags, read_set}
-use Rattle.record.specs.Writing.{written, written_room}
+use Rattle.record.specs.Writing.{Written, written, written_room}
 
 -- the reader: its answer with sides, settings and origin, and the four slices; the set that it is lent lacks the flags
 pub record Read (r : List ℕ) (a : Lent) (head : Head) (parts masses : List ℤ) (fills : List ℕ) (carry : List ℤ) : Type 0 where
@@ -42,7 +41,7 @@ pub record Handed (s : Bor (List ℕ)) (a : Lent) (flags : Bor (List ℕ)) : Typ
   pub block : flags.ref_ptr.0 ≡ s.ref_ptr.0
   pub place : flags.ref_ptr.1 ≡ s.ref_ptr.1 + flags_from s.now a
 
--- the writer: its answer with the record's length, and the room
+-- the writer: the record's length or the refusal, and the room
 pub record Wrote (s : Sides) (g : Settings) (t : Site) (a : Lent) (room : List ℕ) (answer : Written) (after : List ℕ) : Type 0 where
   pub answer-is : answer ≡ written s g t a room
   pub room-is : after ≡ written_room s g t a room

@@ -1,25 +1,42 @@
 -- What the writer answers, and what the room then holds, for every input. Assumes nothing.
-use Rattle.std.specs.Prelude.{ℕ, cond, List, ◌++◌, leb, length, drop}
+use Rattle.std.specs.Prelude.{ℕ, cond, List, ◌++◌, leb, length, drop, Result, Ok, Err}
 use Rattle.lattice.specs.declared.Settings.{Settings}
 use Rattle.grid.specs.declared.Sides.{Sides}
-use Rattle.grid.specs.Answer.{Answer}
-use Rattle.grid.specs.Answer.{Done}
+use Rattle.grid.specs.Answer.{Answer, Done, refusal_number, refusal_place}
+use Rattle.grid.specs.declared.refusals.Refusal.{Refusal}
 use Rattle.grid.specs.Grid.{cells_of, sides_good}
 use Rattle.grid.specs.State.{Lent}
 use Rattle.grid.specs.Outcome.{accepted, or_refuse}
 use Rattle.pumps.specs.Three.{three_lengths, three_good}
 use Rattle.record.specs.declared.Site.{Site}
-use Rattle.record.specs.declared.Written.{Written}
 use Rattle.record.specs.Layout.{site_good, record_of, record_length}
 use Rattle.grid.specs.declared.refusals.Refusal.TheVariants.{BadLength, BadRoom, BadSetting, BadSides}
 
--- ---- over any record: test 12 last, its place the bytes needed; the answer with the record's length, 0 beside a refusal; the record, with room past it
--- untouched, where a refusal writes nothing
+-- ---- how many bytes were written, or the refusal; the paper's number and place of each case, 0 0 if accepted, and the bytes, 0 beside a refusal
+
+abbrev pub Written : Type 0
+Written = Result ℕ Refusal
+
+abbrev pub written_number : Written → ℕ
+written_number (Ok bytes) = 0
+written_number (Err refusal) = refusal_number refusal
+
+abbrev pub written_place : Written → ℕ
+written_place (Ok bytes) = 0
+written_place (Err refusal) = refusal_place refusal
+
+abbrev pub written_bytes : Written → ℕ
+written_bytes (Ok bytes) = bytes
+written_bytes (Err refusal) = 0
+
+-- ---- over any record: test 12 last, its place the bytes needed; the record's length, or the refusal; the record, with room past it untouched, where a
+-- refusal writes nothing
 abbrev pub room_test : ℕ → List ℕ → Answer
 room_test long room = or_refuse (leb long (length room)) (BadRoom long) Done
 
 abbrev pub written_on : Answer → ℕ → Written
-written_on answer long = record { answer = answer; bytes = cond (accepted answer) long 0 }
+written_on (Ok _) long = Ok long
+written_on (Err refusal) long = Err refusal
 
 abbrev pub room_on : Answer → List ℕ → ℕ → List ℕ → List ℕ
 room_on answer rec long room = cond (accepted answer) (rec ++ drop long room) room

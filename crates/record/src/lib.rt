@@ -46,13 +46,6 @@ pub struct Loaded<'a> {
     pub flags: &'a [u8],
 }
 
-// What the writer answers, with the length of the record; 0 beside a refusal.
-#[derive(Clone, Copy)]
-pub struct Written {
-    pub answer: Answer,
-    pub bytes: usize,
-}
-
 // Where a part of a slice begins and ends.
 #[derive(Clone, Copy)]
 pub struct Span {

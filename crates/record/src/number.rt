@@ -1,8 +1,6 @@
 // Numbers at a place of the record, little-endian, signed ones in two's complement.
 ghost use Rattle.std.specs.Prelude.{◌≡◌, ◌+◌, ◌*◌, ◌≤◌, length};
 ghost use Rattle.std.proofs.lemmas.List.Edits.{sets};
-ghost use Rattle.std.specs.Int.{w32, w64};
-ghost use Rattle.std.proofs.Common.{to_z, of_z};
 ghost use Rattle.record.specs.Bytes.{value, part, u32_at, i32_at, i64_at, u32_of, bytes_of, i32_of, i64_of};
 
 // The number that four bytes stand for, the lowest first.
@@ -28,37 +26,19 @@ fn u64_at(s: &[u8], at: usize) -> u64
     low + 4294967296 * high
 }
 
-// The signed number of 32 bits, and of 64.
-fn signed_word(n: u32) -> i32
-    ensures { result ≡ to_z w32 n }
-{
-    if n < 2147483648 {
-        return n as i32;
-    }
-    !(!n as i32)
-}
-
-fn signed_long(n: u64) -> i64
-    ensures { result ≡ to_z w64 n }
-{
-    if n < 9223372036854775808 {
-        return n as i64;
-    }
-    !(!n as i64)
-}
-
+// The signed numbers of 32 bits, and of 64.
 pub fn i32_at(s: &[u8], at: usize) -> i32
     requires { at + 4 ≤ length s.now }
     ensures { result ≡ i32_at s.now at }
 {
-    signed_word(u32_at(s, at))
+    u32_at(s, at).cast_signed()
 }
 
 pub fn i64_at(s: &[u8], at: usize) -> i64
     requires { at + 8 ≤ length s.now }
     ensures { result ≡ i64_at s.now at }
 {
-    signed_long(u64_at(s, at))
+    u64_at(s, at).cast_signed()
 }
 
 pub fn put_u32(s: &mut [u8], at: usize, n: u32)
@@ -83,34 +63,16 @@ fn put_u64(s: &mut [u8], at: usize, n: u64)
 }
 
 // The 32 bits of a signed number, and the 64.
-fn word_bits(x: i32) -> u32
-    ensures { result ≡ of_z w32 x }
-{
-    if x < 0 {
-        return !(!x as u32);
-    }
-    x as u32
-}
-
-fn long_bits(x: i64) -> u64
-    ensures { result ≡ of_z w64 x }
-{
-    if x < 0 {
-        return !(!x as u64);
-    }
-    x as u64
-}
-
 pub fn put_i32(s: &mut [u8], at: usize, x: i32)
     requires { at + 4 ≤ length s.old }
     ensures { s.new ≡ sets s.old at (i32_of x) }
 {
-    put_u32(s, at, word_bits(x));
+    put_u32(s, at, x.cast_unsigned());
 }
 
 pub fn put_i64(s: &mut [u8], at: usize, x: i64)
     requires { at + 8 ≤ length s.old }
     ensures { s.new ≡ sets s.old at (i64_of x) }
 {
-    put_u64(s, at, long_bits(x));
+    put_u64(s, at, x.cast_unsigned());
 }

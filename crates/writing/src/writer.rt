@@ -19,8 +19,8 @@ use grid::extent::{cells, good_sides};
 use grid::refusals::{Answer, Refusal};
 use lattice::Settings;
 use pumps::entry::{checked, three_lengths};
+use record::Site;
 use record::given::good_site;
-use record::{Site, Written};
 
 // The record of a grid that passed its tests, into room that suffices.
 fn put_record(
@@ -91,28 +91,17 @@ pub fn write(
     fills: &[u32],
     carry: &[i64],
     room: &mut [u8],
-) -> Written
+) -> Result<usize, Refusal>
     ensures { Wrote s g t (lent flags.now parts.now masses.now fills.now carry.now) room.old result room.new }
 {
-    if let Err(refusal) = fit(s, g, t, flags, parts, masses, fills, carry) {
-        return Written {
-            answer: Err(refusal),
-            bytes: 0,
-        };
-    }
+    fit(s, g, t, flags, parts, masses, fills, carry)?;
     let long = record_length(flags, 96, 19);
     if room.len() < long {
-        return Written {
-            answer: Err(Refusal::BadRoom(long)),
-            bytes: 0,
-        };
+        return Err(Refusal::BadRoom(long));
     }
     let kept = carry[0];
     let poured = carry[1];
     let taken = carry[2];
     put_record(s, g, t, flags, parts, masses, kept, poured, taken, room);
-    Written {
-        answer: Ok(()),
-        bytes: long,
-    }
+    Ok(long)
 }

@@ -1,6 +1,7 @@
 -- What stages 1 to 4 leave of one flume cell: what the box tells of its own, and, if it passed stage 3's test, its nine parts written where they belong.
 -- Assumes nothing.
-use Rattle.std.specs.Prelude.{◌≡◌, true, List, ℕ, ◌<◌, ℤ, nat_abs, length, get_or}
+use Rattle.std.specs.Prelude.{◌≡◌, true, List, ℕ, ◌<◌, ℤ, nat_abs, length, get_or, Option}
+use Rattle.std.specs.Option.{IfSome}
 use Rattle.whole.specs.Fold.{tab}
 use Rattle.lattice.specs.declared.Flow.{Flow}
 use Rattle.lattice.specs.declared.Settings.{Settings}
@@ -21,10 +22,10 @@ abbrev pub at_density : Flow → ℤ → Flow
 at_density v rho = record { rho = rho; x = v.x; y = v.y; z = v.z }
 
 -- after a refusal only the length is told
-pub record PutAt9 (S : Scene) (c : ℕ) (before after : List ℤ) (r : Put) : Type 0 where
+pub record PutAt9 (S : Scene) (c : ℕ) (before after : List ℤ) (r : Option Put) : Type 0 where
   pub kept : length after ≡ length before
   pub told : Told S c r
-  pub parts : r.ok ≡ true → after ≡ pasted9 before c (tab 19 (moved_part S c))
+  pub parts : IfSome r (λ o. after ≡ pasted9 before c (tab 19 (moved_part S c)))
 
 -- what the code asks at cell c: a liquid cell has its neighbours around it, and is fluid with liquid all around where pass 0 marked it
 pub record Putting9 (flags : List ℕ) (parts : List ℤ) (fills : List ℕ) (room : List ℤ) (mark : ℕ) (off from : List ℕ) (low c : ℕ) (g : Settings) (keep : ℕ) : Type 0 where

@@ -1,5 +1,5 @@
 -- `flow::moving::put_moved` does stages 3 and 4 of a liquid cell: it refuses as the definition does, and else pastes the collided parts. Assumes nothing.
-use mathlib.Core.Path.{◌≡◌, refl, sym, ap, ◌∙◌, subst}
+use mathlib.Core.Path.{◌≡◌, sym, ap, ◌∙◌, subst}
 use native.Mathlib.Omega.{arith}
 use lib.IntN.{ℤ}
 use mir.Syntax.{w32, w64}
@@ -62,7 +62,7 @@ pub returns-then-not-steady : goal.returns-then-not-steady
 returns-then-not-steady c flags parts fills off low l e =
     let after-steady : At-After-steady = search in let after-pulled : goal.After-pulled-v = search in let after-flow-of : goal.After-flow_of = search in let s : goal.Start = search in
     let u = after-flow-of.flow_of.ensures in
-    put_refused d3q19.weight flags (part_of parts) fills off low _ _ _ e _ _ u.0 u.1 after-pulled.pulled-v.ensures l _ _ refl
+    put_refused d3q19.weight flags (part_of parts) fills off low _ _ _ e _ _ u.0 u.1 after-pulled.pulled-v.ensures l _
     (sym after-steady.steady.ensures ∙ not-true _ c.if-not-steady.true-raw)
 
 pub relaxation-requires : goal.relaxation-requires
@@ -105,7 +105,7 @@ returns c flags parts fills off low l e =
     let u = after-flow-of.flow_of.ensures in
     put-accepted d3q19.weight flags (part_of parts) fills off low _ _ _ e _ _ u.0 u.1 after-pulled.pulled-v.ensures l k.collided-r.result
     (subst (λ (p : ℤ). k.collided-r.result ≡ tab 19 (collided_part d3q19 after-pulled.pulled-v.result.rho (vec after-pulled.pulled-v.result) p (parts_of s.args.f))) (handed (search) ∙ after-relaxation.relaxation.ensures.0) k.collided-r.ensures.0)
-    _ _ _ s.requires.2 after-paste.paste.ensures refl
+    _ _ _ s.requires.2 after-paste.paste.ensures
     (sym a.steady.ensures ∙ not-false _ else1.if-not-steady.false-raw)
     (to_z-of_z {w = w32} (record { sfits = c.struct_told-1.given.0.1 }))
     after-fair.fair.ensures

@@ -1,7 +1,6 @@
 -- `flumeflow::moving::put_moved9` does stages 3 and 4 of a liquid cell: it refuses as the definition does, and else pastes the collided parts.
 -- Assumes nothing.
 use mathlib.Core.Path.{◌≡◌, refl, sym, ap, ◌∙◌, subst}
-use mathlib.Core.Bool.{false≢true}
 use mathlib.Core.List.{List}
 use native.Mathlib.Omega.{arith}
 use lib.IntN.{ℤ}
@@ -15,7 +14,7 @@ use Rattle.lattice.specs.Cell.{relaxation_good}
 use Rattle.lattice.specs.inner.Held.{parts_of, Bounded, vec}
 use Rattle.lattice.specs.Body.{collided_part}
 use Rattle.flow.specs.inner.Relaxed.{relaxed_by}
-use Rattle.flow.proofs.Collisions.{loosened, gravity-of, flow-rho, flow-x, flow-y, flow-z, pulled-x, pulled-y, pulled-z, told-refused, told-accepted, moved}
+use Rattle.flow.proofs.Collisions.{loosened, gravity-of, flow-rho, flow-x, flow-y, flow-z, pulled-x, pulled-y, pulled-z, is-unsteady, has-passed, moved}
 use Rattle.flume.specs.inner.Spread.{spread_lattice}
 use Rattle.nine.specs.inner.Cells.{part_of9, pasted9}
 use Rattle.nine.proofs.Pasted.{length-pasted9}
@@ -88,8 +87,8 @@ returns-then-not-steady c flags parts fills off low l e =
     let after-steady : At-After-steady = search in let after-pulled : At-After-pulled-v = search in let after-flow-of : At-After-flow_of = search in let u = after-flow-of.flow_of.ensures in
     record {
       kept = refl;
-      told = told-refused spread_lattice.weight flags (part_of9 parts) fills off low _ _ _ e _ _ u.0 u.1 after-pulled.pulled-v.ensures l _ refl (sym after-steady.steady.ensures ∙ not-true _ c.if-not-steady.true-raw);
-      parts = λ h. absurd (false≢true h);
+      told = is-unsteady spread_lattice.weight flags (part_of9 parts) fills off low _ _ _ e _ _ u.0 u.1 after-pulled.pulled-v.ensures l (sym after-steady.steady.ensures ∙ not-true _ c.if-not-steady.true-raw);
+      parts = tt;
     }
 
 pub relaxation9-requires : goal.relaxation9-requires
@@ -139,7 +138,7 @@ returns c flags parts fills off low l e =
     let put = after-paste9.paste9.ensures in
     record {
       kept = ap length put ∙ length-pasted9 _ _ _ s.requires.3;
-      told = told-accepted spread_lattice.weight flags (part_of9 parts) fills off low _ _ _ e _ _ u.0 u.1 after-pulled.pulled-v.ensures l w.quieted-r.result quiet _ refl
+      told = has-passed spread_lattice.weight flags (part_of9 parts) fills off low _ _ _ e _ _ u.0 u.1 after-pulled.pulled-v.ensures l w.quieted-r.result quiet _
           (sym a.steady.ensures ∙ not-false _ else1.if-not-steady.false-raw) (to_z-of_z {w = w32} (record { sfits = c.struct_told-2-1.given.0.1 })) after-fair.fair.ensures;
-      parts = λ h. put ∙ ap (pasted9 s.args.parts2.now s.args.c) (moved spread_lattice.weight flags (part_of9 parts) fills off low _ _ _ e _ _ u.0 u.1 after-pulled.pulled-v.ensures l w.quieted-r.result quiet);
+      parts = put ∙ ap (pasted9 s.args.parts2.now s.args.c) (moved spread_lattice.weight flags (part_of9 parts) fills off low _ _ _ e _ _ u.0 u.1 after-pulled.pulled-v.ensures l w.quieted-r.result quiet);
     }

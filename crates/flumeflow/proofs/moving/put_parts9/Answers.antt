@@ -6,7 +6,7 @@ use native.Mathlib.Omega.{arith}
 use lib.ListN.{length, get_or}
 use Rattle.grid.specs.State.{liquid}
 use Rattle.grid.proofs.Lists.{get_or-there}
-use Rattle.flow.proofs.Collisions.{told-dry, none}
+use Rattle.flow.proofs.Collisions.{passed-dry, none}
 use Rattle.arrivals.proofs.Spans.{bounded-streamed}
 use Rattle.flume.specs.inner.Spread.{spread_lattice}
 use Rattle.nine.specs.inner.Cells.{part_of9, pasted9}
@@ -89,6 +89,6 @@ returns c =
     let put = after-dry-out9.dry_out9.ensures in
     record {
       kept = ap length put ∙ length-pasted9 _ _ _ (room s);
-      told = told-dry spread_lattice.weight _ _ _ _ _ _ _ dry;
-      parts = λ h. put ∙ ap (pasted9 s.args.parts2.now s.args.c) (sym (none spread_lattice.weight _ (part_of9 s.args.parts.now) _ _ _ _ _ dry));
+      told = passed-dry spread_lattice.weight _ _ _ _ _ _ _ dry;
+      parts = put ∙ ap (pasted9 s.args.parts2.now s.args.c) (sym (none spread_lattice.weight _ (part_of9 s.args.parts.now) _ _ _ _ _ dry));
     }

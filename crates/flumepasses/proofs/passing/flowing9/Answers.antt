@@ -1,11 +1,11 @@
 use Rattle.std.proofs.Common.{rules}
-use mathlib.Core.Path.{◌≡◌, refl, sym, ap, ◌∙◌, subst}
-use mathlib.Core.Bool.{Bool, true, false, not}
+use mathlib.Core.Path.{◌≡◌, sym, ap, ◌∙◌, subst}
+use mathlib.Core.Bool.{true}
 use Prim.Native.Nat.{ℕ, ◌+◌, ◌-◌, ◌*◌, ◌≤◌, ◌<◌}
 use native.Mathlib.Nat.{le_refl}
 use native.Mathlib.Omega.{arith}
 use lib.ListN.{length, get_or, length-set}
-use borrow.Author.Tests.{not-true, not-false}
+use Rattle.std.proofs.lemmas.Option.{MatchOption-at_some, MatchOption-at_none}
 use mir.Syntax.{w32}
 use mir.Facts.{to_z-of_z}
 use Rattle.grid.specs.State.{liquid}
@@ -25,11 +25,6 @@ use Rattle.flumepasses.proofs.Poise.{settings-good, traders, liquid-inner, mirro
 use Rattle.flumepasses.proofs.Puts.{put-past, put-more}
 use Rattle.flumepasses.proofs.passing.flowing9.Goals.{In-loop-c}
 use Rattle.flumepasses.proofs.passing.flowing9.Goals as goal
-
--- a cell that did not pass is unsteady
-is-unsteady : {ok t : Bool} → ok ≡ not t → ok ≡ false → t ≡ true
-is-unsteady {t = true} e f = refl
-is-unsteady {t = false} e f = sym f ∙ e
 
 -- ---- inside the loop: the cell, its neighbours, and what a function of one cell asks
 module _ (d : In-loop-c) where
@@ -79,16 +74,16 @@ sources9-from-requires c =
 pub keeping-keep-requires : goal.keeping-keep-requires
 keeping-keep-requires c = settings-good c.args.s c.args.g c.requires.poised c.requires.level
 
-pub put_parts9-o-requires : goal.put_parts9-o-requires
-put_parts9-o-requires c = putting (goal.at.put_parts9-o-requires c).In-loop-c
+pub put_parts9-requires : goal.put_parts9-requires
+put_parts9-requires c = putting (goal.at.put_parts9-requires c).In-loop-c
 
-pub returns-then-not-o : goal.returns-then-not-o
-returns-then-not-o c =
-    let d = (goal.at.returns-then-not-o c).In-loop-c in
-    let o = c.put_parts9-o in
+pub returns-in_default : goal.returns-in_default
+returns-in_default c =
+    let d = (goal.at.returns-in_default c).In-loop-c in
+    let o = c.put_parts9 in
     record {
       went = stopped (is-cell d) (walked-stopped spread_lattice.weight (spread_grid (flume_grid c.args.s)) c.args.g _ _ _ _ c.offsets-off.result c.low_of-low.result _ (placed-all d) _ _ _ _ _ _ c.loop-c.c (is-cell d) c.loop-c.invariant.4
-          (is-unsteady o.ensures.told.ok (not-true _ c.if-not-o.true)));
+          (MatchOption-at_none _ _ c.in_default.is o.ensures.told));
       parts-kept = o.ensures.kept ∙ c.loop-c.invariant.1 ∙ c.requires.parts-room;
       masses-kept = c.loop-c.invariant.2 ∙ c.requires.masses-room;
       marks-kept = c.loop-c.invariant.3 ∙ c.requires.marks-room;
@@ -105,24 +100,24 @@ loop-c-preserved-then-either_liquid c =
     let off = c.offsets-off.result in
     let low = c.low_of-low.result in
     let l = c.loop-c in
-    let put = c.put_parts9-o in
+    let put = c.put_parts9 in
     let gained = c.new_mass9-m in
     let mark = c.new_mark-k in
-    let ok : put.result.ok ≡ true = not-false _ c.if-not-o.false in
+    let parts = MatchOption-at_some _ _ _ c.in-Some.is put.ensures.parts in
     let fits : 9 * l.c + 9 ≤ length l.parts2 = omega (arith, is-cell (goal.at.loop-c-preserved-then-either_liquid c).In-loop-c, l.invariant.1, c.requires.parts-room) in (
       omega arith,
       put.ensures.kept ∙ l.invariant.1,
       simp length-set l.invariant.2,
       simp length-set l.invariant.3,
       walked-turn spread_lattice.weight a.flags.now (part_of9 a.parts.now) a.masses.now a.fills.now off low a.g a.marks.now
-          (part_of9 l.parts2) (part_of9 put.new.parts2) l.masses2 l.marks l.fair l.calm l.c l.invariant.4 put.result put.ensures.told ok
-          (put-more a.flags.now a.parts.now a.fills.now off low a.g l.parts2 put.new.parts2 l.c fits (put.ensures.parts ok))
+          (part_of9 l.parts2) (part_of9 put.new.parts2) l.masses2 l.marks l.fair l.calm l.c l.invariant.4 c.in-Some.o (MatchOption-at_some _ _ _ c.in-Some.is put.ensures.told)
+          (put-more a.flags.now a.parts.now a.fills.now off low a.g l.parts2 put.new.parts2 l.c fits parts)
           gained.result _ _ _ _ mark.result _ (get_or-there a.flags.now l.c 0 3 c.loop-c-test.true)
           (omega (arith, c.requires.poised.flags, l.invariant.2, c.requires.masses-room)) (omega (arith, c.requires.poised.flags, l.invariant.3, c.requires.marks-room))
           (gained.ensures a.g) (to_z-of_z {w = w32} (search rules))
           (to_z-of_z {w = w32} (record { sfits = gained.type_inv })) mark.ensures (to_z-of_z {w = w32} (record { sfits = gained.type_inv }))
           (to_z-of_z {w = w32} (search rules)),
-      λ j k n m. put-past a.flags.now a.parts.now a.fills.now off low a.g l.parts2 put.new.parts2 l.c fits (put.ensures.parts ok) j k n m ∙ l.invariant.5 j k (omega arith) m,
+      λ j k n m. put-past a.flags.now a.parts.now a.fills.now off low a.g l.parts2 put.new.parts2 l.c fits parts j k n m ∙ l.invariant.5 j k (omega arith) m,
     )
 
 pub loop-c-preserved : goal.loop-c-preserved

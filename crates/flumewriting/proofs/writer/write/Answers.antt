@@ -1,9 +1,10 @@
 -- `flumewriting::writer::write`: tests, the room, and then the record from the front. Assumes nothing.
-use Rattle.std.proofs.Common.{refl, sym, ap, ◌∙◌, List, ◌++◌, ℕ, ◌+◌, ◌*◌, ℤ, pos, length, get_or, w64, arith}
+use Rattle.std.proofs.Common.{sym, ap, ◌∙◌, List, ◌++◌, ℕ, ◌+◌, ◌*◌, ℤ, pos, length, get_or, w64, arith}
 use Rattle.std.proofs.lemmas.List.Edits.{sets}
 use mir.ValLaws.{to_z-of_z}
 use Rattle.grid.specs.State.{state_of, flag_of}
 use Rattle.grid.specs.Outcome.{accepted}
+use Rattle.grid.proofs.Handed.{handed-on}
 use Rattle.flumegrid.proofs.GoodSides.{few}
 use Rattle.record.specs.Places.{length_of}
 use Rattle.record.specs.Layout.{interfaces, liquids, cell_sections}
@@ -11,28 +12,28 @@ use Rattle.flumerecord.specs.Layout.{flume_counts, flume_head_bytes, flume_recor
 use Rattle.flumerecord.proofs.WrittenBy.{level-small, fit, write-refused, write-short, write_done}
 use Rattle.flumewriting.proofs.writer.write.Goals as goal
 
-pub returns-in-Err : goal.returns-in-Err
-returns-in-Err c = write-refused _ _ _ _ _ _ c.in-Err.ensures refl
+pub returns-in_err-fit : goal.returns-in_err-fit
+returns-in_err-fit c = write-refused _ _ _ _ _ (handed-on c.from_residual.result c.from_residual.ensures.1) c.in_err-fit.ensures
 
 pub record_length-long-requires-clause-flags_len_bound : goal.record_length-long-requires-clause-flags_len_bound
 record_length-long-requires-clause-flags_len_bound c =
-    let f = fit _ _ _ _ (ap accepted (sym c.in_default.ensures)) in
+    let f = fit _ _ _ _ (ap accepted (sym c.in_ok-fit.ensures)) in
     omega (arith, f.lengths.flags, few _ f.sides)
 
 pub returns-then-room-long : goal.returns-then-room-long
 unfolding flume_record_length state_of
 returns-then-room-long c =
     let a = c.args in
-    let ok = ap accepted (sym c.in_default.ensures) in
+    let ok = ap accepted (sym c.in_ok-fit.ensures) in
     let long = ap (λ (n : ℕ). length_of flume_counts 1 n (interfaces n (flag_of a.flags.now)) (9 * liquids n (flag_of a.flags.now))) (fit _ _ _ _ ok).lengths.flags in
     write-short _ _ _ _ _ _ (c.record_length-long.ensures ∙ long) ok c.if-room-long.true
 
 pub bounds-carry-0 : goal.bounds-carry-0
-bounds-carry-0 c = omega (arith, (fit _ _ _ _ (ap accepted (sym c.in_default.ensures))).lengths.carry)
+bounds-carry-0 c = omega (arith, (fit _ _ _ _ (ap accepted (sym c.in_ok-fit.ensures))).lengths.carry)
 
 pub put_record-requires : goal.put_record-requires
 put_record-requires c =
-    let f = fit _ _ _ _ (ap accepted (sym c.in_default.ensures)) in
+    let f = fit _ _ _ _ (ap accepted (sym c.in_ok-fit.ensures)) in
     record {
       s_value = f.sides;
       small = level-small _ _ f.site;
@@ -47,7 +48,7 @@ unfolding flume_record_length flume_record_of state_of
 returns c =
     let a = c.args in
     let s = a.flags.now in
-    let ok = ap accepted (sym c.in_default.ensures) in
+    let ok = ap accepted (sym c.in_ok-fit.ensures) in
     let f = fit _ _ _ _ ok in
     let long = ap (λ (n : ℕ). length_of flume_counts 1 n (interfaces n (flag_of s)) (9 * liquids n (flag_of s))) f.lengths.flags in
     let mass : ℕ → ℤ = λ k. get_or a.masses.now k (pos 0) in

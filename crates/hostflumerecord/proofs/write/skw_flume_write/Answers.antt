@@ -4,10 +4,12 @@ use Rattle.hostflumerecord.proofs.Returned.{settings-back, site-back}
 use Rattle.hostflumerecord.proofs.Told.{write-told}
 use Rattle.hostflumerecord.proofs.write.skw_flume_write.Goals as goal
 
-pub returns : goal.returns
-returns c =
-    let d = c in
-    let a = d.args in
-    let f = d.ranges in
-    write-told (settings-back a.p a.gx a.gz f.p f.gx f.gz) (site-back a.edge a.ox a.oz f.edge f.ox f.oz)
-    d.write-w.ensures c.number_of.ensures c.place_of.ensures refl
+pub returns-in-Ok : goal.returns-in-Ok
+returns-in-Ok c =
+    write-told (settings-back c.args.p c.args.gx c.args.gz c.ranges.p c.ranges.gx c.ranges.gz) (site-back c.args.edge c.args.ox c.args.oz c.ranges.edge c.ranges.ox c.ranges.oz)
+    c.in-Ok.ensures refl refl refl
+
+pub returns-in-Err : goal.returns-in-Err
+returns-in-Err c =
+    write-told (settings-back c.args.p c.args.gx c.args.gz c.ranges.p c.ranges.gx c.ranges.gz) (site-back c.args.edge c.args.ox c.args.oz c.ranges.edge c.ranges.ox c.ranges.oz)
+    c.in-Err.ensures c.number.ensures c.place.ensures refl

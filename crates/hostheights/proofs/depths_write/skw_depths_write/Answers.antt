@@ -3,9 +3,8 @@ use mathlib.Core.Path.{refl}
 use Rattle.hostheights.proofs.Depths.{corner-back, depths-told}
 use Rattle.hostheights.proofs.depths_write.skw_depths_write.Goals as goal
 
-pub returns : goal.returns
-returns c =
-    let d = c in
-    let s = d in
-    depths-told (corner-back s.args.edge s.args.ox s.args.oy s.ranges.edge s.ranges.ox s.ranges.oy)
-    d.write-w.ensures c.number_of.ensures c.place_of.ensures refl
+pub returns-in-Ok : goal.returns-in-Ok
+returns-in-Ok c = depths-told (corner-back c.args.edge c.args.ox c.args.oy c.ranges.edge c.ranges.ox c.ranges.oy) c.in-Ok.ensures refl refl refl
+
+pub returns-in-Err : goal.returns-in-Err
+returns-in-Err c = depths-told (corner-back c.args.edge c.args.ox c.args.oy c.ranges.edge c.ranges.ox c.ranges.oy) c.in-Err.ensures c.number.ensures c.place.ensures refl

@@ -6,10 +6,12 @@ use Rattle.hostrecord.proofs.Returned.{site-back}
 use Rattle.hostrecord.proofs.Told.{write-told}
 use Rattle.hostrecord.proofs.write.skw_write.Goals as goal
 
-pub returns : goal.returns
-returns c =
-    let d = c in
-    let a = d.args in
-    let f = d.ranges in
-    write-told (settings-back false a.p a.gx a.gy a.gz f.p f.gx f.gy f.gz) (site-back a.edge a.ox a.oy a.oz f.edge f.ox f.oy f.oz)
-    d.write-w.ensures c.number_of.ensures c.place_of.ensures refl
+pub returns-in-Ok : goal.returns-in-Ok
+returns-in-Ok c =
+    write-told (settings-back false c.args.p c.args.gx c.args.gy c.args.gz c.ranges.p c.ranges.gx c.ranges.gy c.ranges.gz) (site-back c.args.edge c.args.ox c.args.oy c.args.oz c.ranges.edge c.ranges.ox c.ranges.oy c.ranges.oz)
+    c.in-Ok.ensures refl refl refl
+
+pub returns-in-Err : goal.returns-in-Err
+returns-in-Err c =
+    write-told (settings-back false c.args.p c.args.gx c.args.gy c.args.gz c.ranges.p c.ranges.gx c.ranges.gy c.ranges.gz) (site-back c.args.edge c.args.ox c.args.oy c.args.oz c.ranges.edge c.ranges.ox c.ranges.oy c.ranges.oz)
+    c.in-Err.ensures c.number.ensures c.place.ensures refl

@@ -18,7 +18,7 @@ pub returns-in-Line : goal.returns-in-Line
 returns-in-Line c = by_kind _ c.in-Line.is
 
 pub returns-in-Digit : goal.returns-in-Digit
-returns-in-Digit c = c.is_digit.ensures ∙ by_kind _ c.in-Digit.is
+returns-in-Digit c = c.is_ascii_digit.ensures.value ∙ by_kind _ c.in-Digit.is
 
 pub returns-in-Nought : goal.returns-in-Nought
 returns-in-Nought c = by_kind _ c.in-Nought.is

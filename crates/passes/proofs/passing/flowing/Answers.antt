@@ -1,11 +1,11 @@
-use mathlib.Core.Path.{◌≡◌, refl, sym, ap, ◌∙◌, subst}
-use mathlib.Core.Bool.{Bool, true, false, not}
+use mathlib.Core.Path.{◌≡◌, sym, ap, ◌∙◌, subst}
+use mathlib.Core.Bool.{true}
 use Rattle.std.proofs.Common.{rules}
 use Prim.Native.Nat.{ℕ, ◌+◌, ◌*◌, ◌≤◌, ◌<◌}
 use native.Mathlib.Nat.{le_refl}
 use native.Mathlib.Omega.{arith}
 use lib.ListN.{length, get_or, length-set}
-use borrow.Author.Tests.{not-true, not-false}
+use Rattle.std.proofs.lemmas.Option.{MatchOption-at_some, MatchOption-at_none}
 use mir.Syntax.{w32}
 use mir.Facts.{to_z-of_z}
 use Rattle.lattice.specs.Lattice.{d3q19}
@@ -25,11 +25,6 @@ use Rattle.flow.proofs.Poise.{liquid-inner, poised-bodied, poised-mass, poised-f
 use Rattle.passes.proofs.Walked.{Walked, walked-turn, walked-skipped, walked-stopped, walked-moved, put-more, put-past, moved-list}
 use Rattle.passes.proofs.passing.flowing.Goals as goal
 use Rattle.passes.proofs.passing.flowing.Goals.{In-loop-c}
-
--- a cell that did not pass is unsteady
-is-unsteady : {ok t : Bool} → ok ≡ not t → ok ≡ false → t ≡ true
-is-unsteady {t = true} e f = refl
-is-unsteady {t = false} e f = sym f ∙ e
 
 -- ---- inside the loop: the offsets, the cell, and what a function of one cell asks
 module _ (d : In-loop-c) where
@@ -88,17 +83,17 @@ sources-from-requires c =
     mirrored c.args.s c.offsets-off.result c.low_of-low.result c.offsets-off.ensures c.low_of-low.ensures
     (omega (arith, room c.args.s p.sides, few c.args.s p.sides, c.low_of-low.ensures))
 
-pub put_parts-o-requires : goal.put_parts-o-requires
-put_parts-o-requires c = putting (goal.at.put_parts-o-requires c).In-loop-c
+pub put_parts-requires : goal.put_parts-requires
+put_parts-requires c = putting (goal.at.put_parts-requires c).In-loop-c
 
-pub returns-then-not-o : goal.returns-then-not-o
+pub returns-in_default : goal.returns-in_default
 unfolding scene_of state_of
-returns-then-not-o c =
-    let d = (goal.at.returns-then-not-o c).In-loop-c in
-    let o = c.put_parts-o in
+returns-in_default c =
+    let d = (goal.at.returns-in_default c).In-loop-c in
+    let o = c.put_parts in
     record {
       went = stopped (is-cell d) (walked-stopped d3q19.weight (grid_of c.args.s) c.args.g _ _ _ _ c.offsets-off.result c.low_of-low.result _ (placed c.args.s c.args.g _ c.requires.poised (offs d)) _ _ _ _ _ _ c.loop-c.c (is-cell d) c.loop-c.invariant.4
-          (is-unsteady o.ensures.told.ok (not-true _ c.if-not-o.true)));
+          (MatchOption-at_none _ _ c.in_default.is o.ensures.told));
       parts-kept = o.ensures.kept ∙ c.loop-c.invariant.1 ∙ c.requires.parts-room;
       masses-kept = c.loop-c.invariant.2 ∙ c.requires.masses-room;
       marks-kept = c.loop-c.invariant.3 ∙ c.requires.marks-room;
@@ -112,24 +107,24 @@ new_mass-m-requires c =
 pub loop-c-preserved-then-either_liquid : goal.loop-c-preserved-then-either_liquid
 loop-c-preserved-then-either_liquid c =
     let l = c.loop-c in
-    let put = c.put_parts-o in
+    let put = c.put_parts in
     let gained = c.new_mass-m in
     let mark = c.new_mark-k in
-    let ok : put.result.ok ≡ true = not-false _ c.if-not-o.false in
+    let parts = MatchOption-at_some _ _ _ c.in-Some.is put.ensures.parts in
     let fits : 19 * l.c + 19 ≤ length l.parts2 = omega (arith, is-cell (goal.at.loop-c-preserved-then-either_liquid c).In-loop-c, l.invariant.1, c.requires.parts-room) in (
       omega arith,
       put.ensures.kept ∙ l.invariant.1,
       simp length-set l.invariant.2,
       simp length-set l.invariant.3,
       walked-turn d3q19.weight c.args.flags.now (part_of c.args.parts.now) c.args.masses.now c.args.fills.now c.offsets-off.result c.low_of-low.result c.args.g c.args.marks.now
-          (part_of l.parts2) (part_of put.new.parts2) l.masses2 l.marks l.fair l.calm l.c l.invariant.4 put.result put.ensures.told ok
-          (put-more _ l.parts2 put.new.parts2 l.c fits (put.ensures.parts ok))
+          (part_of l.parts2) (part_of put.new.parts2) l.masses2 l.marks l.fair l.calm l.c l.invariant.4 c.in-Some.o (MatchOption-at_some _ _ _ c.in-Some.is put.ensures.told)
+          (put-more _ l.parts2 put.new.parts2 l.c fits parts)
           gained.result _ _ _ _ mark.result _ (get_or-there c.args.flags.now l.c 0 3 c.loop-c-test.true)
           (omega (arith, c.requires.poised.flags, l.invariant.2, c.requires.masses-room)) (omega (arith, c.requires.poised.flags, l.invariant.3, c.requires.marks-room))
           (gained.ensures c.args.g) (to_z-of_z {w = w32} (search rules))
           (to_z-of_z {w = w32} (record { sfits = gained.type_inv })) mark.ensures (to_z-of_z {w = w32} (record { sfits = gained.type_inv }))
           (to_z-of_z {w = w32} (search rules)),
-      λ j k n. put-past _ l.parts2 put.new.parts2 l.c fits (put.ensures.parts ok) j k n ∙ l.invariant.5 j k (omega arith),
+      λ j k n. put-past _ l.parts2 put.new.parts2 l.c fits parts j k n ∙ l.invariant.5 j k (omega arith),
     )
 
 pub loop-c-preserved : goal.loop-c-preserved

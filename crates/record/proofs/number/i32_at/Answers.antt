@@ -6,4 +6,4 @@ use mir.ValLaws.{to_z-of_z}
 use Rattle.record.proofs.number.i32_at.Goals as goal
 
 pub returns : goal.returns
-returns c = to_z-of_z w32 c.signed_word.result (record { sfits = c.signed_word.type_inv }) ∙ c.signed_word.ensures ∙ ap (to_z w32) c.u32_at.ensures
+returns c = to_z-of_z w32 c.cast_signed.result (record { sfits = c.cast_signed.type_inv }) ∙ c.cast_signed.ensures ∙ ap (to_z w32) c.u32_at.ensures

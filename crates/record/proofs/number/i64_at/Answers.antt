@@ -6,4 +6,4 @@ use mir.ValLaws.{to_z-of_z}
 use Rattle.record.proofs.number.i64_at.Goals as goal
 
 pub returns : goal.returns
-returns c = to_z-of_z w64 c.signed_long.result (record { sfits = c.signed_long.type_inv }) ∙ c.signed_long.ensures ∙ ap (to_z w64) c.u64_at.ensures
+returns c = to_z-of_z w64 c.cast_signed.result (record { sfits = c.cast_signed.type_inv }) ∙ c.cast_signed.ensures ∙ ap (to_z w64) c.u64_at.ensures

@@ -13,4 +13,4 @@ returns c =
     let d = c in
     let a = d.args in
     c.put_u32.ensures
-    ∙ ap (λ (n : ℕ). sets a.s.now a.at (bytes_of 4 n)) (d.word_bits.ensures ∙ ap (of_z w32) (to_z-of_z w32 a.x d.ranges.x))
+    ∙ ap (λ (n : ℕ). sets a.s.now a.at (bytes_of 4 n)) (d.cast_unsigned.ensures ∙ ap (of_z w32) (to_z-of_z w32 a.x d.ranges.x))

@@ -13,4 +13,4 @@ returns c =
     let d = c in
     let a = d.args in
     c.put_u64.ensures
-    ∙ ap (λ (n : ℕ). sets a.s.now a.at (bytes_of 8 n)) (d.long_bits.ensures ∙ ap (of_z w64) (to_z-of_z w64 a.x d.ranges.x))
+    ∙ ap (λ (n : ℕ). sets a.s.now a.at (bytes_of 8 n)) (d.cast_unsigned.ensures ∙ ap (of_z w64) (to_z-of_z w64 a.x d.ranges.x))

@@ -10,8 +10,7 @@ overflow_add-read c = record { fits = omega (arith, (c.loop-k.invariant c.requir
 
 pub returns-then-t-lt64 : goal.returns-then-t-lt64
 returns-then-t-lt64 c =
-    let s = c.least.ensures in
-    seen-found c.args.n c.args.words.now c.args.start c.requires.2 _ _ _ (c.loop-k.invariant c.requires.2) (omega arith) _ c.next_bit-t.ensures c.if-t-lt64.true _ s.0 s.1 s.2
+    seen-found c.args.n c.args.words.now c.args.start c.requires.2 _ _ _ (c.loop-k.invariant c.requires.2) (omega arith) _ c.next_bit-t.ensures c.if-t-lt64.true _ (omega arith) (omega arith) (λ h. omega arith)
 
 pub loop-k-preserved : goal.loop-k-preserved
 loop-k-preserved c = λ h. going_on c.args.n c.args.words.now c.args.start h _ _ _ (c.loop-k.invariant h) (omega arith) _ c.next_bit-t.ensures c.if-t-lt64.false

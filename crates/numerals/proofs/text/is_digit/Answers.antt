@@ -1,9 +1,0 @@
--- `numerals::text::is_digit`: two tests in a row. Assumes nothing.
-use borrow.Author.Tests.{lt-leb, le-leb}
-use Rattle.numerals.proofs.text.is_digit.Goals as goal
-
-pub returns-then-b-lt48 : goal.returns-then-b-lt48
-returns-then-b-lt48 c = simp (lt-leb _ _ c.if-b-lt48.true)
-
-pub returns : goal.returns
-returns c = simp (le-leb _ _ c.if-b-lt48.false)
