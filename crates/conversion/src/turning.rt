@@ -10,6 +10,7 @@ use excess::{giving, straying};
 use grid::Sides;
 use lattice::Settings;
 use lattice::limits::fair_carry;
+use walks::copying;
 
 // Passes 2 to 7. The flags are a copy of the old ones, of which pass 3 changes those that turn.
 fn converted(
@@ -58,8 +59,8 @@ pub fn turned(
     requires { Turning s g (lent flags.now parts.now masses.now fills.now carry.now) flags2.old parts2.old masses2.old carry2.old marks.old calm }
     ensures { Turned (scene_of s g (lent flags.now parts.now masses.now fills.now carry.now)) (cells_of s) flags2.new parts2.new masses2.new carry2.new marks.new result }
 {
-    flags2.copy_from_slice(flags);
-    carry2.copy_from_slice(carry);
+    copying::copy(flags, flags2);
+    copying::copy(carry, carry2);
     if calm {
         return true;
     }

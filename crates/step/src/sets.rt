@@ -3,6 +3,8 @@ ghost use Rattle.std.specs.Prelude.{◌≡◌};
 ghost use Rattle.grid.specs.State.{lent};
 ghost use Rattle.grid.specs.inner.Halfway.{Alike};
 
+use walks::copying;
+
 // The second set becomes a copy of the first.
 pub fn copied(
     flags: &[u8],
@@ -19,9 +21,9 @@ pub fn copied(
     requires { Alike (lent flags.now parts.now masses.now fills.now carry.now) (lent flags2.old parts2.old masses2.old fills2.old carry2.old) }
     ensures { lent flags2.new parts2.new masses2.new fills2.new carry2.new ≡ lent flags.now parts.now masses.now fills.now carry.now }
 {
-    flags2.copy_from_slice(flags);
-    parts2.copy_from_slice(parts);
-    masses2.copy_from_slice(masses);
-    fills2.copy_from_slice(fills);
-    carry2.copy_from_slice(carry);
+    copying::copy(flags, flags2);
+    copying::copy(parts, parts2);
+    copying::copy(masses, masses2);
+    copying::copy(fills, fills2);
+    copying::copy(carry, carry2);
 }

@@ -1,5 +1,15 @@
-// The same byte everywhere.
+// One slice's content put into another of its length, and the same byte everywhere.
 ghost use Rattle.std.specs.Prelude.{◌≡◌, length, replicate};
+
+// Element by element: the slices' own `copy_from_slice` would ask memmove of whoever links with the library.
+pub fn copy<T: Copy>(src: &[T], dst: &mut [T])
+    requires { length dst.old ≡ length src.now }
+    ensures { dst.new ≡ src.now }
+{
+    for i in 0..src.len() {
+        dst[i] = src[i];
+    }
+}
 
 // The same byte in every cell.
 pub fn put_all(bytes: &mut [u8], b: u8)

@@ -1,4 +1,4 @@
-// Layer 2, how a pass walks over all cells: where it goes on, and the same byte everywhere. Knows the promises of grid.
+// Layer 2, how a pass walks over all cells: where it goes on, and copies. Knows the promises of grid.
 #![tactic(auto)]
 
 pub mod copying;

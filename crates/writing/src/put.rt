@@ -12,7 +12,10 @@ pub fn put_flags(room: &mut [u8], at: usize, flags: &[u8])
     requires { at + length flags.now ≤ length room.old }
     ensures { room.new ≡ sets room.old at flags.now }
 {
-    room[at..at + flags.len()].copy_from_slice(flags);
+    // One by one: `copy_from_slice` would ask memmove of whoever links with the library.
+    for c in 0..flags.len() {
+        room[at + c] = flags[c];
+    }
 }
 
 // The mass of an interface cell; nothing of another.

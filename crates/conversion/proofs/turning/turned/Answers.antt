@@ -15,8 +15,8 @@ calm-moved S n parts masses marks fair calm e m = subst (λ (b : Bool). Moved S 
 
 pub returns-then-calm : goal.returns-then-calm
 returns-then-calm c =
-    calm-turned c.args.s c.args.g (lent c.args.flags.now c.args.parts.now c.args.masses.now c.args.fills.now c.args.carry.now) c.requires.ready _ _ _ _ (calm-moved _ _ _ _ _ _ _ c.if-calm.true c.requires.moved) _ _ c.copy_from_slice.ensures.after c.copy_from_slice-2.ensures.after
+    calm-turned c.args.s c.args.g (lent c.args.flags.now c.args.parts.now c.args.masses.now c.args.fills.now c.args.carry.now) c.requires.ready _ _ _ _ (calm-moved _ _ _ _ _ _ _ c.if-calm.true c.requires.moved) _ _ c.copy.ensures c.copy-2.ensures
 
 pub converted-requires : goal.converted-requires
 converted-requires c =
-    (turning-on c.args.s c.args.g (lent c.args.flags.now c.args.parts.now c.args.masses.now c.args.fills.now c.args.carry.now) _ _ _ _ _ _ _ _ c.copy_from_slice.ensures.after c.copy_from_slice-2.ensures.after c.requires, c.copy_from_slice.ensures.after)
+    (turning-on c.args.s c.args.g (lent c.args.flags.now c.args.parts.now c.args.masses.now c.args.fills.now c.args.carry.now) _ _ _ _ _ _ _ _ c.copy.ensures c.copy-2.ensures c.requires, c.copy.ensures)

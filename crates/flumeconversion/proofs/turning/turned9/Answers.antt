@@ -3,7 +3,7 @@ use Rattle.flumeconversion.proofs.Turns.{calm-turned, turning-on}
 use Rattle.flumeconversion.proofs.turning.turned9.Goals as goal
 
 pub returns-then-calm : goal.returns-then-calm
-returns-then-calm c = calm-turned c.requires c.if-calm.true c.copy_from_slice.ensures.after c.copy_from_slice-2.ensures.after
+returns-then-calm c = calm-turned c.requires c.if-calm.true c.copy.ensures c.copy-2.ensures
 
 pub converted9-requires : goal.converted9-requires
-converted9-requires c = (turning-on c.requires c.copy_from_slice.ensures.after c.copy_from_slice-2.ensures.after, c.copy_from_slice.ensures.after)
+converted9-requires c = (turning-on c.requires c.copy.ensures c.copy-2.ensures, c.copy.ensures)

@@ -3,9 +3,9 @@ use Rattle.step.proofs.sets.copied.Goals as goal
 
 pub returns : goal.returns
 returns c i = record {
-  flags = c.copy_from_slice.ensures.after i;
-  parts = c.copy_from_slice-2.ensures.after i;
-  masses = c.copy_from_slice-3.ensures.after i;
-  fills = c.copy_from_slice-4.ensures.after i;
-  carry = c.copy_from_slice-5.ensures.after i;
+  flags = c.copy.ensures i;
+  parts = c.copy-2.ensures i;
+  masses = c.copy-3.ensures i;
+  fills = c.copy-4.ensures i;
+  carry = c.copy-5.ensures i;
 }
