@@ -1,8 +1,7 @@
 -- The figures of two designers on one scan (P7), each as number and place: what scheme A is answered beside scheme B and beside a dry scheme, and what the
 -- tests say of an own flag at an outer wall. Assumes nothing.
-use Rattle.std.specs.Prelude.{Bool, true, false, List, [], ◌∷◌, ℕ, ℤ, pos, Err}
-use Rattle.grid.specs.Answer.{Answer, Done}
-use Rattle.grid.specs.declared.refusals.Refusal.TheVariants.{BadChange, BadFlag, BadState, InTheWay, Outside}
+use Rattle.std.specs.Prelude.{Bool, true, false, List, [], ◌∷◌, ℕ, ℤ, pos}
+use Rattle.grid.specs.Answer.{Answer}
 use Rattle.grid.specs.State.{Lent}
 use Rattle.grid.specs.Outcome.{number_of, place_of}
 use Rattle.schemes.specs.Scheme.{tested}
@@ -14,18 +13,18 @@ abbrev pub told_as : Answer → List ℤ
 told_as a = pos (number_of a) ∷ pos (place_of a) ∷ []
 
 -- A asks for a wall (true), or for one to be taken out, beside x
-abbrev pub asks : Lent → Bool → ℕ → Answer → Figure
-asks x add c said = record { worked = told_as (wall_answer sides walls scheme_a x add c); said = told_as said }
+abbrev pub asks : Lent → Bool → ℕ → ℕ → ℕ → Figure
+asks x add c number place = record { worked = told_as (wall_answer sides walls scheme_a x add c); said = pos number ∷ pos place ∷ [] }
 
 -- what A is answered beside x, whoever x is
 abbrev pub whoever_figures : Lent → List Figure → List Figure
-whoever_figures x rest = asks x true 21 (Err (InTheWay 21)) ∷ asks x true 22 (Err (BadChange 22)) ∷ asks x true 45 (Err Outside) ∷ asks x false 0 (Err (BadChange 0)) ∷ asks x false 23 (Err (BadChange 23)) ∷ rest
+whoever_figures x rest = asks x true 21 18 21 ∷ asks x true 22 17 22 ∷ asks x true 45 13 0 ∷ asks x false 0 17 0 ∷ asks x false 23 17 23 ∷ rest
 
 -- an own flag at cell 0
-abbrev pub flags : ℕ → Answer → Figure
-flags f said = record { worked = told_as (tested sides walls (flagged f) true); said = told_as said }
+abbrev pub flags : ℕ → ℕ → ℕ → Figure
+flags f number place = record { worked = told_as (tested sides walls (flagged f) true); said = pos number ∷ pos place ∷ [] }
 
 abbrev pub designer_figures : List Figure
 designer_figures =
-    whoever_figures scheme_b (asks scheme_b true 23 (Err (InTheWay 23)) ∷ asks scheme_b false 22 (Err (InTheWay 22))
-    ∷ whoever_figures scheme_dry (asks scheme_dry true 23 Done ∷ asks scheme_dry false 22 Done ∷ flags 3 (Err (BadFlag 0)) ∷ flags 1 (Err (BadState 0)) ∷ []))
+    whoever_figures scheme_b (asks scheme_b true 23 18 23 ∷ asks scheme_b false 22 18 22
+    ∷ whoever_figures scheme_dry (asks scheme_dry true 23 0 0 ∷ asks scheme_dry false 22 0 0 ∷ flags 3 4 0 ∷ flags 1 6 0 ∷ []))

@@ -36,3 +36,4 @@ pub mod Fair
 pub mod Ranges
 pub mod Rules
 pub mod Checks
+pub mod Numbered
