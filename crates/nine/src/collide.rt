@@ -44,10 +44,14 @@ pub fn collided9(f: [i32; 19], v: Flow, p: i64) -> [i32; 19]
     let c = (1024 - p) as i32;
     let mut a = [0i32; 19];
     let mut r = v.rho;
-    for i in 1..19 {
+    // By pairs, as the divider goes: what both leave of the density is taken off once.
+    for h in 0..9 {
+        let i = 2 * h + 1;
         let m = settled(e[i - 1], f[i], c);
+        let n = settled(e[i], f[i + 1], c);
         a[i] = m;
-        r -= m;
+        a[i + 1] = n;
+        r -= m + n;
     }
     if highest(e) > 4293918719 {
         let mut b = f;
